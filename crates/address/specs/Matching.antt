@@ -1,0 +1,38 @@
+-- When two addresses match at a prefix length.
+use Prim.Native.Nat.{ℕ, zero, suc, _/_, _%_, _≤_}
+use mathlib.Core.Path.{_≡_}
+use mathlib.Core.List.{List, [], _∷_, _++_, map}
+use mathlib.Core.Bool.{Bool, true, false, _&&_}
+use lib.ListN.{length, take}
+use lib.Dec.{leb}
+use Rattle.text.specs.Lists.{same}
+use Rattle.address.specs.declared.Address.{Address}
+use Rattle.address.specs.declared.Address.the-variants.{IPv4, IPv6}
+use Rattle.address.specs.Octets.{octets}
+
+-- the bits of an octet, high-order first
+unfoldable pub bitsOf : ℕ → List ℕ
+bitsOf o = map (λ (weight : ℕ). o / weight % 2) (128 ∷ 64 ∷ 32 ∷ 16 ∷ 8 ∷ 4 ∷ 2 ∷ 1 ∷ [])
+
+-- the bits of octets
+unfoldable pub bits : List ℕ → List ℕ
+bits [] = []
+bits (o ∷ s) = bitsOf o ++ bits s
+
+-- whether the stated number of high-order bits agree; a length over the width agrees with nothing
+unfoldable pub agree : List ℕ → List ℕ → ℕ → Bool
+agree a b n = leb n (length (bits a)) && (leb n (length (bits b)) && same (take n (bits a)) (take n (bits b)))
+
+-- "Addresses match if the stated number of high-order bits agree; families never match each other, and a length over the width matches
+-- nothing."
+unfoldable pub matchesAt : Address → Address → ℕ → Bool
+matchesAt (IPv4 v) (IPv4 w) n = agree (octets (IPv4 v)) (octets (IPv4 w)) n
+matchesAt (IPv6 h l) (IPv6 i m) n = agree (octets (IPv6 h l)) (octets (IPv6 i m)) n
+matchesAt (IPv4 v) (IPv6 i m) n = false
+matchesAt (IPv6 h l) (IPv4 w) n = false
+
+-- the same without a test: one family, a length of at most the width, and that many high-order bits the same
+pub record Matches (a b : Address) (n : ℕ) : Type 0 where
+  pub family : length (octets a) ≡ length (octets b)
+  pub within-width : n ≤ length (bits (octets a))
+  pub agrees : take n (bits (octets a)) ≡ take n (bits (octets b))

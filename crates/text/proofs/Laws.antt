@@ -1,0 +1,16 @@
+-- Tests: a branch's test as the Boolean that a definition picks by.
+pub mod Tests
+-- Classes: bytes of a class as numbers; two tests that agree at all 256 bytes.
+pub mod Classes
+-- Words: equality of lists.
+pub mod Words
+-- Spans: a word that stands in a list from a place up to another.
+pub mod Spans
+-- Runs: longest runs of a class.
+pub mod Runs
+-- Splitting: lists split at delimiters and joined by dots.
+pub mod Splitting
+-- Writing: bytes written into a buffer.
+pub mod Writing
+-- Digits: numbers in decimal.
+pub mod Digits

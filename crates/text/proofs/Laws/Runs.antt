@@ -1,0 +1,127 @@
+-- Longest runs of a class: as a loop finds them, their bounds, their bytes, and a test of every byte as a run to the end. From the definitions
+-- of Runs; `p` is the class.
+use Prim.Native.Nat.{ℕ, zero, suc, _+_, _-_, _≤_, _<_}
+use mathlib.Core.Path.{_≡_, refl, sym, ap, subst, _∙_}
+use mathlib.Core.List.{List, [], _∷_, _++_}
+use mathlib.Core.Bool.{Bool, true, false, cond, _&&_}
+use native.Mathlib.Omega.{arith}
+use native.Mathlib.Numerals.{add-one}
+use native.Mathlib.Nat.{add-zero, zero-add, add-sub-cancel-left}
+use lib.ListN.{length, getD, take, drop, drop-of-length-le, length-drop}
+use lib.Seq.{drop-cons, drop-length, getD-drop}
+use lib.Dec.{eqb, eqb·suc-suc, eqb·zero-suc}
+use borrow.Author.Tests.{eq-eqb, ne-eqb}
+use Rattle.text.specs.Bytes.{at}
+use Rattle.text.specs.Lists.{all}
+use Rattle.text.specs.Runs.{run, runEnd}
+use Rattle.text.proofs.Laws.Tests.{cond-elim}
+use Rattle.text.proofs.Laws.Spans.{Span, span-take}
+
+module _ (p : ℕ → Bool) where
+  pub run-nil : run p [] ≡ 0
+  unfolding run
+  run-nil = refl
+
+  pub run-cons : (x : ℕ) (xs : List ℕ) → p x ≡ true → run p (x ∷ xs) ≡ suc (run p xs)
+  unfolding run
+  run-cons x xs h = simp h
+
+  pub run-stop : (x : ℕ) (xs : List ℕ) → p x ≡ false → run p (x ∷ xs) ≡ 0
+  unfolding run
+  run-stop x xs h = simp h
+
+  pub run-le : (s : List ℕ) → run p s ≤ length s
+  unfolding run
+  run-le [] = omega arith
+  run-le (x ∷ xs) = let h = run-le xs in cond-elim (λ (n : ℕ). n ≤ suc (length xs)) (p x) {x = suc (run p xs)} {y = 0} (λ _. omega arith) (λ _. omega arith)
+
+  -- as a loop finds it: one byte further, at an end, and past the list
+  module _ (s : List ℕ) (i : ℕ) where
+    pub run-end-next : i < length s → p (at s i) ≡ true → runEnd p s (i + 1) ≡ runEnd p s i
+    unfolding runEnd
+    run-end-next h q = simp (add-one, drop-cons s i 0 h, run-cons (at s i) (drop (suc i) s) q) (omega arith)
+
+    pub run-end-here : i < length s → p (at s i) ≡ false → runEnd p s i ≡ i
+    unfolding runEnd
+    run-end-here h q = simp (drop-cons s i 0 h, run-stop (at s i) (drop (suc i) s) q, add-zero)
+
+    pub run-end-out : length s ≤ i → runEnd p s i ≡ i
+    unfolding runEnd
+    run-end-out h = simp (drop-of-length-le s h, run-nil, add-zero)
+
+    -- the loop of `run_end`, which began at k
+    module _ (k : ℕ) (inv : runEnd p s i ≡ runEnd p s k) where
+      pub loop-next : i < length s → (r : Bool) → r ≡ p (at s i) → r ≡ true → runEnd p s (i + 1) ≡ runEnd p s k
+      loop-next h r e q = run-end-next h (sym e ∙ q) ∙ inv
+
+      pub loop-here : i < length s → (r : Bool) → r ≡ p (at s i) → r ≡ false → i ≡ runEnd p s k
+      loop-here h r e q = sym (run-end-here h (sym e ∙ q)) ∙ inv
+
+      pub loop-out : length s ≤ i → i ≡ runEnd p s k
+      loop-out h = sym (run-end-out h) ∙ inv
+
+    pub run-end-from : i ≤ runEnd p s i
+    unfolding runEnd
+    run-end-from = omega arith
+
+    pub run-end-inside : i ≤ length s → runEnd p s i ≤ length s
+    unfolding runEnd
+    run-end-inside h = omega (arith, run-le (drop i s), length-drop i s)
+
+  -- every byte of a run is of the class
+  pub run-all : (s : List ℕ) → all p (take (run p s) s) ≡ true
+  unfolding run all
+  run-all [] = refl
+  run-all (x ∷ xs) = cond-elim (λ (n : ℕ). all p (take n (x ∷ xs)) ≡ true) (p x) {x = suc (run p xs)} {y = 0} (λ h. simp h (run-all xs)) (λ _. refl)
+
+  -- a word of the class, with no byte of the class after it, is the run
+  pub all-run : (u rest : List ℕ) → all p u ≡ true → run p rest ≡ 0 → run p (u ++ rest) ≡ length u
+  unfolding run all
+  all-run [] rest h z = z
+  all-run (x ∷ u) rest h z = by (p x) (λ k. all-run u rest k z) h
+    where
+      by : (t : Bool) → (all p u ≡ true → run p (u ++ rest) ≡ length u) → (t && all p u) ≡ true → cond t (suc (run p (u ++ rest))) 0 ≡ suc (length u)
+      by true ih k = ap suc (ih k)
+      by false ih k = let e : _≡_ {A = ℕ} 0 1 = cc in omega arith
+
+  -- where no byte of the class follows, the run is 0
+  pub run-zero : (s : List ℕ) → p (at s 0) ≡ false → run p s ≡ 0
+  run-zero [] h = run-nil
+  run-zero (x ∷ xs) h = run-stop x xs h
+
+  -- the run as a word of the list, and back
+  pub run-span : (s : List ℕ) (i : ℕ) → Span s i (runEnd p s i) (take (runEnd p s i - i) (drop i s))
+  unfolding runEnd
+  run-span s i = simp add-sub-cancel-left (span-take s i (run p (drop i s)) (run-le (drop i s)))
+
+  pub run-span-all : (s : List ℕ) (i : ℕ) → all p (take (runEnd p s i - i) (drop i s)) ≡ true
+  unfolding runEnd
+  run-span-all s i = simp add-sub-cancel-left (run-all (drop i s))
+
+  pub span-run : {s : List ℕ} {i j : ℕ} {u : List ℕ} → Span s i j u → all p u ≡ true → p (at s j) ≡ false → runEnd p s i ≡ j
+  unfolding runEnd
+  span-run {s} {i} {j} {u} q m h =
+      simp (q .split, all-run u (drop j s) m (run-zero (drop j s) (simp (getD-drop, add-zero) h))) (sym (q .size))
+
+  pub span-run-end : {s : List ℕ} {i : ℕ} {u : List ℕ} → Span s i (length s) u → all p u ≡ true → runEnd p s i ≡ length s
+  unfolding runEnd
+  span-run-end {s} {i} {u} q m =
+      simp (q .split, all-run u (drop (length s) s) m (ap (run p) (drop-length s) ∙ run-nil)) (sym (q .size))
+
+  -- every byte is of the class exactly if the run is the whole list
+  pub all-as-run : (s : List ℕ) → all p s ≡ eqb (run p s) (length s)
+  unfolding run all
+  all-as-run [] = refl
+  all-as-run (x ∷ xs) = by (p x) (all-as-run xs)
+    where
+      step : (m n : ℕ) → eqb m n ≡ eqb (suc m) (suc n)
+      step m n = sym (eqb·suc-suc m n)
+
+      by : (t : Bool) → all p xs ≡ eqb (run p xs) (length xs) → (t && all p xs) ≡ eqb (cond t (suc (run p xs)) 0) (suc (length xs))
+      by true ih = ih ∙ step (run p xs) (length xs)
+      by false ih = sym (eqb·zero-suc (length xs))
+
+  -- `every`
+  pub every-is : (s : List ℕ) (e : ℕ) → e ≡ runEnd p s 0 → eqb e (length s) ≡ all p s
+  unfolding runEnd
+  every-is s e h = rw (h, zero-add) (sym (all-as-run s))

@@ -1,0 +1,136 @@
+-- Lists split at delimiters and joined by dots. From the definitions of Lists; `p` is the test of a delimiter.
+use Prim.Native.Nat.{ℕ, zero, suc, _+_, _-_, _≤_, _<_}
+use native.Mathlib.Omega.{arith}
+use mathlib.Core.Path.{_≡_, refl, sym, ap, _∙_}
+use mathlib.Core.List.{List, [], _∷_, _++_, map, append-assoc, append-nil}
+use mathlib.Core.Bool.{Bool, true, false, cond, not}
+use lib.ListN.{length, take, drop}
+use lib.Dec.{eqb}
+use borrow.Author.Tests.{eqb-true}
+use Rattle.text.specs.Bytes.{isDot}
+use Rattle.text.specs.Lists.{split, grow, dotBefore, join}
+use Rattle.text.specs.Runs.{run}
+
+-- a list of parts with at least one
+pub data Some : List (List ℕ) → Type 0 where
+  some : {x : List ℕ} {xs : List (List ℕ)} → Some (x ∷ xs)
+
+some-cond : (t : Bool) (b : ℕ) (xs : List (List ℕ)) → Some xs → Some (cond t ([] ∷ xs) (grow b xs))
+unfolding grow
+some-cond true b xs s = some
+some-cond false b (x ∷ xs) some = some
+
+grow-append : (b : ℕ) (xs ys : List (List ℕ)) → Some xs → grow b (xs ++ ys) ≡ grow b xs ++ ys
+unfolding grow
+grow-append b (x ∷ xs) ys some = refl
+
+join-grow : (b : ℕ) (xs : List (List ℕ)) → join (grow b xs) ≡ b ∷ join xs
+unfolding join grow dotBefore
+join-grow b [] = refl
+join-grow b (x ∷ xs) = refl
+
+join-empty : (xs : List (List ℕ)) → Some xs → join ([] ∷ xs) ≡ 46 ∷ join xs
+unfolding join dotBefore
+join-empty (x ∷ xs) some = refl
+
+count-grow : (b : ℕ) (xs : List (List ℕ)) → Some xs → length (grow b xs) ≡ length xs
+unfolding grow
+count-grow b (x ∷ xs) some = refl
+
+module _ (p : ℕ → Bool) where
+  pub split-some : (s : List ℕ) → Some (split p s)
+  unfolding split
+  split-some [] = some
+  split-some (b ∷ s) = some-cond (p b) b (split p s) (split-some s)
+
+  -- a delimiter parts a list in two
+  pub split-append : (xs : List ℕ) (d : ℕ) (ys : List ℕ) → p d ≡ true → split p (xs ++ d ∷ ys) ≡ split p xs ++ split p ys
+  unfolding split
+  split-append [] d ys e = rw e
+  split-append (x ∷ xs) d ys e = rw (split-append xs d ys e) (both (p x))
+    where
+      both : (t : Bool) → cond t ([] ∷ split p xs ++ split p ys) (grow x (split p xs ++ split p ys)) ≡ cond t ([] ∷ split p xs) (grow x (split p xs)) ++ split p ys
+      both true = refl
+      both false = grow-append x (split p xs) (split p ys) (split-some xs)
+
+  -- joined again, a list has dots for its delimiters
+  pub join-split : (s : List ℕ) → join (split p s) ≡ map (λ b. cond (p b) 46 b) s
+  unfolding split join dotBefore
+  join-split [] = refl
+  join-split (b ∷ s) = by (p b) (join-split s)
+    where
+      by : (t : Bool) → join (split p s) ≡ map (λ b. cond (p b) 46 b) s → join (cond t ([] ∷ split p s) (grow b (split p s))) ≡ cond t 46 b ∷ map (λ b. cond (p b) 46 b) s
+      by true ih = rw (join-empty (split p s) (split-some s), ih)
+      by false ih = rw (join-grow b (split p s), ih)
+
+  -- by the run of bytes before the first delimiter
+  abbrev pub front : List ℕ → ℕ
+  front s = run (λ b. not (p b)) s
+
+  pub split-none : (s : List ℕ) → length s ≤ front s → split p s ≡ s ∷ []
+  unfolding run split grow
+  split-none [] h = refl
+  split-none (b ∷ s) h = by (p b) (split-none s) h
+    where
+      by : (t : Bool) → (length s ≤ front s → split p s ≡ s ∷ []) → suc (length s) ≤ cond (not t) (suc (front s)) 0 → cond t ([] ∷ split p s) (grow b (split p s)) ≡ (b ∷ s) ∷ []
+      by true ih h = absurd (omega arith)
+      by false ih h = rw (ih (omega arith))
+
+  pub split-first : (s : List ℕ) → front s < length s → split p s ≡ take (front s) s ∷ split p (drop (suc (front s)) s)
+  unfolding run split grow
+  split-first [] h = absurd (omega arith)
+  split-first (b ∷ s) h = by (p b) (split-first s) h
+    where
+      by : (t : Bool) → (front s < length s → split p s ≡ take (front s) s ∷ split p (drop (suc (front s)) s)) → cond (not t) (suc (front s)) 0 < suc (length s)
+          → cond t ([] ∷ split p s) (grow b (split p s)) ≡ take (cond (not t) (suc (front s)) 0) (b ∷ s) ∷ split p (drop (suc (cond (not t) (suc (front s)) 0)) (b ∷ s))
+      by true ih h = refl
+      by false ih h = rw (ih (omega arith))
+
+  -- before the first delimiter there is none
+  pub split-before : (s : List ℕ) → split p (take (front s) s) ≡ take (front s) s ∷ []
+  unfolding run split grow
+  split-before [] = refl
+  split-before (b ∷ s) = by (p b) refl (split-before s)
+    where
+      by : (t : Bool) → p b ≡ t → split p (take (front s) s) ≡ take (front s) s ∷ []
+          → split p (take (cond (not t) (suc (front s)) 0) (b ∷ s)) ≡ take (cond (not t) (suc (front s)) 0) (b ∷ s) ∷ []
+      by true e ih = refl
+      by false e ih = rw (e, ih)
+
+  -- the count of parts
+  pub count-in : (d : ℕ) (s : List ℕ) → p d ≡ true → length (split p (d ∷ s)) ≡ suc (length (split p s))
+  unfolding split
+  count-in d s e = rw e
+
+  pub count-out : (b : ℕ) (s : List ℕ) → p b ≡ false → length (split p (b ∷ s)) ≡ length (split p s)
+  unfolding split
+  count-out b s e = rw e (count-grow b (split p s) (split-some s))
+
+-- joined with more parts at the end
+dots-append : (xs ys : List (List ℕ)) → dotBefore (xs ++ ys) ≡ dotBefore xs ++ dotBefore ys
+unfolding dotBefore
+dots-append [] ys = refl
+dots-append (x ∷ xs) ys = rw (dots-append xs ys, append-assoc)
+
+pub join-snoc : (xs : List (List ℕ)) (x : List ℕ) → Some xs → join (xs ++ (x ∷ [])) ≡ join xs ++ (46 ∷ x)
+unfolding join dotBefore
+join-snoc (y ∷ xs) x some = rw (dots-append xs (x ∷ []), append-nil, append-assoc)
+
+pub join-append : (xs ys : List (List ℕ)) → Some xs → Some ys → join (xs ++ ys) ≡ join xs ++ (46 ∷ join ys)
+unfolding join dotBefore
+join-append (x ∷ xs) (y ∷ ys) some some = rw (dots-append xs (y ∷ ys), append-assoc)
+
+-- split at dots and joined again, a list is as it was
+undotted : (b : ℕ) → cond (isDot b) 46 b ≡ b
+undotted b = by (eqb b 46) refl
+  where
+    by : (t : Bool) → eqb b 46 ≡ t → cond t 46 b ≡ b
+    by true e = sym (eqb-true b 46 e)
+    by false e = refl
+
+map-same : (f : ℕ → ℕ) → ((b : ℕ) → f b ≡ b) → (s : List ℕ) → map f s ≡ s
+map-same f h [] = refl
+map-same f h (b ∷ s) = rw (h b, map-same f h s)
+
+pub join-dots : (s : List ℕ) → join (split isDot s) ≡ s
+join-dots s = join-split isDot s ∙ map-same (λ b. cond (isDot b) 46 b) undotted s

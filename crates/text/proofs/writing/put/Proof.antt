@@ -1,0 +1,31 @@
+-- `text::writing::put` meets its contract. From the laws of Writing.
+use Rattle.text.proofs.Laws.Writing.{put-past, put-last}
+use borrow.Author.Needs.{needs}
+use Rattle.text.proofs.writing.put.Statement.{statement}
+use Rattle.text.proofs.writing.put.Tie as tie
+
+slice-write-out : tie.Need-slice-write-out
+slice-write-out c = search needs
+
+add-result : tie.Need-add-result
+add-result c = search needs
+
+same-length : tie.Need-same-length
+same-length c = search needs
+
+returns : tie.Need-returns
+returns c = search needs
+
+add-result-2 : tie.Need-add-result-2
+add-result-2 c = search needs
+
+returns-2 : tie.Need-returns-2
+returns-2 c = search put-past
+
+returns-3 : tie.Need-returns-3
+returns-3 c = search put-last
+
+pub put-spec : {M : Type 1} → statement M
+put-spec =
+    tie.close
+    (tie.spec slice-write-out add-result same-length returns add-result-2 returns-2 returns-3)

@@ -1,0 +1,13 @@
+-- What the contracts of this crate, and of those above it, are said in.
+-- Bytes: bytes of a list, their classes, lower case.
+pub mod Bytes
+-- Texts: a quoted text as its bytes.
+pub mod Texts
+-- Lists: equality, tests of every element, splitting, joining.
+pub mod Lists
+-- Runs: the longest run of a class.
+pub mod Runs
+-- Decimal: numbers in decimal.
+pub mod Decimal
+-- Writing: bytes written into a lent buffer.
+pub mod Writing

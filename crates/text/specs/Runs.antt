@@ -1,0 +1,36 @@
+-- The longest run of a class of bytes.
+use Prim.Native.Nat.{ℕ, suc, _+_}
+use mathlib.Core.List.{List, [], _∷_}
+use mathlib.Core.Bool.{Bool, true, false, cond}
+use lib.ListN.{drop}
+use Rattle.text.specs.Bytes.{isSpace, isNotSpace, isNotDot, isUpper, isNotUpper, isAlpha, isDigit, isAlphanumeric, isHexDigit, isVisible, isPrintable, isLabelByte, isNameByte, isToplabelByte, isMacroLiteral, isDelimiter}
+use Rattle.text.specs.declared.bytes.Class.{Class}
+use Rattle.text.specs.declared.bytes.Class.the-variants.{Space, NotSpace, NotDot, Upper, NotUpper, Alpha, Digit, Alphanumeric, HexDigit, Visible, Printable, LabelByte, NameByte, ToplabelByte, MacroLiteral, Delimiter}
+
+-- the test of a class
+unfoldable pub isIn : Class → ℕ → Bool
+isIn Space b = isSpace b
+isIn NotSpace b = isNotSpace b
+isIn NotDot b = isNotDot b
+isIn Upper b = isUpper b
+isIn NotUpper b = isNotUpper b
+isIn Alpha b = isAlpha b
+isIn Digit b = isDigit b
+isIn Alphanumeric b = isAlphanumeric b
+isIn HexDigit b = isHexDigit b
+isIn Visible b = isVisible b
+isIn Printable b = isPrintable b
+isIn LabelByte b = isLabelByte b
+isIn NameByte b = isNameByte b
+isIn ToplabelByte b = isToplabelByte b
+isIn MacroLiteral b = isMacroLiteral b
+isIn Delimiter b = isDelimiter b
+
+-- how many bytes at the front of a list pass a test
+unfoldable pub run : (ℕ → Bool) → List ℕ → ℕ
+run p [] = 0
+run p (x ∷ xs) = cond (p x) (suc (run p xs)) 0
+
+-- the end of the longest run from a place on
+unfoldable pub runEnd : (ℕ → Bool) → List ℕ → ℕ → ℕ
+runEnd p s i = i + run p (drop i s)

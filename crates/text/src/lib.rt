@@ -1,0 +1,5 @@
+// Bytes in a slice: what the other crates share.
+pub mod bytes;
+pub mod decimal;
+pub mod words;
+pub mod writing;
