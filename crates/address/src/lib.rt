@@ -50,7 +50,7 @@ fn value4(s: &[u8]) -> u32
 }
 
 // The octets of an IPv4 address.
-fn octets4(v: u32) -> [u8; 4]
+pub fn octets4(v: u32) -> [u8; 4]
     ensures { λ r. ⌜ r ≡ octetsOf 4 v ⌝ }
 {
     [
@@ -62,7 +62,7 @@ fn octets4(v: u32) -> [u8; 4]
 }
 
 // The octets of an IPv6 address, from its halves.
-fn octets16(high: u64, low: u64) -> [u8; 16]
+pub fn octets16(high: u64, low: u64) -> [u8; 16]
     ensures { λ r. ⌜ r ≡ octetsOf 8 high ++ octetsOf 8 low ⌝ }
 {
     [

@@ -4,6 +4,8 @@ pub mod Tests
 pub mod Classes
 -- Words: equality of lists.
 pub mod Words
+-- Parts: tests of every element, and the right-most elements.
+pub mod Parts
 -- Spans: a word that stands in a list from a place up to another.
 pub mod Spans
 -- Runs: longest runs of a class.

@@ -1,7 +1,8 @@
 -- Lists: equality, a test of every element, splitting and joining.
-use Prim.Native.Nat.{ℕ, suc}
+use Prim.Native.Nat.{ℕ, _-_}
 use mathlib.Core.List.{List, [], _∷_, _++_, map}
 use mathlib.Core.Bool.{Bool, true, false, cond, _&&_}
+use lib.ListN.{length, drop}
 use lib.Dec.{eqb}
 use Rattle.text.specs.Bytes.{lower}
 
@@ -20,6 +21,10 @@ sameWord w word = same (map lower w) word
 unfoldable pub all : {A : Type 0} → (A → Bool) → List A → Bool
 all p [] = true
 all p (x ∷ xs) = p x && all p xs
+
+-- the right-most n; all where there are no more
+unfoldable pub rightmost : {A : Type 0} → ℕ → List A → List A
+rightmost n xs = drop (length xs - n) xs
 
 -- b before the first part
 unfoldable pub grow : ℕ → List (List ℕ) → List (List ℕ)

@@ -68,6 +68,24 @@ module _ (p : ℕ → Bool) where
     unfolding runEnd
     run-end-inside h = omega (arith, run-le (drop i s), length-drop i s)
 
+  -- the byte after a run isn't of the class, and each byte within it is
+  pub run-stops : (s : List ℕ) → run p s < length s → p (at s (run p s)) ≡ false
+  unfolding run
+  run-stops [] h = absurd (omega arith)
+  run-stops (x ∷ xs) h = by (p x) refl (run-stops xs) h
+    where
+      by : (t : Bool) → p x ≡ t → (run p xs < length xs → p (at xs (run p xs)) ≡ false) → cond t (suc (run p xs)) 0 < suc (length xs)
+          → p (at (x ∷ xs) (cond t (suc (run p xs)) 0)) ≡ false
+      by true e ih h = ih (omega arith)
+      by false e ih h = e
+
+  pub run-within : (s : List ℕ) (i : ℕ) → i < run p s → p (at s i) ≡ true
+  unfolding run
+  run-within [] i h = absurd (omega arith)
+  run-within (x ∷ xs) zero h = cond-elim (λ (n : ℕ). 0 < n → p x ≡ true) (p x) {x = suc (run p xs)} {y = 0} (λ e k. e) (λ e k. absurd (omega arith)) h
+  run-within (x ∷ xs) (suc i) h =
+      cond-elim (λ (n : ℕ). suc i < n → p (at xs i) ≡ true) (p x) {x = suc (run p xs)} {y = 0} (λ e k. run-within xs i (omega arith)) (λ e k. absurd (omega arith)) h
+
   -- every byte of a run is of the class
   pub run-all : (s : List ℕ) → all p (take (run p s) s) ≡ true
   unfolding run all

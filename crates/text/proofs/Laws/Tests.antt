@@ -96,6 +96,9 @@ pub test-fails : (t : Bool) → (t ≡ true → ⊥) → t ≡ false
 test-fails true h = absurd (h refl)
 test-fails false h = refl
 
+pub fails-test : (t : Bool) → (t ≡ true → ⊥) → false ≡ t
+fails-test t h = sym (test-fails t h)
+
 -- two tests that hold together are the same
 pub same-tests : (t u : Bool) → (t ≡ true → u ≡ true) → (u ≡ true → t ≡ true) → t ≡ u
 same-tests true u f g = sym (f refl)

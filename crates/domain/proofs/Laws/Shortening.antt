@@ -1,0 +1,119 @@
+-- What is left of an over-long name: a suffix of it, whole labels of it, and at most 253 bytes or one label. From the definition of
+-- Shortening and the laws of splitting.
+use Prim.Native.Nat.{ℕ, zero, suc, _+_, _-_, _≤_, _<_}
+use mathlib.Core.Path.{_≡_, refl, sym, ap, _∙_}
+use mathlib.Core.Logic.{_⊎_, ⊎-elim, inl, inr}
+use mathlib.Core.List.{List, [], _∷_, _++_, append-assoc, append-nil}
+use native.Mathlib.Omega.{arith}
+use native.Mathlib.Numerals.{add-one}
+use native.Mathlib.Nat.{zero-add}
+use lib.ListN.{length, take, drop, length-drop}
+use lib.Seq.{split-at}
+use borrow.Author.Tests.{le-leb, lt-leb}
+use Rattle.text.specs.Bytes.{isDot}
+use Rattle.text.specs.Lists.{join, dotBefore}
+use Rattle.text.specs.Runs.{isIn, runEnd}
+use Rattle.text.specs.declared.bytes.Class.the-variants.{NotDot}
+use Rattle.text.proofs.Laws.Spans.{rest-part}
+use Rattle.text.proofs.Laws.Splitting.{Some, some, split-some, front, join-dots}
+use Rattle.text.proofs.Laws.Writing.{le-or-lt}
+use Rattle.domain.specs.Names.{labels, labelCount}
+use Rattle.domain.specs.Shortening.{shorterLabels, shortened}
+use Rattle.domain.proofs.Laws.Labels.{front-dot, labels-none, labels-first}
+
+-- the labels that stay
+shorter-same : (xs : List (List ℕ)) → length (join xs) ≤ 253 → shorterLabels xs ≡ xs
+unfolding shorterLabels
+shorter-same [] h = refl
+shorter-same (x ∷ []) h = refl
+shorter-same (x ∷ y ∷ r) h = rw (le-leb _ _ h)
+
+shorter-less : (x : List ℕ) (xs : List (List ℕ)) → Some xs → 253 < length (join (x ∷ xs)) → shorterLabels (x ∷ xs) ≡ shorterLabels xs
+unfolding shorterLabels
+shorter-less x (y ∷ r) some h = rw (lt-leb _ _ h)
+
+labels-some : (s : List ℕ) → Some (labels s)
+unfolding labels
+labels-some s = split-some isDot s
+
+join-labels : (s : List ℕ) → join (labels s) ≡ s
+unfolding labels
+join-labels s = join-dots s
+
+-- one step: nothing leaves, nothing can, or the first label does
+module _ (s : List ℕ) where
+  pub shortened-same : length s ≤ 253 → shortened s ≡ s
+  unfolding shortened
+  shortened-same h = rw (shorter-same (labels s) (rw join-labels h), join-labels)
+
+  pub shortened-last : length s ≤ front isDot s → shortened s ≡ s
+  unfolding shortened shorterLabels join dotBefore
+  shortened-last h = rw (labels-none s h, append-nil)
+
+  pub shortened-less : 253 < length s → front isDot s < length s → shortened s ≡ shortened (drop (suc (front isDot s)) s)
+  unfolding shortened
+  shortened-less h k =
+      let rest = drop (suc (front isDot s)) s in
+      let long : 253 < length (join (take (front isDot s) s ∷ labels rest)) = rw (← labels-first s k, join-labels) h in
+      rw (labels-first s k, shorter-less (take (front isDot s) s) (labels rest) (labels-some rest) long)
+
+-- what holds of a name and of what is left of it: by these three steps
+module _ (P : List ℕ → List ℕ → Type 0)
+    (same : (s : List ℕ) → length s ≤ 253 → P s s)
+    (last : (s : List ℕ) → labels s ≡ s ∷ [] → P s s)
+    (less : (s x rest t : List ℕ) → s ≡ x ++ 46 ∷ rest → labels s ≡ x ∷ labels rest → P rest t → P s t) where
+  steps : (n : ℕ) (s : List ℕ) → length s < n → P s (shortened s)
+  steps zero s h = absurd (omega arith)
+  steps (suc n) s h = ⊎-elim
+      (λ (k : length s ≤ 253). rw (shortened-same s k) (same s k))
+      (λ (k : 253 < length s). ⊎-elim
+      (λ (l : length s ≤ front isDot s). rw (shortened-last s l) (last s (labels-none s l)))
+      (λ (l : front isDot s < length s).
+      let rest = drop (suc (front isDot s)) s in
+      let dot : s ≡ take (front isDot s) s ++ 46 ∷ rest = split-at s (front isDot s) 0 l ∙ rw (front-dot s l) in
+      rw (shortened-less s k l)
+      (less s (take (front isDot s) s) rest (shortened rest) dot (labels-first s l) (steps n rest (rw length-drop (omega arith)))))
+      (le-or-lt (length s) (front isDot s)))
+      (le-or-lt (length s) 253)
+
+  pub shortened-by-steps : (s : List ℕ) → P s (shortened s)
+  shortened-by-steps s = steps (suc (length s)) s (omega arith)
+
+-- it is a suffix
+pub shortened-suffix : (s : List ℕ) → (u : List ℕ) × (s ≡ u ++ shortened s)
+shortened-suffix = shortened-by-steps (λ s t. (u : List ℕ) × (s ≡ u ++ t))
+    (λ s h. ([], refl))
+    (λ s h. ([], refl))
+    (λ s x rest t d l p. (x ++ 46 ∷ p .0, d ∙ ap (λ (y : List ℕ). x ++ 46 ∷ y) (p .1) ∙ sym (append-assoc x (46 ∷ p .0) t)))
+
+-- no label is cut: its labels are the last labels of the name
+pub shortened-labels : (s : List ℕ) → (above : List (List ℕ)) × (labels s ≡ above ++ labels (shortened s))
+shortened-labels = shortened-by-steps (λ s t. (above : List (List ℕ)) × (labels s ≡ above ++ labels t))
+    (λ s h. ([], refl))
+    (λ s h. ([], refl))
+    (λ s x rest t d l p. (x ∷ p .0, l ∙ ap (λ (y : List (List ℕ)). x ∷ y) (p .1)))
+
+-- it fits, or no dot remains
+pub shortened-fits : (s : List ℕ) → (length (shortened s) ≤ 253) ⊎ (labelCount (shortened s) ≡ 1)
+unfolding labelCount
+shortened-fits = shortened-by-steps (λ s t. (length t ≤ 253) ⊎ (length (labels t) ≡ 1))
+    (λ s h. inl h)
+    (λ s h. inr (ap length h))
+    (λ s x rest t d l p. p)
+
+-- `shorten`
+module _ (s : List ℕ) where
+  pub shorten-same : length s ≤ 253 → s ≡ shortened s
+  shorten-same h = sym (shortened-same s h)
+
+  module _ (e : ℕ) (r : e ≡ runEnd (isIn NotDot) s 0) where
+    at-front : e ≡ front isDot s
+    unfolding runEnd isIn
+    at-front = r ∙ zero-add (front isDot s)
+
+    pub shorten-last : length s ≤ e → s ≡ shortened s
+    shorten-last h = sym (shortened-last s (rw (sym at-front) h))
+
+    pub shorten-less : 253 < length s → e < length s → (t : List ℕ) → t ≡ shortened (take (length s - (e + 1)) (drop (e + 1) s)) → t ≡ shortened s
+    shorten-less h k t p =
+        p ∙ rw (rest-part, add-one, at-front) (sym (shortened-less s h (rw (sym at-front) k)))

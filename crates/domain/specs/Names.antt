@@ -1,0 +1,38 @@
+-- Domain names as 01 has them, by their labels.
+use Prim.Native.Nat.{ℕ}
+use mathlib.Core.List.{List, [], _∷_}
+use mathlib.Core.Bool.{Bool, true, false, _&&_}
+use lib.ListN.{length}
+use Rattle.text.specs.Bytes.{isDot, isVisible, isNotUpper, within}
+use Rattle.text.specs.Lists.{same, all, split, rightmost}
+
+-- the parts of a name between its dots
+unfoldable pub labels : List ℕ → List (List ℕ)
+labels s = split isDot s
+
+-- "labels of 1 to 63 bytes ..., each byte 33 to 126"
+unfoldable pub isLabel : List ℕ → Bool
+isLabel l = within 1 63 (length l) && all isVisible l
+
+-- "A name is 1 to 253 bytes, labels of 1 to 63 bytes joined by dots, each byte 33 to 126"
+unfoldable pub isName : List ℕ → Bool
+isName s = within 1 253 (length s) && all isLabel (labels s)
+
+-- "in the table no A to Z"
+unfoldable pub isTableName : List ℕ → Bool
+isTableName s = isName s && all isNotUpper s
+
+-- how many labels
+unfoldable pub labelCount : List ℕ → ℕ
+labelCount s = length (labels s)
+
+-- whether two lists of labels are the same
+unfoldable pub sameLabels : List (List ℕ) → List (List ℕ) → Bool
+sameLabels [] [] = true
+sameLabels [] (y ∷ ys) = false
+sameLabels (x ∷ xs) [] = false
+sameLabels (x ∷ xs) (y ∷ ys) = same x y && sameLabels xs ys
+
+-- "it is the target or below it": the name's last labels, as many as the target has, are the target's
+unfoldable pub atOrBelow : List ℕ → List ℕ → Bool
+atOrBelow name target = sameLabels (rightmost (labelCount target) (labels name)) (labels target)
