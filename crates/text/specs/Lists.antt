@@ -1,7 +1,7 @@
 -- Lists: equality, a test of every element, splitting and joining.
 use Prim.Native.Nat.{ℕ, _-_}
 use mathlib.Core.List.{List, [], _∷_, _++_, map}
-use mathlib.Core.Bool.{Bool, true, false, cond, _&&_}
+use mathlib.Core.Bool.{Bool, true, false, cond, _&&_, _||_}
 use lib.ListN.{length, drop}
 use lib.Dec.{eqb}
 use Rattle.text.specs.Bytes.{lower}
@@ -16,6 +16,11 @@ same (x ∷ xs) (y ∷ ys) = eqb x y && same xs ys
 -- whether a word is a given one in either case of its letters; the given one is in lower case
 unfoldable pub sameWord : List ℕ → List ℕ → Bool
 sameWord w word = same (map lower w) word
+
+-- whether a byte stands in a list
+unfoldable pub contains : List ℕ → ℕ → Bool
+contains [] b = false
+contains (x ∷ xs) b = eqb b x || contains xs b
 
 -- whether a test holds of every element
 unfoldable pub all : {A : Type 0} → (A → Bool) → List A → Bool

@@ -1,6 +1,6 @@
 // Words: equality, byte for byte or in either case, and a test of every byte.
 ghost use mathlib.Core.Path.{_≡_};
-ghost use Rattle.text.specs.Lists.{same, sameWord, all};
+ghost use Rattle.text.specs.Lists.{same, sameWord, contains, all};
 ghost use Rattle.text.specs.Runs.{isIn};
 use crate::bytes;
 use crate::bytes::Class;
@@ -37,6 +37,20 @@ pub fn equal_word(s: &[u8], word: &[u8]) -> bool
         i += 1;
     }
     true
+}
+
+// Whether b stands in s.
+pub fn contains(s: &[u8], b: u8) -> bool
+    ensures { λ r. ⌜ r ≡ contains (now (s .entry)) b ⌝ }
+{
+    let mut i = 0;
+    while i < s.len() {
+        if b == s[i] {
+            return true;
+        }
+        i += 1;
+    }
+    false
 }
 
 // Whether every byte is of the class.

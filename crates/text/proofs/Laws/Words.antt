@@ -2,7 +2,7 @@
 use Prim.Native.Nat.{ℕ, zero, suc, _+_, _≤_, _<_}
 use mathlib.Core.Path.{_≡_, refl, sym, ap, _∙_}
 use mathlib.Core.List.{List, [], _∷_, _++_, map}
-use mathlib.Core.Bool.{Bool, true, false, _&&_}
+use mathlib.Core.Bool.{Bool, true, false, _&&_, _||_}
 use native.Mathlib.Omega.{arith}
 use native.Mathlib.Numerals.{add-one}
 use lib.ListN.{length, getD, drop, drop-of-length-le, length-map}
@@ -10,7 +10,7 @@ use lib.Seq.{drop-cons}
 use lib.Dec.{eqb}
 use borrow.Author.Tests.{eq-eqb, ne-eqb, eqb-true, eqb-false}
 use Rattle.text.specs.Bytes.{within, isUpper, lower}
-use Rattle.text.specs.Lists.{same, sameWord}
+use Rattle.text.specs.Lists.{same, sameWord, contains}
 use Rattle.text.proofs.Laws.Tests.{and-left, and-right, test-fails}
 
 -- the test and the equation
@@ -98,3 +98,17 @@ word-start s word = refl
 pub word-lengths : (s word : List ℕ) → (length s ≡ length word → ⊥) → false ≡ sameWord s word
 unfolding sameWord
 word-lengths s word h = sym (same-lengths (map lower s) word (λ e. h (sym (length-map s lower) ∙ e)))
+
+-- the loop of `contains`
+module _ (s : List ℕ) (b i : ℕ) (r : Bool) (inv : contains (drop i s) b ≡ r) where
+  pub contains-here : i < length s → b ≡ getD s i 0 → true ≡ r
+  unfolding contains
+  contains-here h e = sym (rw (drop-cons s i 0 h, eq-eqb _ _ e)) ∙ inv
+
+  pub contains-next : i < length s → (b ≡ getD s i 0 → ⊥) → contains (drop (i + 1) s) b ≡ r
+  unfolding contains
+  contains-next h e = sym (rw (drop-cons s i 0 h, ne-eqb _ _ e, add-one)) ∙ inv
+
+  pub contains-end : length s ≤ i → false ≡ r
+  unfolding contains
+  contains-end h = sym (rw (drop-of-length-le s h)) ∙ inv
