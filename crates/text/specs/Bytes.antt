@@ -1,13 +1,17 @@
 -- Bytes of a list, their classes, and lower case.
-use Prim.Native.Nat.{ℕ, _+_}
+use Prim.Native.Nat.{ℕ, _+_, _-_}
 use mathlib.Core.List.{List}
 use mathlib.Core.Bool.{Bool, true, false, cond, not, _&&_, _||_}
-use lib.ListN.{getD}
+use lib.ListN.{getD, take, drop}
 use lib.Dec.{leb, eqb}
 
 -- the byte at a place, and 0 past the end
 abbrev pub at : List ℕ → ℕ → ℕ
 at s i = getD s i 0
+
+-- the part from a place up to another, as far as the list goes
+abbrev pub part : List ℕ → ℕ → ℕ → List ℕ
+part s from to = take (to - from) (drop from s)
 
 -- %xLO-HI
 unfoldable pub within : ℕ → ℕ → ℕ → Bool

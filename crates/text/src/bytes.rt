@@ -1,6 +1,6 @@
 // Bytes, their classes, and runs of a class.
 ghost use mathlib.Core.Path.{_≡_};
-ghost use Rattle.text.specs.Bytes.{at, within, lower, isNotUpper, isAlpha, isAlphanumeric, isHexDigit, isLabelByte, isNameByte, isToplabelByte, isMacroLiteral, isDelimiter};
+ghost use Rattle.text.specs.Bytes.{at, part, within, lower, isNotUpper, isAlpha, isAlphanumeric, isHexDigit, isLabelByte, isNameByte, isToplabelByte, isMacroLiteral, isDelimiter};
 ghost use Rattle.text.specs.Runs.{isIn, runEnd};
 
 // A class of bytes.
@@ -28,6 +28,22 @@ pub fn peek(s: &[u8], i: usize) -> u8
     ensures { λ r. ⌜ r ≡ at (now (s .entry)) i ⌝ }
 {
     if i < s.len() { s[i] } else { 0 }
+}
+
+// The part from a place up to another, as far as the slice goes.
+pub fn part(s: &[u8], from: usize, to: usize) -> &[u8]
+    ensures { λ r. ⌜ now r ≡ part (now (s .entry)) from to ⌝ }
+{
+    if s.len() < from {
+        return &s[..0];
+    }
+    if to < from {
+        return &s[..0];
+    }
+    if s.len() < to {
+        return &s[from..];
+    }
+    &s[from..to]
 }
 
 // Whether b is one of the bytes from low to high.

@@ -7,8 +7,8 @@ use native.Mathlib.Omega.{arith}
 use native.Mathlib.Nat.{add-zero}
 use native.Mathlib.Numerals.{add-one}
 use lib.ListN.{length, getD, take, drop, length-append, take-append-drop, length-drop, drop-of-length-le}
-use lib.Seq.{drop-drop, drop-cons, drop-append-seam, length-take-le, drop-length, take-all, getD-drop, take-at}
-use Rattle.text.specs.Bytes.{at}
+use lib.Seq.{drop-drop, drop-cons, drop-append-seam, length-take-le, drop-length, take-all, getD-drop, take-at, take-nil}
+use Rattle.text.specs.Bytes.{at, part}
 use Rattle.text.proofs.Laws.Classes.{nonzero-inside}
 
 pub record Span (s : List ℕ) (i j : ℕ) (w : List ℕ) : Type 0 where
@@ -67,3 +67,14 @@ drop-past s i h = drop-of-length-le s {i = i} (omega arith)
 -- a byte that a test has found lies inside
 pub byte-inside : (r : ℕ) (s : List ℕ) (i b : ℕ) → r ≡ at s i → r ≡ suc b → i < length s
 byte-inside r s i b p q = nonzero-inside s i (omega arith)
+
+-- the ways out of `part`
+module _ (s : List ℕ) (from : ℕ) where
+  pub part-past : length s < from → (to : ℕ) → [] ≡ part s from to
+  part-past h to = simp (drop-past s from h, take-nil)
+
+  pub part-less : (to : ℕ) → to < from → [] ≡ part s from to
+  part-less to h = let e : to - from ≡ 0 = omega arith in simp e
+
+  pub part-short : (to : ℕ) → length s < to → take (length s - from) (drop from s) ≡ part s from to
+  part-short to h = rest-part s from ∙ sym (take-all (to - from) (drop from s) (omega (arith, length-drop from s)))
