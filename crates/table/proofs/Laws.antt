@@ -1,0 +1,14 @@
+-- Items: items end to end: the reader against the productions, and one item after the other.
+pub mod Items
+-- Reading: the reader's steps as the code makes them.
+pub mod Reading
+-- Encoding: one entry and its items: the reader against the productions.
+pub mod Encoding
+-- Entries: the list of entries that a table encodes, and pairs in it.
+pub mod Entries
+-- Finding: `find` against the list of entries.
+pub mod Finding
+-- Checks: the check against the productions.
+pub mod Checks
+-- Rules: one for each way out of the functions on the whole table.
+pub mod Rules

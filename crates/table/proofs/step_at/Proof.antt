@@ -1,0 +1,80 @@
+-- `step_at` meets its contract. From the rules of the table.
+use native.Mathlib.Omega.{arith}
+use lib.ListN.{length-take}
+use borrow.Author.Needs.{needs}
+use Rattle.table.proofs.Laws.Rules.{step-broken, step-fits, step-ill, step-repeated, step-fresh}
+use Rattle.table.proofs.step_at.Statement.{statement}
+use Rattle.table.proofs.step_at.Tie as tie
+
+sub-rest : tie.Need-sub-rest
+sub-rest c = search needs
+
+part-rest-start : tie.Need-part-rest-start
+part-rest-start c = search needs
+
+part-rest-end : tie.Need-part-rest-end
+part-rest-end c = search needs
+
+read-header-requires : tie.Need-read-header-requires
+read-header-requires c κs = search needs
+
+enum-known-h : tie.Need-enum-known-h
+enum-known-h c = search needs
+
+enum-told : tie.Need-enum-told
+enum-told c = search needs
+
+returns : tie.Need-returns
+returns c = search step-broken
+
+is-well-requires : tie.Need-is-well-requires
+is-well-requires c κs = search needs
+
+slice-aggregate-find : tie.Need-slice-aggregate-find
+slice-aggregate-find c = simp length-take (omega arith)
+
+name-of-requires : tie.Need-name-of-requires
+name-of-requires c κs = search needs
+
+find-requires : tie.Need-find-requires
+find-requires c κs = search needs
+
+enum-told-2 : tie.Need-enum-told-2
+enum-told-2 c = search needs
+
+enum-told-3 : tie.Need-enum-told-3
+enum-told-3 c = search needs
+
+returns-2 : tie.Need-returns-2
+returns-2 c = search step-repeated
+
+add-t16 : tie.Need-add-t16
+add-t16 c = search step-fits
+
+returns-3 : tie.Need-returns-3
+returns-3 c = search step-fresh
+
+returns-4 : tie.Need-returns-4
+returns-4 c = search step-ill
+
+pub step-at-spec : {M : Type 1} → statement M
+step-at-spec =
+    tie.close
+    (tie.spec
+    sub-rest
+    part-rest-start
+    part-rest-end
+    read-header-requires
+    enum-known-h
+    enum-told
+    returns
+    is-well-requires
+    slice-aggregate-find
+    name-of-requires
+    find-requires
+    enum-told-2
+    enum-told-3
+    returns-2
+    add-t16
+    returns-3
+    returns-4)

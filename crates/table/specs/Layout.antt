@@ -1,0 +1,81 @@
+-- The answer table as productions: "entries, end to end; little-endian".
+use Prim.Native.Nat.{ℕ, _+_, _*_}
+use mathlib.Core.Path.{_≡_}
+use mathlib.Core.List.{List, [], _∷_, _++_}
+use mathlib.Core.Bool.{Bool, true, false, cond, not, _&&_, _||_}
+use lib.ListN.{length, drop}
+use lib.Dec.{leb, eqb}
+use Rattle.text.specs.Lists.{same}
+use Rattle.domain.specs.Names.{isTableName}
+
+-- what an entry holds
+pub record Entry : Type 0 where
+  pub kind : ℕ
+  pub status : ℕ
+  pub name : List ℕ
+  pub items : List (List ℕ)
+
+-- "2-byte kind, the DNS type asked (1 A, 12 PTR, 15 MX, 16 TXT, 28 AAAA, 99 SPF)"
+unfoldable pub isKind : ℕ → Bool
+isKind k = eqb k 1 || (eqb k 12 || (eqb k 15 || (eqb k 16 || (eqb k 28 || eqb k 99))))
+
+-- "1-byte status (0 answered, 2 failed, 3 no such name)"
+unfoldable pub isStatus : ℕ → Bool
+isStatus s = eqb s 0 || (eqb s 2 || eqb s 3)
+
+-- "MX a 2-byte preference and a name or nothing"
+unfoldable pub isMailExchange : List ℕ → Bool
+isMailExchange d = cond (eqb (length d) 2) true (leb 2 (length d) && isTableName (drop 2 d))
+
+-- "A item 4 bytes; AAAA 16; PTR a name; MX ..; TXT and SPF a text of 0 to 4,096 bytes"
+unfoldable pub isItem : ℕ → List ℕ → Bool
+isItem kind d =
+    cond (eqb kind 1) (eqb (length d) 4)
+    (cond (eqb kind 28) (eqb (length d) 16)
+    (cond (eqb kind 12) (isTableName d)
+    (cond (eqb kind 15) (isMailExchange d)
+    (leb (length d) 4096))))
+
+-- a 2-byte number, little-endian
+pub data Two : List ℕ → ℕ → Type 0 where
+  two : {a b : ℕ} → Two (a ∷ b ∷ []) (a + 256 * b)
+
+-- "items, each a 2-byte length and its bytes, up to the entry's end"
+pub data Items (kind : ℕ) : List ℕ → List (List ℕ) → Type 0 where
+  none : Items kind [] []
+  more : {n d rest : List ℕ} {ds : List (List ℕ)} → Two n (length d) → isItem kind d ≡ true → Items kind rest ds
+      → Items kind (n ++ (d ++ rest)) (d ∷ ds)
+
+-- "Status 2 or 3 has no items."
+unfoldable pub mayHold : ℕ → List (List ℕ) → Bool
+mayHold status [] = true
+mayHold status (d ∷ ds) = eqb status 0
+
+-- all that follows an entry's length: kind, status, name length, name, items
+unfoldable pub body : List ℕ → ℕ → List ℕ → List ℕ → List ℕ
+body k status name i = k ++ (status ∷ length name ∷ (name ++ i))
+
+-- "An entry: 2-byte length of all that follows in it; 2-byte kind ..; 1-byte status ..; 1-byte name length; the name; then items"
+pub data Encodes : List ℕ → Entry → Type 0 where
+  entry : {l k name i : List ℕ} {kind status : ℕ} {items : List (List ℕ)} → Two l (length (body k status name i)) → Two k kind
+      → isKind kind ≡ true → isStatus status ≡ true → isTableName name ≡ true → Items kind i items → mayHold status items ≡ true
+      → Encodes (l ++ body k status name i) (record { kind = kind; status = status; name = name; items = items })
+
+-- "entries, end to end; an empty table is allowed"
+pub data Entries : List ℕ → List Entry → Type 0 where
+  none : Entries [] []
+  more : {w rest : List ℕ} {e : Entry} {es : List Entry} → Encodes w e → Entries rest es → Entries (w ++ rest) (e ∷ es)
+
+-- whether an entry is of a kind and name pair
+unfoldable pub isPair : ℕ → List ℕ → Entry → Bool
+isPair kind name e = eqb (e .kind) kind && same (e .name) name
+
+-- whether a pair stands among entries
+unfoldable pub holds : ℕ → List ℕ → List Entry → Bool
+holds kind name [] = false
+holds kind name (e ∷ es) = isPair kind name e || holds kind name es
+
+-- "No kind and name pair occurs twice."
+unfoldable pub distinct : List Entry → Bool
+distinct [] = true
+distinct (e ∷ es) = not (holds (e .kind) (e .name) es) && distinct es

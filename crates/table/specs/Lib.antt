@@ -1,0 +1,11 @@
+-- What the contracts of this crate are said in.
+-- Layout: the answer table as productions: entries and the bytes that encode them.
+pub mod Layout
+-- Numbers: 01's number and place for each answer of a check of the table.
+pub mod Numbers
+-- Checked: when a table is accepted, and when and where it is refused.
+pub mod Checked
+-- Lookup: the entry of a kind and a name.
+pub mod Lookup
+-- Reader: the entries and items of a table, read as the code reads them; the laws tie it to the productions.
+pub mod Reader

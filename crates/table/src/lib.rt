@@ -1,0 +1,146 @@
+// The answer table: its check, and lookup in it.
+ghost use mathlib.Core.Path.{_≡_};
+ghost use Prim.Native.Nat.{_≤_};
+ghost use lib.ListN.{length};
+ghost use Rattle.table.specs.Numbers.{reported};
+ghost use Rattle.table.specs.Checked.{Checked};
+ghost use Rattle.table.specs.Lookup.{lookup, Finds};
+ghost use Rattle.table.specs.Reader.{entriesOf, findAt, foundItems, stepAt, checkTable};
+use entries::Header;
+
+pub mod entries;
+pub mod items;
+
+// What a check of a table answers.
+pub enum TableAnswer {
+    // Accepted, with the number of entries.
+    Accepted(usize),
+    // 24: over 65,535 bytes.
+    TooLong,
+    // 25: the place of an entry that is malformed, or the 513th.
+    Malformed(usize),
+    // 26: the place of an entry whose kind and name stand before.
+    Repeated(usize),
+}
+
+// What looking up a kind and a name answers: the entry's status and where its items stand, or that there is no entry.
+pub enum Found {
+    Entry {
+        status: u8,
+        start: usize,
+        end: usize,
+    },
+    Missing,
+}
+
+// What the check finds at a place: a whole entry of a new pair, with the place after it; none; or one whose pair stands before.
+pub enum Step {
+    Next(usize),
+    Malformed,
+    Repeated,
+}
+
+// The entry of a kind and a name.
+pub fn find(table: &[u8], kind: u16, name: &[u8]) -> Found
+    ensures { λ r. ⌜ r ≡ findAt (now (table .entry)) kind (now (name .entry)) ⌝ }
+    ensures { λ r. ⌜ Finds (now (table .entry)) (lookup kind (now (name .entry)) (entriesOf (now (table .entry)))) r ⌝ }
+{
+    let mut at = 0;
+    while at < table.len() {
+        let rest = &table[at..];
+        let Header::Whole {
+            kind: k,
+            status,
+            name: n,
+            size,
+        } = entries::read_header(rest)
+        else {
+            return Found::Missing;
+        };
+        if entries::is_pair(rest, k, n, kind, name) {
+            return Found::Entry {
+                status,
+                start: at + 6 + n as usize,
+                end: at + size,
+            };
+        }
+        at += size;
+    }
+    Found::Missing
+}
+
+// The items of the entry that was found, as a part of the table; nothing where none was found.
+pub fn found_items(table: &[u8], found: Found) -> &[u8]
+    ensures { λ r. ⌜ now r ≡ foundItems (now (table .entry)) found ⌝ }
+{
+    let Found::Entry {
+        status: _,
+        start,
+        end,
+    } = found
+    else {
+        return &table[..0];
+    };
+    if start <= end {
+        if end <= table.len() {
+            return &table[start..end];
+        }
+        return &table[..0];
+    }
+    &table[..0]
+}
+
+// The entry at a place in the check.
+fn step_at(table: &[u8], at: usize) -> Step
+    requires { ⌜ at ≤ length (now table) ⌝ }
+    ensures { λ r. ⌜ r ≡ stepAt (now (table .entry)) at ⌝ }
+{
+    let rest = &table[at..];
+    let h = entries::read_header(rest);
+    let Header::Whole {
+        kind,
+        status: _,
+        name: n,
+        size,
+    } = h
+    else {
+        return Step::Malformed;
+    };
+    if entries::is_well(rest, h) {
+        let Found::Missing = find(&table[..at], kind, entries::name_of(rest, n)) else {
+            return Step::Repeated;
+        };
+        return Step::Next(at + size);
+    }
+    Step::Malformed
+}
+
+// Checks a table: 24, then the earlier of 25 and 26 with its place, or accepted.
+pub fn check_table(table: &[u8]) -> TableAnswer
+    ensures { λ r. ⌜ r ≡ checkTable (now (table .entry)) ⌝ }
+    ensures { λ r. ⌜ Checked (now (table .entry)) (reported r) ⌝ }
+{
+    if 65535 < table.len() {
+        return TableAnswer::TooLong;
+    }
+    let mut at = 0;
+    let mut count = 0;
+    while at < table.len() {
+        if count == 512 {
+            return TableAnswer::Malformed(at);
+        }
+        match step_at(table, at) {
+            Step::Next(next) => {
+                at = next;
+                count += 1;
+            }
+            Step::Malformed => {
+                return TableAnswer::Malformed(at);
+            }
+            Step::Repeated => {
+                return TableAnswer::Repeated(at);
+            }
+        }
+    }
+    TableAnswer::Accepted(count)
+}
