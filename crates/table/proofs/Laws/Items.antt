@@ -227,3 +227,7 @@ items-end s i h = ap itemsOf (drop-of-length-le s {i = i} h) ∙ of-none
 pub next-further : (s : List ℕ) (i : ℕ) → i < length s → (i < nextItem s i) × (nextItem s i ≤ length s)
 unfolding nextItem
 next-further s i h = (omega arith, omega arith)
+
+-- a walk over items by their places ends
+pub next-less : (s : List ℕ) (i r : ℕ) → i < length s → r ≡ nextItem s i → length s - r < length s - i
+next-less s i r h e = let f = next-further s i h in omega arith

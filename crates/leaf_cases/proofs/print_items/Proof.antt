@@ -1,0 +1,56 @@
+-- `leaf_cases::print_items` meets its contract. From the laws of Items.
+use Rattle.table.proofs.Laws.Items.{next-less}
+use borrow.Author.Needs.{needs}
+use Prim.Native.Nat.{_-_}
+use lib.ListN.{length}
+use Rattle.leaf_cases.proofs.print_items.Statement.{statement}
+use Rattle.leaf_cases.proofs.print_items.Tie as tie
+
+abbrev Inv-loop : tie.InvT-loop
+Inv-loop items at₀ t3 at = Unit {0}
+
+abbrev μ-loop : tie.MeasureT-loop
+μ-loop items at₀ t3 at = length items - at
+
+loop-holds : tie.Need-loop-holds Inv-loop μ-loop
+loop-holds c = tt
+
+slice-aggregate-write-all : tie.Need-slice-aggregate-write-all Inv-loop μ-loop
+slice-aggregate-write-all c = search needs
+
+write-all-requires : tie.Need-write-all-requires Inv-loop μ-loop
+write-all-requires c κs = search needs
+
+item-requires : tie.Need-item-requires Inv-loop μ-loop
+item-requires c κs = search needs
+
+print-bytes-requires : tie.Need-print-bytes-requires Inv-loop μ-loop
+print-bytes-requires c κs = search needs
+
+next-item-requires : tie.Need-next-item-requires Inv-loop μ-loop
+next-item-requires c κs = search needs
+
+loop-less : tie.Need-loop-less Inv-loop μ-loop
+loop-less c = search next-less
+
+loop-again : tie.Need-loop-again Inv-loop μ-loop
+loop-again c = tt
+
+returns : tie.Need-returns Inv-loop μ-loop
+returns c = search needs
+
+pub print-items-spec : {M : Type 1} → statement M
+print-items-spec =
+    tie.close
+    (tie.spec
+    Inv-loop
+    μ-loop
+    loop-holds
+    slice-aggregate-write-all
+    write-all-requires
+    item-requires
+    print-bytes-requires
+    next-item-requires
+    loop-less
+    loop-again
+    returns)

@@ -1,0 +1,236 @@
+// Runs cases of addresses, domain names and answer tables, a line each, and prints a line for each answer. Bytes stand in hex, `-` for none.
+//
+//     address CLIENT NETWORK LENGTH     1 if they match at that prefix length, else 0
+//     client ADDRESS                    the address that the client counts as
+//     name TEXT                         the name without one trailing dot and in lower case, or `malformed`
+//     table-name TEXT                   1 if it may stand in the table as it is, else 0
+//     labels TEXT                       the number of labels
+//     below NAME TARGET                 1 if the name is the target or below it, else 0
+//     shorten TEXT                      what is left once labels have left from the left
+//     table TABLE                       `entries` and their number, or `refused`, number and place
+//     find KIND NAME TABLE              `missing`, or the status and the items
+//     mx NAME TABLE                     the preference and host of each MX item
+//
+// Any other line is printed as it is.
+use address::Address;
+use address::FromOctets;
+use cases::Line;
+use domain::Name;
+use table::Found;
+use table::TableAnswer;
+use text::bytes::part;
+use text::decimal;
+use text::decimal::Number;
+use text::words;
+
+// Prints a test's answer.
+fn print_test(yes: bool) {
+    if yes {
+        cases::print_line(b"1");
+        return;
+    }
+    cases::print_line(b"0");
+}
+
+fn run_address(line: &[u8]) {
+    let mut a = [0u8; 16];
+    let mut b = [0u8; 16];
+    let n = cases::unhex(cases::word(line, 1), &mut a);
+    let m = cases::unhex(cases::word(line, 2), &mut b);
+    let FromOctets::Is(client) = address::from_octets(part(&a, 0, n)) else {
+        cases::print_line(b"no address");
+        return;
+    };
+    let FromOctets::Is(network) = address::from_octets(part(&b, 0, m)) else {
+        cases::print_line(b"no address");
+        return;
+    };
+    let Number::Value(v) = decimal::read_decimal(cases::word(line, 3), 18446744073709551615) else {
+        cases::print_line(b"no length");
+        return;
+    };
+    print_test(address::matches(client, network, v as usize));
+}
+
+fn run_client(line: &[u8]) {
+    let mut a = [0u8; 16];
+    let n = cases::unhex(cases::word(line, 1), &mut a);
+    let FromOctets::Is(given) = address::from_octets(part(&a, 0, n)) else {
+        cases::print_line(b"no address");
+        return;
+    };
+    match address::as_client(given) {
+        Address::IPv4(v) => cases::print_bytes(&address::octets4(v)),
+        Address::IPv6(high, low) => cases::print_bytes(&address::octets16(high, low)),
+    }
+    cases::print_line(b"");
+}
+
+fn run_name(line: &[u8]) {
+    let mut text = [0u8; 1024];
+    let mut out = [0u8; 253];
+    let n = cases::unhex(cases::word(line, 1), &mut text);
+    let Name::Written(m) = domain::read_name(part(&text, 0, n), &mut out) else {
+        cases::print_line(b"malformed");
+        return;
+    };
+    cases::print_line(part(&out, 0, m));
+}
+
+fn run_table_name(line: &[u8]) {
+    let mut text = [0u8; 1024];
+    let n = cases::unhex(cases::word(line, 1), &mut text);
+    print_test(domain::is_table_name(part(&text, 0, n)));
+}
+
+fn run_labels(line: &[u8]) {
+    let mut text = [0u8; 1024];
+    let n = cases::unhex(cases::word(line, 1), &mut text);
+    cases::print_number_line(domain::count_labels(part(&text, 0, n)));
+}
+
+fn run_below(line: &[u8]) {
+    let mut name = [0u8; 1024];
+    let mut target = [0u8; 1024];
+    let n = cases::unhex(cases::word(line, 1), &mut name);
+    let m = cases::unhex(cases::word(line, 2), &mut target);
+    print_test(domain::at_or_below(part(&name, 0, n), part(&target, 0, m)));
+}
+
+fn run_shorten(line: &[u8]) {
+    let mut text = [0u8; 4096];
+    let n = cases::unhex(cases::word(line, 1), &mut text);
+    cases::print_line(domain::shorten(part(&text, 0, n)));
+}
+
+// Prints a refusal: its number and its place.
+fn print_refused(number: &[u8], place: usize) {
+    io::write_all(1, b"refused ");
+    io::write_all(1, number);
+    io::write_all(1, b" ");
+    cases::print_number_line(place);
+}
+
+fn run_table(line: &[u8]) {
+    let mut space = [0u8; 65552];
+    let n = cases::unhex(cases::word(line, 1), &mut space);
+    match table::check_table(part(&space, 0, n)) {
+        TableAnswer::Accepted(count) => {
+            io::write_all(1, b"entries ");
+            cases::print_number_line(count);
+        }
+        TableAnswer::TooLong => cases::print_line(b"refused 24 ."),
+        TableAnswer::Malformed(place) => print_refused(b"25", place),
+        TableAnswer::Repeated(place) => print_refused(b"26", place),
+    }
+}
+
+// Prints each item with a space before it.
+fn print_items(items: &[u8]) {
+    let mut at = 0;
+    while at < items.len() {
+        io::write_all(1, b" ");
+        cases::print_bytes(table::items::item(items, at));
+        at = table::items::next_item(items, at);
+    }
+}
+
+// Prints the preference and the host of each item, `.` for none.
+fn print_hosts(items: &[u8]) {
+    let mut at = 0;
+    while at < items.len() {
+        let item = table::items::item(items, at);
+        io::print_decimal(1, table::items::preference(item) as u64);
+        io::write_all(1, b" ");
+        cases::print_bytes(table::items::host(item));
+        io::write_all(1, b" ");
+        at = table::items::next_item(items, at);
+    }
+}
+
+fn run_find(line: &[u8]) {
+    let mut name = [0u8; 253];
+    let mut space = [0u8; 65552];
+    let m = cases::unhex(cases::word(line, 2), &mut name);
+    let n = cases::unhex(cases::word(line, 3), &mut space);
+    let Number::Value(kind) = decimal::read_decimal(cases::word(line, 1), 65535) else {
+        cases::print_line(b"no kind");
+        return;
+    };
+    let found = table::find(part(&space, 0, n), (kind % 65536) as u16, part(&name, 0, m));
+    match found {
+        Found::Missing => cases::print_line(b"missing"),
+        Found::Entry {
+            status,
+            start: _,
+            end: _,
+        } => {
+            io::print_decimal(1, status as u64);
+            print_items(table::found_items(part(&space, 0, n), found));
+            cases::print_line(b"");
+        }
+    }
+}
+
+fn run_mx(line: &[u8]) {
+    let mut name = [0u8; 253];
+    let mut space = [0u8; 65552];
+    let m = cases::unhex(cases::word(line, 1), &mut name);
+    let n = cases::unhex(cases::word(line, 2), &mut space);
+    let found = table::find(part(&space, 0, n), 15, part(&name, 0, m));
+    print_hosts(table::found_items(part(&space, 0, n), found));
+    cases::print_line(b"");
+}
+
+// The kinds of line that concern names.
+fn run_name_line(line: &[u8], kind: &[u8]) {
+    if words::equal(kind, b"name") {
+        return run_name(line);
+    }
+    if words::equal(kind, b"table-name") {
+        return run_table_name(line);
+    }
+    if words::equal(kind, b"labels") {
+        return run_labels(line);
+    }
+    if words::equal(kind, b"below") {
+        return run_below(line);
+    }
+    if words::equal(kind, b"shorten") {
+        return run_shorten(line);
+    }
+    cases::print_line(line);
+}
+
+fn run_line(line: &[u8]) {
+    let kind = cases::word(line, 0);
+    if words::equal(kind, b"address") {
+        return run_address(line);
+    }
+    if words::equal(kind, b"client") {
+        return run_client(line);
+    }
+    if words::equal(kind, b"table") {
+        return run_table(line);
+    }
+    if words::equal(kind, b"find") {
+        return run_find(line);
+    }
+    if words::equal(kind, b"mx") {
+        return run_mx(line);
+    }
+    run_name_line(line, kind);
+}
+
+// At most as many lines as the budget says.
+fn main() {
+    let mut line = [0u8; 140000];
+    let mut budget: usize = 1000000;
+    while 0 < budget {
+        let Line::Of(n) = cases::read_line(&mut line) else {
+            return;
+        };
+        run_line(part(&line, 0, n));
+        budget -= 1;
+    }
+}
