@@ -1,0 +1,22 @@
+-- Bytes: classes of the bytes of macro strings, one inside another or apart.
+pub mod Bytes
+-- Texts: the bytes of a text, each, the first that fails a test, the last.
+pub mod Texts
+-- Braces: one macro-expand, read and produced.
+pub mod Braces
+-- Strings: macro strings and explain strings, piece after piece.
+pub mod Strings
+-- Toplabels: top labels, tested and produced.
+pub mod Toplabels
+-- Endings: how a domain-spec ends.
+pub mod Endings
+-- Soundness: what the reader accepts, the grammar produces, with these pieces.
+pub mod Soundness
+-- Completeness: what the grammar produces is accepted, with these pieces.
+pub mod Completeness
+-- Pieces: the piece at the front of a text, and the pieces of a text step by step.
+pub mod Pieces
+-- Labels: the last label of a text, and top labels.
+pub mod Labels
+-- Reading: the ways out of the functions that read macro strings.
+pub mod Reading
