@@ -1,3 +1,5 @@
+-- Orders: two numbers, one way or the other.
+pub mod Orders
 -- Tests: a branch's test as the Boolean that a definition picks by.
 pub mod Tests
 -- Classes: bytes of a class as numbers; two tests that agree at all 256 bytes.

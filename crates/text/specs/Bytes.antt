@@ -33,6 +33,10 @@ isDot b = eqb b 46
 abbrev pub isNotDot : ℕ → Bool
 isNotDot b = not (isDot b)
 
+-- any byte but the slash
+unfoldable pub isNotSlash : ℕ → Bool
+isNotSlash b = not (eqb b 47)
+
 -- A to Z
 unfoldable pub isUpper : ℕ → Bool
 isUpper b = within 65 90 b
@@ -48,6 +52,10 @@ isAlpha b = isUpper b || within 97 122 b
 -- DIGIT
 unfoldable pub isDigit : ℕ → Bool
 isDigit b = within 48 57 b
+
+-- DIGIT / "/": the bytes of prefix lengths
+unfoldable pub isLengthByte : ℕ → Bool
+isLengthByte b = within 47 57 b
 
 -- ALPHA / DIGIT
 unfoldable pub isAlphanumeric : ℕ → Bool

@@ -1,17 +1,19 @@
 // Bytes, their classes, and runs of a class.
 ghost use mathlib.Core.Path.{_≡_};
 ghost use Rattle.text.specs.Bytes.{at, part, within, lower, isNotUpper, isAlpha, isAlphanumeric, isHexDigit, isLabelByte, isNameByte, isToplabelByte, isMacroLiteral, isDelimiter};
-ghost use Rattle.text.specs.Runs.{isIn, runEnd};
+ghost use Rattle.text.specs.Runs.{isIn, runEnd, trailingStart};
 
 // A class of bytes.
 pub enum Class {
     Space,
     NotSpace,
     NotDot,
+    NotSlash,
     Upper,
     NotUpper,
     Alpha,
     Digit,
+    LengthByte,
     Alphanumeric,
     HexDigit,
     Visible,
@@ -157,10 +159,12 @@ pub fn is_in(class: Class, b: u8) -> bool
         Class::Space => b == 32,
         Class::NotSpace => b != 32,
         Class::NotDot => b != 46,
+        Class::NotSlash => b != 47,
         Class::Upper => is_within(b, 65, 90),
         Class::NotUpper => is_not_upper(b),
         Class::Alpha => is_alpha(b),
         Class::Digit => is_within(b, 48, 57),
+        Class::LengthByte => is_within(b, 47, 57),
         Class::Alphanumeric => is_alphanumeric(b),
         Class::HexDigit => is_hex_digit(b),
         Class::Visible => is_within(b, 33, 126),
@@ -196,4 +200,20 @@ pub fn to_lower(b: u8) -> u8
         return b + 32;
     }
     b
+}
+
+// The start of the longest run of a class that ends where the slice ends.
+pub fn trailing_start(s: &[u8], class: Class) -> usize
+    ensures { λ r. ⌜ r ≡ trailingStart (isIn class) (now (s .entry)) ⌝ }
+{
+    let mut i = s.len();
+    while 0 < i {
+        let j = i - 1;
+        if is_in(class, s[j]) {
+            i = j;
+        } else {
+            return i;
+        }
+    }
+    0
 }

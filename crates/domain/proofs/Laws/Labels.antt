@@ -21,7 +21,7 @@ use Rattle.text.proofs.Laws.Classes.{within-range, range-within}
 use Rattle.text.proofs.Laws.Runs.{run-le, run-stops, run-within}
 use Rattle.text.proofs.Laws.Spans.{rest-part}
 use Rattle.text.proofs.Laws.Splitting.{front, split-none, split-first, count-in, count-out}
-use Rattle.text.proofs.Laws.Writing.{le-or-lt}
+use Rattle.text.proofs.Laws.Orders.{le-or-lt}
 use Rattle.domain.specs.Names.{labels, isLabel, isName, labelCount}
 
 -- the byte after the front is a dot, and none within it is

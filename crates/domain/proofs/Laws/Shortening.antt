@@ -16,7 +16,7 @@ use Rattle.text.specs.Runs.{isIn, runEnd}
 use Rattle.text.specs.declared.bytes.Class.the-variants.{NotDot}
 use Rattle.text.proofs.Laws.Spans.{rest-part}
 use Rattle.text.proofs.Laws.Splitting.{Some, some, split-some, front, join-dots}
-use Rattle.text.proofs.Laws.Writing.{le-or-lt}
+use Rattle.text.proofs.Laws.Orders.{le-or-lt}
 use Rattle.domain.specs.Names.{labels, labelCount}
 use Rattle.domain.specs.Shortening.{shorterLabels, shortened}
 use Rattle.domain.proofs.Laws.Labels.{front-dot, labels-none, labels-first}

@@ -15,7 +15,7 @@ use Rattle.text.specs.Lists.{all, split, grow, dotBefore, join}
 use Rattle.text.proofs.Laws.Tests.{cond-elim}
 use Rattle.text.proofs.Laws.Classes.{class-inside}
 use Rattle.text.proofs.Laws.Splitting.{Some, some, split-some, split-append, join-dots}
-use Rattle.text.proofs.Laws.Writing.{le-or-lt}
+use Rattle.text.proofs.Laws.Orders.{le-or-lt}
 use Rattle.macros.specs.Grammar.{Piece, literal, escape, expand, MacroExpand, braces, percent, underscore, hyphen, MacroString, DomainEnd, label, label-dot, DomainSpecs, spec}
 use Rattle.macros.specs.Reader.{isLiteral, endsInMacro, isToplabel, lastLabel, endsInLabel}
 use Rattle.macros.specs.declared.Form.{Form}

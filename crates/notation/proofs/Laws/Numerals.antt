@@ -17,7 +17,8 @@ use Rattle.text.specs.declared.decimal.Number.the-variants.{Value}
 use Rattle.text.specs.Writing.{Wrote}
 use Rattle.text.proofs.Laws.Tests.{cond-elim, and-both, and-left, and-right}
 use Rattle.text.proofs.Laws.Classes.{range-within}
-use Rattle.text.proofs.Laws.Writing.{wrote-then, le-or-lt}
+use Rattle.text.proofs.Laws.Orders.{le-or-lt}
+use Rattle.text.proofs.Laws.Writing.{wrote-then}
 use Rattle.notation.specs.Digits.{digit, numeral, inDecimal}
 
 -- a digit as its byte

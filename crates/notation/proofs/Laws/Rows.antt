@@ -13,7 +13,8 @@ use borrow.Author.Tests.{lt-ltb, le-ltb, eq-eqb, ne-eqb}
 use Rattle.text.specs.Lists.{join, dotBefore}
 use Rattle.text.specs.Texts.{bytes}
 use Rattle.text.specs.Writing.{Wrote}
-use Rattle.text.proofs.Laws.Writing.{le-or-lt, wrote-none, wrote-then, length-wrote}
+use Rattle.text.proofs.Laws.Orders.{le-or-lt}
+use Rattle.text.proofs.Laws.Writing.{wrote-none, wrote-then, length-wrote}
 use Rattle.address.specs.Octets.{octetsOf, octets}
 use Rattle.address.specs.declared.Address.{Address}
 use Rattle.address.specs.declared.Address.the-variants.{IPv4, IPv6}

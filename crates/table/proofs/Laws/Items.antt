@@ -13,7 +13,7 @@ use borrow.Author.Tests.{ltb-false, le-ltb, ne-eqb}
 use Rattle.text.specs.Bytes.{at}
 use Rattle.text.specs.Lists.{all}
 use Rattle.text.proofs.Laws.Tests.{cond-elim, and-both}
-use Rattle.text.proofs.Laws.Writing.{le-or-lt}
+use Rattle.text.proofs.Laws.Orders.{le-or-lt}
 use Rattle.table.specs.Layout.{isItem, Two, two, Items, none, more}
 use Rattle.table.specs.Reader.{number, firstItem, otherItems, itemsFrom, itemsOf, nextItem, itemsFitFrom, itemsFit}
 

@@ -8,7 +8,7 @@ use mathlib.Core.Bool.{Bool, true, false, _&&_}
 use lib.ListN.{length, take, drop, length-append, length-take, length-reverse, take-append-drop}
 use lib.Seq.{take-all, drop-at}
 use Rattle.text.specs.Lists.{all, rightmost}
-use Rattle.text.proofs.Laws.Writing.{le-or-lt}
+use Rattle.text.proofs.Laws.Orders.{le-or-lt}
 
 -- a test that a map keeps
 pub all-map : {A : Type 0} (p : A → Bool) (f : A → A) → ((x : A) → p (f x) ≡ p x) → (xs : List A) → all p (map f xs) ≡ all p xs

@@ -2,6 +2,7 @@
 -- of Runs; `p` is the class.
 use Prim.Native.Nat.{ℕ, zero, suc, _+_, _-_, _≤_, _<_}
 use mathlib.Core.Path.{_≡_, refl, sym, ap, subst, _∙_}
+use mathlib.Core.Logic.{⊎-elim}
 use mathlib.Core.List.{List, [], _∷_, _++_}
 use mathlib.Core.Bool.{Bool, true, false, cond, _&&_}
 use native.Mathlib.Omega.{arith}
@@ -13,8 +14,9 @@ use lib.Dec.{eqb, eqb·suc-suc, eqb·zero-suc}
 use borrow.Author.Tests.{eq-eqb, ne-eqb}
 use Rattle.text.specs.Bytes.{at}
 use Rattle.text.specs.Lists.{all}
-use Rattle.text.specs.Runs.{run, runEnd}
-use Rattle.text.proofs.Laws.Tests.{cond-elim}
+use Rattle.text.specs.Runs.{run, runEnd, trailingStart}
+use Rattle.text.proofs.Laws.Tests.{cond-elim, and-left, and-right, and-both}
+use Rattle.text.proofs.Laws.Orders.{le-or-lt}
 use Rattle.text.proofs.Laws.Spans.{Span, span-take}
 
 module _ (p : ℕ → Bool) where
@@ -143,3 +145,64 @@ module _ (p : ℕ → Bool) where
   pub every-is : (s : List ℕ) (e : ℕ) → e ≡ runEnd p s 0 → eqb e (length s) ≡ all p s
   unfolding runEnd
   every-is s e h = rw (h, zero-add) (sym (all-as-run s))
+
+  -- a byte of a list of which all pass
+  pub all-at : (s : List ℕ) (i : ℕ) → i < length s → all p s ≡ true → p (at s i) ≡ true
+  unfolding all
+  all-at [] i h a = absurd (omega arith)
+  all-at (x ∷ xs) zero h a = and-left (p x) (all p xs) a
+  all-at (x ∷ xs) (suc i) h a = all-at xs i (omega arith) (and-right (p x) (all p xs) a)
+
+  -- the trailing run: all from its start on pass, the byte before it doesn't
+  pub trailing-all : (s : List ℕ) → all p (drop (trailingStart p s) s) ≡ true
+  unfolding trailingStart all
+  trailing-all [] = refl
+  trailing-all (x ∷ xs) = by (all p (x ∷ xs)) refl (trailing-all xs)
+    where
+      by : (t : Bool) → all p (x ∷ xs) ≡ t → all p (drop (trailingStart p xs) xs) ≡ true → all p (drop (cond t 0 (suc (trailingStart p xs))) (x ∷ xs)) ≡ true
+      by true e ih = e
+      by false e ih = ih
+
+  pub trailing-le : (s : List ℕ) → trailingStart p s ≤ length s
+  unfolding trailingStart
+  trailing-le [] = omega arith
+  trailing-le (x ∷ xs) = let h = trailing-le xs in cond-elim (λ (n : ℕ). n ≤ suc (length xs)) (all p (x ∷ xs)) {x = 0} {y = suc (trailingStart p xs)} (λ _. omega arith) (λ _. omega arith)
+
+  -- it is the first such place
+  pub trailing-first : (s : List ℕ) (i : ℕ) → all p (drop i s) ≡ true → trailingStart p s ≤ i
+  unfolding trailingStart
+  trailing-first [] i h = omega arith
+  trailing-first (x ∷ xs) zero h = simp h (omega arith)
+  trailing-first (x ∷ xs) (suc i) h =
+      let k = trailing-first xs i h in
+      cond-elim (λ (n : ℕ). n ≤ suc i) (all p (x ∷ xs)) {x = 0} {y = suc (trailingStart p xs)} (λ _. omega arith) (λ _. omega arith)
+
+  -- and the start is known by its two sides
+  pub trailing-is : (s : List ℕ) (i : ℕ) → all p (drop i s) ≡ true → ((j : ℕ) → all p (drop j s) ≡ true → i ≤ j) → i ≡ trailingStart p s
+  trailing-is s i h k = let a = trailing-first s i h in let b = k (trailingStart p s) (trailing-all s) in omega arith
+
+  -- the loop of `trailing_start`: all from i on pass
+  module _ (s : List ℕ) (i : ℕ) (inside : i ≤ length s) (inv : all p (drop i s) ≡ true) where
+    pub trailing-next : 0 < i → (r : Bool) → r ≡ p (at s (i - 1)) → r ≡ true → all p (drop (i - 1) s) ≡ true
+    unfolding all
+    trailing-next h r e q =
+        let n : suc (i - 1) ≡ i = omega arith in
+        let d : drop (i - 1) s ≡ at s (i - 1) ∷ drop i s = drop-cons s (i - 1) 0 (omega arith) ∙ ap (λ (k : ℕ). at s (i - 1) ∷ drop k s) n in
+        ap (all p) d ∙ and-both (p (at s (i - 1))) (all p (drop i s)) (sym e ∙ q) inv
+
+    pub trailing-stop : 0 < i → (r : Bool) → r ≡ p (at s (i - 1)) → r ≡ false → i ≡ trailingStart p s
+    trailing-stop h r e q = trailing-is s i inv (λ j a. ⊎-elim (λ (l : i ≤ j). l) (λ (l : j < i). absurd (never j l a)) (le-or-lt i j))
+      where
+        never : (j : ℕ) → j < i → all p (drop j s) ≡ true → ⊥
+        never j l a =
+            let f : at s (i - 1) ≡ getD (drop j s) (i - 1 - j) 0 = sym (getD-drop j s (i - 1 - j) 0 ∙ ap (λ (n : ℕ). getD s n 0) (omega arith)) in
+            let t : p (getD (drop j s) (i - 1 - j) 0) ≡ true = all-at (drop j s) (i - 1 - j) (omega (arith, length-drop j s)) a in
+            let z : _≡_ {A = ℕ} 0 1 = cc in
+            omega arith
+
+    pub trailing-zero : i ≤ 0 → 0 ≡ trailingStart p s
+    trailing-zero h = let e : i ≡ 0 = omega arith in trailing-is s 0 (rw e at inv) (λ j a. omega arith)
+
+  pub trailing-begin : (s : List ℕ) → all p (drop (length s) s) ≡ true
+  unfolding all
+  trailing-begin s = rw (drop-length s)

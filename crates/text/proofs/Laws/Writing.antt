@@ -12,13 +12,7 @@ use mathlib.Core.List.{List, [], _∷_, _++_, map, map-append, append-nil}
 use lib.ListN.{length, getD, take, drop, set, length-set, length-append, take-append-drop, drop-of-length-le}
 use lib.Seq.{sets, length-sets, sets-eq, set-out, take-suc, take-all, length-take-le}
 use Rattle.text.specs.Writing.{Wrote, overwritten}
-
-pub le-or-lt : (m n : ℕ) → (m ≤ n) ⊎ (n < m)
-le-or-lt m n = by (leb m n) refl
-  where
-    by : (t : Bool) → leb m n ≡ t → (m ≤ n) ⊎ (n < m)
-    by true e = inl (leb-true m n e)
-    by false e = inr (leb-false m n e)
+use Rattle.text.proofs.Laws.Orders.{le-or-lt}
 
 pub sets-append : (xs ys l : List ℕ) (i : ℕ) → sets l i (xs ++ ys) ≡ sets (sets l i xs) (i + length xs) ys
 sets-append [] ys l i = rw add-zero
