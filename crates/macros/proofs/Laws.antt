@@ -20,3 +20,9 @@ pub mod Pieces
 pub mod Labels
 -- Reading: the ways out of the functions that read macro strings.
 pub mod Reading
+-- Senders: the tests of the given values, and the parts of a sender.
+pub mod Senders
+-- Emitting: the texts of pieces, written one after the other.
+pub mod Emitting
+-- Expanding: the values of the letters, and the answers of an expansion.
+pub mod Expanding

@@ -3,3 +3,11 @@
 pub mod Grammar
 -- Reader: macro strings as the code reads them; the laws tie it to the productions.
 pub mod Reader
+-- Expansion: the value of each letter, and what a macro string expands to.
+pub mod Expansion
+-- Numbers: 01's number for each answer of an expansion, and the lent buffer afterwards.
+pub mod Numbers
+-- Question: the question name of an expansion.
+pub mod Question
+-- Examples: expansions that are proved.
+pub mod Examples
