@@ -1,0 +1,104 @@
+-- Networks and prefix lengths as productions: RFC 7208 appendix A and RFC 4291 section 2.2, with 01's amendments. Each relates bytes to what they
+-- write. Nothing of a reader is imported.
+use Prim.Native.Nat.{ℕ, zero, suc, _+_, _-_, _*_, _≤_}
+use mathlib.Core.Path.{_≡_}
+use mathlib.Core.List.{List, [], _∷_, _++_}
+use mathlib.Core.Bool.{Bool, true, cond}
+use lib.ListN.{length, take, drop, replicate}
+use Rattle.text.specs.Bytes.{within, isDigit, isHexDigit, lower}
+use Rattle.text.specs.Lists.{all}
+use Rattle.text.specs.Decimal.{decimal}
+use Rattle.address.specs.Octets.{valueOf}
+use Rattle.address.specs.declared.Address.{Address}
+use Rattle.address.specs.declared.Address.the-variants.{IPv4, IPv6}
+
+-- qnum = DIGIT / %x31-39 DIGIT / "1" 2DIGIT / "2" %x30-34 DIGIT / "25" %x30-35, with the number it writes
+pub data Qnum : List ℕ → ℕ → Type 0 where
+  units : {a : ℕ} → isDigit a ≡ true → Qnum (a ∷ []) (decimal (a ∷ []))
+  tens : {a b : ℕ} → within 49 57 a ≡ true → isDigit b ≡ true → Qnum (a ∷ b ∷ []) (decimal (a ∷ b ∷ []))
+  hundred : {b c : ℕ} → isDigit b ≡ true → isDigit c ≡ true → Qnum (49 ∷ b ∷ c ∷ []) (decimal (49 ∷ b ∷ c ∷ []))
+  two-hundred : {b c : ℕ} → within 48 52 b ≡ true → isDigit c ≡ true → Qnum (50 ∷ b ∷ c ∷ []) (decimal (50 ∷ b ∷ c ∷ []))
+  two-fifty : {c : ℕ} → within 48 53 c ≡ true → Qnum (50 ∷ 53 ∷ c ∷ []) (decimal (50 ∷ 53 ∷ c ∷ []))
+
+-- ip4-network = qnum "." qnum "." qnum "." qnum, with its octets
+pub data Ip4Network : List ℕ → List ℕ → Type 0 where
+  octets : {p q r s : List ℕ} {a b c d : ℕ} → Qnum p a → Qnum q b → Qnum r c → Qnum s d
+      → Ip4Network (p ++ (46 ∷ (q ++ (46 ∷ (r ++ (46 ∷ s)))))) (a ∷ b ∷ c ∷ d ∷ [])
+
+-- the value of a hex digit, and the number that hex digits write
+unfoldable pub hexValue : ℕ → ℕ
+hexValue b = cond (isDigit b) (b - 48) (lower b - 87)
+
+unfoldable pub hexFrom : ℕ → List ℕ → ℕ
+hexFrom v [] = v
+hexFrom v (b ∷ s) = hexFrom (16 * v + hexValue b) s
+
+-- a group of an IPv6 address: 1 to 4 hex digits, in either case, leading zeros allowed
+pub data Group : List ℕ → ℕ → Type 0 where
+  digits : {w : List ℕ} → within 1 4 (length w) ≡ true → all isHexDigit w ≡ true → Group w (hexFrom 0 w)
+
+-- groups joined by ":"
+pub data Groups : List ℕ → List ℕ → Type 0 where
+  one : {w : List ℕ} {g : ℕ} → Group w g → Groups w (g ∷ [])
+  more : {w rest : List ℕ} {g : ℕ} {gs : List ℕ} → Group w g → Groups rest gs → Groups (w ++ (58 ∷ rest)) (g ∷ gs)
+
+-- groups joined by ":", of which the last may be an IPv4 tail: "an IPv4 tail, written as for ip4, counts as two groups"
+pub data Row : List ℕ → List ℕ → Type 0 where
+  one : {w : List ℕ} {g : ℕ} → Group w g → Row w (g ∷ [])
+  tail : {w : List ℕ} {a b c d : ℕ} → Ip4Network w (a ∷ b ∷ c ∷ d ∷ []) → Row w ((256 * a + b) ∷ (256 * c + d) ∷ [])
+  more : {w rest : List ℕ} {g : ℕ} {gs : List ℕ} → Group w g → Row rest gs → Row (w ++ (58 ∷ rest)) (g ∷ gs)
+
+-- what stands before and after "::"
+pub data Before : List ℕ → List ℕ → Type 0 where
+  nothing : Before [] []
+  groups : {w gs : List ℕ} → Groups w gs → Before w gs
+
+pub data After : List ℕ → List ℕ → Type 0 where
+  nothing : After [] []
+  row : {w gs : List ℕ} → Row w gs → After w gs
+
+-- ip6-network (RFC 4291 section 2.2), with its eight groups: "`::` at most once and for at least one group"
+pub data Ip6Network : List ℕ → List ℕ → Type 0 where
+  full : {w gs : List ℕ} → Row w gs → length gs ≡ 8 → Ip6Network w gs
+  short : {u w ls rs : List ℕ} → Before u ls → After w rs → length ls + length rs ≤ 7
+      → Ip6Network (u ++ (58 ∷ 58 ∷ w)) (ls ++ (replicate (8 - (length ls + length rs)) 0 ++ rs))
+
+-- the number that 16-bit groups write
+unfoldable pub groupsFrom : ℕ → List ℕ → ℕ
+groupsFrom v [] = v
+groupsFrom v (g ∷ gs) = groupsFrom (65536 * v + g) gs
+
+-- a network's text with the address that it writes
+pub data Network4 : List ℕ → Address → Type 0 where
+  network : {w os : List ℕ} → Ip4Network w os → Network4 w (IPv4 (valueOf os))
+
+pub data Network6 : List ℕ → Address → Type 0 where
+  network : {w gs : List ℕ} → Ip6Network w gs → Network6 w (IPv6 (groupsFrom 0 (take 4 gs)) (groupsFrom 0 (drop 4 gs)))
+
+-- the number of a prefix length: "0" / %x31-39 *DIGIT, up to a limit: "IPv4 lengths 0 to 32 and IPv6 lengths 0 to 128, no leading zero"
+pub data LengthNumber (limit : ℕ) : List ℕ → ℕ → Type 0 where
+  nought : LengthNumber limit (48 ∷ []) 0
+  number : {a : ℕ} {w : List ℕ} → within 49 57 a ≡ true → all isDigit w ≡ true → decimal (a ∷ w) ≤ limit → LengthNumber limit (a ∷ w) (decimal (a ∷ w))
+
+-- ip4-cidr-length = "/" ("0" / %x31-39 0*1DIGIT) ; value range 0-32
+pub data Ip4CidrLength : List ℕ → ℕ → Type 0 where
+  slash : {w : List ℕ} {n : ℕ} → LengthNumber 32 w n → Ip4CidrLength (47 ∷ w) n
+
+-- ip6-cidr-length = "/" ("0" / %x31-39 0*2DIGIT) ; value range 0-128
+pub data Ip6CidrLength : List ℕ → ℕ → Type 0 where
+  slash : {w : List ℕ} {n : ℕ} → LengthNumber 128 w n → Ip6CidrLength (47 ∷ w) n
+
+-- [ ip4-cidr-length ], [ "/" ip6-cidr-length ]: "Absent means 32 and 128."
+pub data Length4 : List ℕ → ℕ → Type 0 where
+  absent : Length4 [] 32
+  present : {w : List ℕ} {n : ℕ} → Ip4CidrLength w n → Length4 w n
+
+-- [ ip6-cidr-length ] after an ip6-network
+pub data Length6 : List ℕ → ℕ → Type 0 where
+  absent : Length6 [] 128
+  present : {w : List ℕ} {n : ℕ} → Ip6CidrLength w n → Length6 w n
+
+-- dual-cidr-length = [ ip4-cidr-length ] [ "/" ip6-cidr-length ]: "`a` and `mx` take `/n`, `//m` or `/n//m`"
+pub data DualCidrLength : List ℕ → ℕ → ℕ → Type 0 where
+  four-only : {w : List ℕ} {n : ℕ} → Length4 w n → DualCidrLength w n 128
+  both : {w v : List ℕ} {n m : ℕ} → Length4 w n → Ip6CidrLength v m → DualCidrLength (w ++ (47 ∷ v)) n m

@@ -1,0 +1,70 @@
+// The texts of IPv4 networks.
+ghost use mathlib.Core.Path.{_≡_};
+ghost use mathlib.Core.List.{[], _∷_};
+ghost use Rattle.address.specs.Octets.{valueOf};
+ghost use Rattle.networks.specs.Grammar.{Network4};
+ghost use Rattle.networks.specs.Answers.{NetworkAnswer};
+ghost use Rattle.networks.specs.Reader.{octetAt, dotOctetAt, readIp4};
+use crate::Network;
+use address::Address;
+use text::bytes;
+use text::bytes::Class;
+use text::decimal;
+use text::decimal::Number;
+
+// An octet and the place after it, or that none was read.
+enum Octet {
+    Ends(u8, usize),
+    NoOctet,
+}
+
+// The longest run of digits from a place on as a qnum.
+fn read_octet(s: &[u8], at: usize) -> Octet
+    ensures { λ r. ⌜ r ≡ octetAt (now (s .entry)) at ⌝ }
+{
+    let end = bytes::run_end(s, at, Class::Digit);
+    let Number::Value(v) = decimal::read_number(bytes::part(s, at, end), 255) else {
+        return Octet::NoOctet;
+    };
+    Octet::Ends(v as u8, end)
+}
+
+// A dot and a qnum.
+fn read_dot_octet(s: &[u8], at: usize) -> Octet
+    ensures { λ r. ⌜ r ≡ dotOctetAt (now (s .entry)) at ⌝ }
+{
+    if bytes::peek(s, at) == 46 {
+        return read_octet(s, at + 1);
+    }
+    Octet::NoOctet
+}
+
+// The number that four octets write.
+fn value_of(a: u8, b: u8, c: u8, d: u8) -> u32
+    ensures { λ r. ⌜ r ≡ valueOf (a ∷ b ∷ c ∷ d ∷ []) ⌝ }
+{
+    ((a as u32 * 256 + b as u32) * 256 + c as u32) * 256 + d as u32
+}
+
+// The whole text as an ip4-network.
+pub fn read_ip4(s: &[u8]) -> Network
+    ensures { λ r. ⌜ r ≡ readIp4 (now (s .entry)) ⌝ }
+    ensures { λ r. ⌜ NetworkAnswer (Network4 (now (s .entry))) r ⌝ }
+{
+    let Octet::Ends(a, i) = read_octet(s, 0) else {
+        return Network::NoNetwork;
+    };
+    let Octet::Ends(b, j) = read_dot_octet(s, i) else {
+        return Network::NoNetwork;
+    };
+    let Octet::Ends(c, k) = read_dot_octet(s, j) else {
+        return Network::NoNetwork;
+    };
+    let Octet::Ends(d, l) = read_dot_octet(s, k) else {
+        return Network::NoNetwork;
+    };
+    if l == s.len() {
+        return Network::Is(Address::IPv4(value_of(a, b, c, d)));
+    }
+    Network::NoNetwork
+}

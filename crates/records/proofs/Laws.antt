@@ -1,0 +1,36 @@
+-- Names: words in either case, the name of a term, and which mechanism it is.
+pub mod Names
+-- Specs: domain-specs as terms hold them, after a colon or absent.
+pub mod Specs
+-- Hosts: domain-spec and prefix lengths of `a` and `mx`, and where the lengths begin.
+pub mod Hosts
+-- Networks: `ip4` and `ip6`, a network and its prefix length.
+pub mod Networks
+-- Mechanisms: one mechanism after its qualifier.
+pub mod Mechanisms
+-- Modifiers: `redirect`, `exp` and unknown modifiers.
+pub mod Modifiers
+-- Tokens: one term: what the reader takes a run of non-spaces for, against the productions.
+pub mod Tokens
+-- NextRuns: spaces and then a run of non-spaces, from a place on.
+pub mod NextRuns
+-- Terms: reading one term, against the productions.
+pub mod Terms
+-- Counts: how often a name has stood, against the reader's two flags.
+pub mod Counts
+-- Walks: terms one after the other, as the productions have them and as the reader finds them.
+pub mod Walks
+-- Versions: the version section.
+pub mod Versions
+-- Rests: what the reader answers from a place on is what the productions say.
+pub mod Rests
+-- Records: reading a record, and term after term, against the productions.
+pub mod Records
+-- Steps: what the code has read as the answer that a definition goes by.
+pub mod Steps
+-- Reading: the ways out of the functions that read one term.
+pub mod Reading
+-- Checking: the ways out of the functions on the whole record.
+pub mod Checking
+-- Claim: reading a record and then its terms, as one claim.
+pub mod Claim

@@ -1,0 +1,265 @@
+-- The ways out of the functions that read a record, each with a rule whose premises are what the code knows there, and that a term's next
+-- place lies further on. From the definitions of Reader, the laws of runs, and what Terms and Records say of the answers.
+use Prim.Native.Nat.{ℕ, zero, suc, _+_, _-_, _≤_, _<_}
+use mathlib.Core.Path.{_≡_, refl, sym, ap, subst, _∙_}
+use mathlib.Core.List.{List, [], _∷_, map}
+use mathlib.Core.Bool.{Bool, true, false, _&&_, _||_}
+use native.Mathlib.Omega.{arith}
+use native.Mathlib.Nat.{sub-self}
+use lib.ListN.{length, take, drop, length-map, length-take, length-drop}
+use lib.Seq.{getD-drop}
+use lib.Dec.{ltb, eqb}
+use borrow.Author.Tests.{eq-eqb, ne-eqb, eqb-false, ltb-false, lt-ltb, le-ltb}
+use types.Run.{OneOf, miss}
+use denote.Enum.Declared.{tagOf, declared}
+use Rattle.text.specs.Bytes.{at, part, lower, isSpace, isNotSpace}
+use Rattle.text.specs.Lists.{sameWord}
+use Rattle.text.specs.Texts.{bytes}
+use Rattle.text.specs.Runs.{isIn, run, runEnd}
+use Rattle.text.specs.declared.bytes.Class.the-variants.{Space, NotSpace}
+use Rattle.text.proofs.Laws.Runs.{run-stops, run-end-next, run-end-from, run-end-inside}
+use Rattle.text.proofs.Laws.Spans.{part-past}
+use Rattle.text.proofs.Laws.Tests.{cond-elim, and-left}
+use Rattle.text.proofs.Laws.Words.{same-true}
+use Rattle.records.specs.declared.Term.{Term}
+use Rattle.records.specs.declared.Token.{Token}
+use Rattle.records.specs.declared.TermAnswer.{TermAnswer}
+use Rattle.records.specs.declared.RecordAnswer.{RecordAnswer}
+use Rattle.records.specs.Numbers.{argumentOf, termReport, recordReport}
+use Rattle.records.specs.Answers.{TermAnswers, RecordAnswers}
+use Rattle.records.specs.Reader.{tokenOf, tokenAnswer, termFrom, readTerm, isRedirect, isExplanation, endedOf, checkAfter, checkFrom, hasVersion, readRecord}
+use Rattle.records.proofs.Term as term-type
+use Rattle.records.proofs.TermAnswer as answer-type
+use Rattle.records.proofs.Laws.Terms.{term-answers}
+use Rattle.records.proofs.Laws.Records.{record-answers}
+
+-- `term_from`
+pub from-end : (s : List ℕ) (p : ℕ) → p ≡ length s → TermAnswer.End ≡ termFrom s p
+unfolding termFrom
+from-end s p h = sym (simp (eq-eqb p (length s) h))
+
+module _ (s : List ℕ) (p : ℕ) (some : p ≡ length s → ⊥) (e : ℕ) (q : e ≡ runEnd (isIn NotSpace) s p) (w : List ℕ) (g : w ≡ part s p e) (x : Token) (h : x ≡ tokenOf w) where
+  from : termFrom s p ≡ tokenAnswer p e x
+  unfolding termFrom
+  from = simp (ne-eqb p (length s) some, h, g, q)
+
+  pub from-bad : x ≡ Token.Outside → TermAnswer.Refused 32 p ≡ termFrom s p
+  unfolding tokenAnswer
+  from-bad f = sym (from ∙ ap (tokenAnswer p e) f)
+
+  pub from-term : (t : Term) → x ≡ Token.Is t → TermAnswer.Is p e t ≡ termFrom s p
+  unfolding tokenAnswer
+  from-term t f = sym (from ∙ ap (tokenAnswer p e) f)
+
+-- `read_term`
+module _ (s : List ℕ) (i : ℕ) where
+  pub term-answered : (r : TermAnswer) → r ≡ readTerm s i → (r ≡ readTerm s i) × TermAnswers s i (termReport s r)
+  term-answered r e = (e, subst (λ (x : TermAnswer). TermAnswers s i (termReport s x)) (sym e) (term-answers s i))
+
+  pub term-long : 4096 < length s → TermAnswer.Refused 30 0 ≡ readTerm s i
+  unfolding readTerm
+  term-long h = sym (simp (lt-ltb 4096 (length s) h))
+
+  module _ (short : length s ≤ 4096) where
+    pub term-past : length s < i → TermAnswer.Refused 34 i ≡ readTerm s i
+    unfolding readTerm
+    term-past h = sym (simp (le-ltb 4096 (length s) short, lt-ltb (length s) i h))
+
+    pub term-found : i ≤ length s → (p : ℕ) → p ≡ runEnd (isIn Space) s i → (r : TermAnswer) → r ≡ termFrom s p → r ≡ readTerm s i
+    unfolding readTerm
+    term-found h p q r e = e ∙ sym (simp (le-ltb 4096 (length s) short, le-ltb (length s) i h, q))
+
+  pub space-inside : i ≤ length s → (p : ℕ) → p ≡ runEnd (isIn Space) s i → p ≤ length s
+  space-inside h p q = let l = run-end-inside (isIn Space) s i h in omega (arith, q)
+
+-- the next place of a term
+abbrev NextRight : List ℕ → ℕ → TermAnswer → Type 0
+NextRight s i (TermAnswer.Is p e t) = (i < e) × (e ≤ length s)
+NextRight s i TermAnswer.End = Unit {0}
+NextRight s i (TermAnswer.Refused n p) = Unit {0}
+
+token-next : (s : List ℕ) (i p e : ℕ) → i < e → e ≤ length s → (x : Token) → NextRight s i (tokenAnswer p e x)
+unfolding tokenAnswer
+token-next s i p e h g (Token.Is t) = (h, g)
+token-next s i p e h g Token.Outside = tt
+
+not-space : (b : ℕ) → isIn Space b ≡ false → isIn NotSpace b ≡ true
+unfolding isIn isSpace isNotSpace
+not-space b h = simp h
+
+-- after a run of spaces that ends inside stands another byte
+space-stops : (s : List ℕ) (i : ℕ) → runEnd (isIn Space) s i < length s → isIn NotSpace (at s (runEnd (isIn Space) s i)) ≡ true
+unfolding runEnd
+space-stops s i h =
+    not-space (at s (i + run (isIn Space) (drop i s)))
+    (ap (isIn Space) (sym (getD-drop i s (run (isIn Space) (drop i s)) 0))
+    ∙ run-stops (isIn Space) (drop i s) (omega (arith, length-drop i s)))
+
+from-next : (s : List ℕ) (i : ℕ) → i ≤ length s → NextRight s i (termFrom s (runEnd (isIn Space) s i))
+unfolding termFrom
+from-next s i h =
+    let p = runEnd (isIn Space) s i in
+    let l : p ≤ length s = run-end-inside (isIn Space) s i h in
+    let f : i ≤ p = run-end-from (isIn Space) s i in
+    cond-elim (NextRight s i) (eqb p (length s)) (λ _. tt)
+    (λ n. let d = eqb-false p (length s) n in
+    let k : p < length s = omega arith in
+    let a = run-end-next (isIn NotSpace) s p k (space-stops s i k) in
+    let b = run-end-from (isIn NotSpace) s (p + 1) in
+    let c = run-end-inside (isIn NotSpace) s p l in
+    token-next s i p (runEnd (isIn NotSpace) s p) (omega arith) c (tokenOf (part s p (runEnd (isIn NotSpace) s p))))
+
+read-next : (s : List ℕ) (i : ℕ) → NextRight s i (readTerm s i)
+unfolding readTerm
+read-next s i =
+    cond-elim (NextRight s i) (ltb 4096 (length s)) (λ _. tt)
+    (λ _. cond-elim (NextRight s i) (ltb (length s) i) (λ _. tt) (λ n. from-next s i (ltb-false (length s) i n)))
+
+term-next : (s : List ℕ) (i : ℕ) (r : TermAnswer) → r ≡ readTerm s i → (p e : ℕ) (t : Term) → r ≡ TermAnswer.Is p e t → (i < e) × (e ≤ length s)
+term-next s i r q p e t h = subst (NextRight s i) (sym q ∙ h) (read-next s i)
+
+module _ (s : List ℕ) (i : ℕ) (r : TermAnswer) (q : r ≡ readTerm s i) (p e : ℕ) (t : Term) (h : r ≡ TermAnswer.Is p e t) where
+  pub next-inside : e ≤ length s
+  next-inside = term-next s i r q p e t h .1
+
+  -- so that what is left to read falls
+  pub next-less : (m : ℕ) → i ≤ length s → length s - i ≡ m → length s - e < m
+  next-less m l k = let n = term-next s i r q p e t h in omega (arith, n .0, n .1)
+
+-- `value_part`
+part-none : (w : List ℕ) → part w (length w) (length w) ≡ []
+part-none w = simp (sub-self (length w))
+
+pub value-none : (w : List ℕ) (name to : ℕ) → length w ≤ name → (r : List ℕ) → r ≡ part w (length w) (length w) → r ≡ part w (name + 1) to
+value-none w name to h r e = e ∙ part-none w ∙ part-past w (name + 1) (omega arith) to
+
+-- `argument`
+module _ (s : List ℕ) (i next : ℕ) (w : List ℕ) (p : w ≡ part s i next) (t : Term) (r : List ℕ) where
+  pub argument-by : (x : Term) → t ≡ x → r ≡ argumentOf w x → r ≡ argumentOf (part s i next) t
+  argument-by x e h = h ∙ simp (p, e)
+
+  pub argument-none : (sign : ℕ) → t ≡ Term.All sign → r ≡ part w (length w) (length w) → r ≡ argumentOf (part s i next) t
+  unfolding argumentOf
+  argument-none sign e h = h ∙ part-none w ∙ sym (simp e)
+
+-- `has_version`
+module _ (s t : List ℕ) (p : t ≡ part s 0 6) (x : Bool) (q : x ≡ sameWord t (bytes "v=spf1")) where
+  version : sameWord (part s 0 6) (bytes "v=spf1") ≡ x
+  version = ap (λ (u : List ℕ). sameWord u (bytes "v=spf1")) (sym p) ∙ sym q
+
+  pub version-alone : x ≡ true → length s ≡ 6 → true ≡ hasVersion s
+  unfolding hasVersion
+  version-alone h e = sym (simp (version ∙ h, eq-eqb (length s) 6 e))
+
+  pub version-space : x ≡ true → (length s ≡ 6 → ⊥) → (b : ℕ) → b ≡ at s 6 → eqb b 32 ≡ hasVersion s
+  unfolding hasVersion
+  version-space h e b g = sym (simp (version ∙ h, ne-eqb (length s) 6 e, g))
+
+  pub version-other : x ≡ false → false ≡ hasVersion s
+  unfolding hasVersion
+  version-other h = sym (simp (version ∙ h))
+
+pub version-inside : (s : List ℕ) (x : Bool) → x ≡ hasVersion s → x ≡ true → 6 ≤ length s
+unfolding hasVersion sameWord
+version-inside s x p q =
+    let h = and-left (sameWord (part s 0 6) (bytes "v=spf1")) (eqb (length s) 6 || eqb (at s 6) 32) (sym p ∙ q) in
+    let e : map lower (take 6 s) ≡ bytes "v=spf1" = same-true (map lower (take 6 s)) (bytes "v=spf1") h in
+    omega (arith, ap length e, length-map (take 6 s) lower, length-take 6 s)
+
+-- `is_redirect`, `is_explanation`, where a term is of another case
+pub no-redirect : (t : Term) → OneOf (0 ∷ 1 ∷ 2 ∷ 3 ∷ 4 ∷ 5 ∷ 6 ∷ 8 ∷ 9 ∷ []) (tagOf (declared term-type.enum) t) → false ≡ isRedirect t
+unfolding isRedirect
+no-redirect (Term.Redirect from to) h = absurd (miss (0 ∷ 1 ∷ 2 ∷ 3 ∷ 4 ∷ 5 ∷ 6 ∷ 8 ∷ 9 ∷ []) 7 tt h)
+no-redirect (Term.All sign) h = refl
+no-redirect (Term.Include sign from to) h = refl
+no-redirect (Term.A sign from to n m) h = refl
+no-redirect (Term.Mx sign from to n m) h = refl
+no-redirect (Term.Ptr sign from to) h = refl
+no-redirect (Term.Network sign from to x n) h = refl
+no-redirect (Term.Exists sign from to) h = refl
+no-redirect (Term.Explanation from to) h = refl
+no-redirect (Term.Unknown name to) h = refl
+
+pub no-explanation : (t : Term) → OneOf (0 ∷ 1 ∷ 2 ∷ 3 ∷ 4 ∷ 5 ∷ 6 ∷ 7 ∷ 9 ∷ []) (tagOf (declared term-type.enum) t) → false ≡ isExplanation t
+unfolding isExplanation
+no-explanation (Term.Explanation from to) h = absurd (miss (0 ∷ 1 ∷ 2 ∷ 3 ∷ 4 ∷ 5 ∷ 6 ∷ 7 ∷ 9 ∷ []) 8 tt h)
+no-explanation (Term.All sign) h = refl
+no-explanation (Term.Include sign from to) h = refl
+no-explanation (Term.A sign from to n m) h = refl
+no-explanation (Term.Mx sign from to n m) h = refl
+no-explanation (Term.Ptr sign from to) h = refl
+no-explanation (Term.Network sign from to x n) h = refl
+no-explanation (Term.Exists sign from to) h = refl
+no-explanation (Term.Redirect from to) h = refl
+no-explanation (Term.Unknown name to) h = refl
+
+pub redirect-is : (t : Term) (from to : ℕ) → t ≡ Term.Redirect from to → true ≡ isRedirect t
+unfolding isRedirect
+redirect-is t from to e = sym (simp e)
+
+pub explanation-is : (t : Term) (from to : ℕ) → t ≡ Term.Explanation from to → true ≡ isExplanation t
+unfolding isExplanation
+explanation-is t from to e = sym (simp e)
+
+-- `repeats`
+module _ (r e : Bool) (t : Term) (a : Bool) (p : a ≡ isRedirect t) (x : Bool) (q : x ≡ (r && a)) where
+  pub repeats-redirect : x ≡ true → true ≡ ((r && isRedirect t) || (e && isExplanation t))
+  repeats-redirect h = sym (simp (ap (λ (b : Bool). r && b) (sym p) ∙ sym q ∙ h))
+
+  pub repeats-explanation : x ≡ false → (b : Bool) → b ≡ isExplanation t → (y : Bool) → y ≡ (e && b) → y ≡ ((r && isRedirect t) || (e && isExplanation t))
+  repeats-explanation h b f y g = g ∙ ap (λ (z : Bool). e && z) f ∙ sym (simp (ap (λ (b : Bool). r && b) (sym p) ∙ sym q ∙ h))
+
+-- `ended`
+pub ended-by : (a x : TermAnswer) (r : RecordAnswer) → a ≡ x → r ≡ endedOf x → r ≡ endedOf a
+ended-by a x r e h = h ∙ ap endedOf (sym e)
+
+-- `check_terms`
+ended-after : (r e : Bool) (rest : ℕ → Bool → Bool → RecordAnswer) (a : TermAnswer) → OneOf (1 ∷ 2 ∷ []) (tagOf (declared answer-type.enum) a) → endedOf a ≡ checkAfter r e a rest
+unfolding endedOf checkAfter
+ended-after r e rest (TermAnswer.Is p n t) h = absurd (miss (1 ∷ 2 ∷ []) 0 tt h)
+ended-after r e rest TermAnswer.End h = refl
+ended-after r e rest (TermAnswer.Refused n p) h = refl
+
+module _ (s : List ℕ) (i : ℕ) (r e : Bool) (inside : i ≤ length s) (a : TermAnswer) (p : a ≡ readTerm s i) where
+  pub check-ended : OneOf (1 ∷ 2 ∷ []) (tagOf (declared answer-type.enum) a) → (x : RecordAnswer) → x ≡ endedOf a
+      → (f : ℕ) → length s < f + i → x ≡ checkFrom f s i r e
+  unfolding checkFrom
+  check-ended h x g zero l = absurd (omega arith)
+  check-ended h x g (suc f) l = g ∙ ended-after r e (checkFrom f s) a h ∙ ap (λ (y : TermAnswer). checkAfter r e y (checkFrom f s)) p
+
+  module _ (at n : ℕ) (t : Term) (q : a ≡ TermAnswer.Is at n t) (x : Bool) (g : x ≡ ((r && isRedirect t) || (e && isExplanation t))) where
+    read : readTerm s i ≡ TermAnswer.Is at n t
+    read = sym p ∙ q
+
+    pub check-repeats : x ≡ true → (f : ℕ) → length s < f + i → RecordAnswer.Refused 33 at ≡ checkFrom f s i r e
+    unfolding checkFrom checkAfter
+    check-repeats h zero l = absurd (omega arith)
+    check-repeats h (suc f) l = sym (simp (read, sym g ∙ h))
+
+    module _ (b : Bool) (hb : b ≡ isRedirect t) (r′ : Bool) (hr : r′ ≡ (r || b)) (c : Bool) (hc : c ≡ isExplanation t) (e′ : Bool) (he : e′ ≡ (e || c)) where
+      pub check-next : x ≡ false → (y : RecordAnswer) → ((f : ℕ) → length s < f + n → y ≡ checkFrom f s n r′ e′)
+          → (f : ℕ) → length s < f + i → y ≡ checkFrom f s i r e
+      unfolding checkFrom checkAfter
+      check-next h y ih zero l = absurd (omega arith)
+      check-next h y ih (suc f) l =
+          let k = term-next s i a p at n t q in
+          let j : checkFrom f s n r′ e′ ≡ checkFrom f s n (r || isRedirect t) (e || isExplanation t) = simp (hr, hb, he, hc) in
+          ih f (omega (arith, k .0)) ∙ j ∙ sym (simp (read, sym g ∙ h))
+
+-- `read_record`
+module _ (s : List ℕ) where
+  pub record-answered : (r : RecordAnswer) → r ≡ readRecord s → (r ≡ readRecord s) × RecordAnswers s (recordReport r)
+  record-answered r e = (e, subst (λ (x : RecordAnswer). RecordAnswers s (recordReport x)) (sym e) (record-answers s))
+
+  pub record-long : 4096 < length s → RecordAnswer.Refused 30 0 ≡ readRecord s
+  unfolding readRecord
+  record-long h = sym (simp (lt-ltb 4096 (length s) h))
+
+  module _ (short : length s ≤ 4096) (x : Bool) (p : x ≡ hasVersion s) where
+    pub record-other : x ≡ false → RecordAnswer.Refused 31 0 ≡ readRecord s
+    unfolding readRecord
+    record-other h = sym (simp (le-ltb 4096 (length s) short, sym p ∙ h))
+
+    pub record-checked : x ≡ true → (r : RecordAnswer) → ((f : ℕ) → length s < f + 6 → r ≡ checkFrom f s 6 false false) → r ≡ readRecord s
+    unfolding readRecord
+    record-checked h r g = g (suc (length s)) (omega arith) ∙ sym (simp (le-ltb 4096 (length s) short, sym p ∙ h))

@@ -1,0 +1,235 @@
+-- Names: a word in either case of its letters, the name of a term as the longest run of name bytes, and which mechanism a name is. From the
+-- definitions of Grammar and Reader and the laws of runs.
+use Prim.Native.Nat.{ℕ, _+_}
+use mathlib.Core.Path.{_≡_, refl, sym, ap, _∙_}
+use mathlib.Core.List.{List, [], _∷_, _++_, map, append-nil}
+use mathlib.Core.Bool.{true, false}
+use native.Mathlib.Omega.{arith}
+use native.Mathlib.Nat.{add-zero}
+use lib.ListN.{length}
+use lib.Seq.{drop-length, getD-drop}
+use Rattle.text.specs.Bytes.{at, part, lower, within, isUpper, isAlpha, isDigit, isAlphanumeric, isNameByte}
+use Rattle.text.specs.Lists.{all, same, sameWord}
+use Rattle.text.specs.Texts.{bytes}
+use Rattle.text.specs.Runs.{isIn, runEnd}
+use Rattle.text.specs.declared.bytes.Class.the-variants.{NameByte}
+use Rattle.text.proofs.Laws.Tests.{cond-elim}
+use Rattle.text.proofs.Laws.Classes.{apart}
+use Rattle.text.proofs.Laws.Words.{same-true, true-same, at-lowered}
+use Rattle.text.proofs.Laws.Spans.{Span, span-cut}
+use Rattle.text.proofs.Laws.Runs.{span-run}
+use Rattle.macros.proofs.Laws.Bytes.{true-false, or-left, alpha-alphanumeric}
+use Rattle.macros.proofs.Laws.Texts.{all-none, all-cons, all-first, all-rest}
+use Rattle.records.specs.Grammar.{Literal, isQualifier, isReserved}
+use Rattle.records.specs.Reader.{kindOf, laterKind}
+use Rattle.records.specs.declared.Term.{Term}
+use Rattle.records.specs.declared.terms.Kind.{Kind}
+
+-- bytes and their lower case
+pub alpha-name : (b : ℕ) → isAlpha b ≡ true → isNameByte b ≡ true
+unfolding isNameByte
+alpha-name b h = or-left (isAlphanumeric b) _ (alpha-alphanumeric b h)
+
+upper-alpha : (b : ℕ) → isUpper b ≡ true → isAlpha b ≡ true
+unfolding isAlpha
+upper-alpha b h = or-left (isUpper b) (within 97 122 b) h
+
+lowered-alpha : (b c : ℕ) → lower b ≡ c → isAlpha c ≡ true → isAlpha b ≡ true
+unfolding lower
+lowered-alpha b c e h = cond-elim (λ (n : ℕ). n ≡ c → isAlpha b ≡ true) (isUpper b) {x = b + 32} {y = b} (λ u _. upper-alpha b u) (λ _ q. ap isAlpha q ∙ h) e
+
+lowered-name : (b c : ℕ) → lower b ≡ c → isNameByte c ≡ true → isNameByte b ≡ true
+unfolding lower
+lowered-name b c e h =
+    cond-elim (λ (n : ℕ). n ≡ c → isNameByte b ≡ true) (isUpper b) {x = b + 32} {y = b} (λ u _. alpha-name b (upper-alpha b u)) (λ _ q. ap isNameByte q ∙ h) e
+
+-- a word that a name may be: name bytes, the first a letter
+pub record Word (word : List ℕ) : Type 0 where
+  pub letter : isAlpha (at word 0) ≡ true
+  pub names : all isNameByte word ≡ true
+
+lowered-names : (word w : List ℕ) → all isNameByte word ≡ true → map lower w ≡ word → all isNameByte w ≡ true
+lowered-names word [] h e = all-none isNameByte
+lowered-names [] (b ∷ w) h e = let z : _≡_ {A = ℕ} 0 1 = cc in absurd (omega arith)
+lowered-names (c ∷ word) (b ∷ w) h e =
+    let a : lower b ≡ c = cc in
+    let t : map lower w ≡ word = cc in
+    all-cons isNameByte b w (lowered-name b c a (all-first isNameByte c word h)) (lowered-names word w (all-rest isNameByte c word h) t)
+
+-- in either case it is one too
+pub literal-word : {word w : List ℕ} → Word word → Literal word w → Word w
+literal-word {word} {w} k l = record {
+  letter = lowered-alpha (at w 0) (at word 0) (sym (at-lowered w 0) ∙ ap (λ (t : List ℕ). at t 0) (l .lowered)) (k .letter);
+  names = lowered-names word w (k .names) (l .lowered);
+}
+
+-- the names of mechanisms, and those of the modifiers that are no unknown ones
+pub all-word : Word (bytes "all")
+unfolding all isNameByte isAlphanumeric isAlpha isUpper isDigit within
+all-word = record { letter = refl; names = refl }
+
+pub include-word : Word (bytes "include")
+unfolding all isNameByte isAlphanumeric isAlpha isUpper isDigit within
+include-word = record { letter = refl; names = refl }
+
+pub a-word : Word (bytes "a")
+unfolding all isNameByte isAlphanumeric isAlpha isUpper isDigit within
+a-word = record { letter = refl; names = refl }
+
+pub mx-word : Word (bytes "mx")
+unfolding all isNameByte isAlphanumeric isAlpha isUpper isDigit within
+mx-word = record { letter = refl; names = refl }
+
+pub ptr-word : Word (bytes "ptr")
+unfolding all isNameByte isAlphanumeric isAlpha isUpper isDigit within
+ptr-word = record { letter = refl; names = refl }
+
+pub ip4-word : Word (bytes "ip4")
+unfolding all isNameByte isAlphanumeric isAlpha isUpper isDigit within
+ip4-word = record { letter = refl; names = refl }
+
+pub ip6-word : Word (bytes "ip6")
+unfolding all isNameByte isAlphanumeric isAlpha isUpper isDigit within
+ip6-word = record { letter = refl; names = refl }
+
+pub exists-word : Word (bytes "exists")
+unfolding all isNameByte isAlphanumeric isAlpha isUpper isDigit within
+exists-word = record { letter = refl; names = refl }
+
+pub redirect-word : Word (bytes "redirect")
+unfolding all isNameByte isAlphanumeric isAlpha isUpper isDigit within
+redirect-word = record { letter = refl; names = refl }
+
+pub exp-word : Word (bytes "exp")
+unfolding all isNameByte isAlphanumeric isAlpha isUpper isDigit within
+exp-word = record { letter = refl; names = refl }
+
+-- the test of a word against the equation
+pub literal-of : (word w : List ℕ) → sameWord w word ≡ true → Literal word w
+unfolding sameWord
+literal-of word w h = record { lowered = same-true (map lower w) word h }
+
+pub literal-same : (word w : List ℕ) → Literal word w → sameWord w word ≡ true
+unfolding sameWord
+literal-same word w l = true-same (map lower w) word (l .lowered)
+
+-- which mechanism a name is
+abbrev pub KindRight : List ℕ → Kind → Type 0
+KindRight w Kind.All = Literal (bytes "all") w
+KindRight w Kind.Include = Literal (bytes "include") w
+KindRight w Kind.A = Literal (bytes "a") w
+KindRight w Kind.Mx = Literal (bytes "mx") w
+KindRight w Kind.Ptr = Literal (bytes "ptr") w
+KindRight w Kind.Ip4 = Literal (bytes "ip4") w
+KindRight w Kind.Ip6 = Literal (bytes "ip6") w
+KindRight w Kind.Exists = Literal (bytes "exists") w
+KindRight w Kind.NoKind = Unit {0}
+
+later-sound : (w : List ℕ) → KindRight w (laterKind w)
+unfolding laterKind
+later-sound w =
+    cond-elim (KindRight w) (sameWord w (bytes "ip4")) (literal-of (bytes "ip4") w)
+    (λ _. cond-elim (KindRight w) (sameWord w (bytes "ip6")) (literal-of (bytes "ip6") w)
+    (λ _. cond-elim (KindRight w) (sameWord w (bytes "exists")) (literal-of (bytes "exists") w) (λ _. tt)))
+
+pub kind-sound : (w : List ℕ) → KindRight w (kindOf w)
+unfolding kindOf
+kind-sound w =
+    cond-elim (KindRight w) (sameWord w (bytes "all")) (literal-of (bytes "all") w)
+    (λ _. cond-elim (KindRight w) (sameWord w (bytes "include")) (literal-of (bytes "include") w)
+    (λ _. cond-elim (KindRight w) (sameWord w (bytes "a")) (literal-of (bytes "a") w)
+    (λ _. cond-elim (KindRight w) (sameWord w (bytes "mx")) (literal-of (bytes "mx") w)
+    (λ _. cond-elim (KindRight w) (sameWord w (bytes "ptr")) (literal-of (bytes "ptr") w) (λ _. later-sound w)))))
+
+-- a literal of a mechanism's name is of its kind
+module _ {w : List ℕ} where
+  pub kind-all : Literal (bytes "all") w → kindOf w ≡ Kind.All
+  unfolding kindOf laterKind sameWord same
+  kind-all l = rw (l .lowered)
+
+  pub kind-include : Literal (bytes "include") w → kindOf w ≡ Kind.Include
+  unfolding kindOf laterKind sameWord same
+  kind-include l = rw (l .lowered)
+
+  pub kind-a : Literal (bytes "a") w → kindOf w ≡ Kind.A
+  unfolding kindOf laterKind sameWord same
+  kind-a l = rw (l .lowered)
+
+  pub kind-mx : Literal (bytes "mx") w → kindOf w ≡ Kind.Mx
+  unfolding kindOf laterKind sameWord same
+  kind-mx l = rw (l .lowered)
+
+  pub kind-ptr : Literal (bytes "ptr") w → kindOf w ≡ Kind.Ptr
+  unfolding kindOf laterKind sameWord same
+  kind-ptr l = rw (l .lowered)
+
+  pub kind-ip4 : Literal (bytes "ip4") w → kindOf w ≡ Kind.Ip4
+  unfolding kindOf laterKind sameWord same
+  kind-ip4 l = rw (l .lowered)
+
+  pub kind-ip6 : Literal (bytes "ip6") w → kindOf w ≡ Kind.Ip6
+  unfolding kindOf laterKind sameWord same
+  kind-ip6 l = rw (l .lowered)
+
+  pub kind-exists : Literal (bytes "exists") w → kindOf w ≡ Kind.Exists
+  unfolding kindOf laterKind sameWord same
+  kind-exists l = rw (l .lowered)
+
+-- a name that begins at i and ends before k, and what stands from there on
+pub record Named (w : List ℕ) (i k : ℕ) (name rest : List ℕ) : Type 0 where
+  pub front : Span w i k name
+  pub after : Span w k (length w) rest
+  pub ends : runEnd (isIn NameByte) w i ≡ k
+  pub follows : at w k ≡ at rest 0
+  pub first : isAlpha (at w i) ≡ true
+
+-- the byte where a last word begins
+pub last-at : {w : List ℕ} {k : ℕ} (rest : List ℕ) → Span w k (length w) rest → at w k ≡ at rest 0
+last-at {w} {k} rest p =
+    sym (simp add-zero at (getD-drop k w 0 0)) ∙ ap (λ (t : List ℕ). at t 0) (p .split ∙ ap (λ (t : List ℕ). rest ++ t) (drop-length w) ∙ append-nil rest)
+
+name-byte : (b : ℕ) → isIn NameByte b ≡ isNameByte b
+unfolding isIn
+name-byte b = refl
+
+name-bytes : (w : List ℕ) → all (isIn NameByte) w ≡ all isNameByte w
+unfolding isIn
+name-bytes w = refl
+
+alpha-zero : isAlpha 0 ≡ false
+unfolding isAlpha isUpper within
+alpha-zero = refl
+
+first-at : (u rest : List ℕ) → isAlpha (at u 0) ≡ true → isAlpha (at (u ++ rest) 0) ≡ true
+first-at [] rest h = absurd (true-false (isAlpha 0) h alpha-zero)
+first-at (b ∷ u) rest h = h
+
+pub named : {w u rest : List ℕ} {i : ℕ} → Word u → Span w i (length w) (u ++ rest) → isNameByte (at rest 0) ≡ false → Named w i (i + length u) u rest
+named {w} {u} {rest} {i} k p n =
+    let c = span-cut u rest p in
+    let f = last-at rest (c .1) in
+    record {
+      front = c .0;
+      after = c .1;
+      ends = span-run (isIn NameByte) (c .0) (name-bytes u ∙ k .names) (name-byte (at w (i + length u)) ∙ ap isNameByte f ∙ n);
+      follows = f;
+      first = ap isAlpha (last-at (u ++ rest) p) ∙ first-at u rest (k .letter);
+    }
+
+-- the name of an unknown modifier is none of the two that are reserved
+abbrev pub Unreserved : List ℕ → Term → Type 0
+Unreserved w (Term.All sign) = Unit {0}
+Unreserved w (Term.Include sign from to) = Unit {0}
+Unreserved w (Term.A sign from to n m) = Unit {0}
+Unreserved w (Term.Mx sign from to n m) = Unit {0}
+Unreserved w (Term.Ptr sign from to) = Unit {0}
+Unreserved w (Term.Network sign from to x n) = Unit {0}
+Unreserved w (Term.Exists sign from to) = Unit {0}
+Unreserved w (Term.Redirect from to) = Unit {0}
+Unreserved w (Term.Explanation from to) = Unit {0}
+Unreserved w (Term.Unknown name to) = isReserved (part w 0 name) ≡ false
+
+-- a letter is no qualifier
+pub alpha-unsigned : (b : ℕ) → isAlpha b ≡ true → isQualifier b ≡ false
+unfolding isQualifier isAlpha isUpper within
+alpha-unsigned b h = simp (apart isAlpha b 43 h refl, apart isAlpha b 45 h refl, apart isAlpha b 63 h refl, apart isAlpha b 126 h refl)

@@ -1,0 +1,24 @@
+-- `records::read_term` meets its contract. From the laws of Checking.
+use Rattle.records.proofs.Laws.Checking.{space-inside, term-found, term-long, term-past, term-answered}
+use borrow.Author.Needs.{needs}
+use Rattle.records.proofs.read_term.Statement.{statement}
+use Rattle.records.proofs.read_term.Tie as tie
+
+returns : tie.Need-returns
+returns c = term-answered _ _ _ (search term-long)
+
+returns-2 : tie.Need-returns-2
+returns-2 c = term-answered _ _ _ (search term-past)
+
+run-end-requires : tie.Need-run-end-requires
+run-end-requires c κs = search needs
+
+term-from-requires : tie.Need-term-from-requires
+term-from-requires c κs = search space-inside
+
+returns-3 : tie.Need-returns-3
+returns-3 c = term-answered _ _ _ (search term-found)
+
+pub read-term-spec : {M : Type 1} → statement M
+read-term-spec =
+    tie.close (tie.spec returns returns-2 run-end-requires term-from-requires returns-3)

@@ -1,0 +1,35 @@
+-- `records::terms::read_include` meets its contract. From the laws of Steps.
+use Rattle.records.specs.Reader.{includeOf}
+use Rattle.records.proofs.Laws.Steps.{steps}
+use borrow.Author.Needs.{needs}
+use Rattle.records.proofs.terms.read_include.Statement.{statement}
+use Rattle.records.proofs.terms.read_include.Tie as tie
+
+read-spec-requires : tie.Need-read-spec-requires
+read-spec-requires c κs = search needs
+
+enum-known-from : tie.Need-enum-known-from
+enum-known-from c = search needs
+
+enum-told : tie.Need-enum-told
+enum-told c = search needs
+
+enum-told-2 : tie.Need-enum-told-2
+enum-told-2 c = search needs
+
+returns : tie.Need-returns
+unfolding includeOf
+returns c = search steps depth 12
+
+returns-2 : tie.Need-returns-2
+unfolding includeOf
+returns-2 c = search steps depth 12
+
+returns-3 : tie.Need-returns-3
+unfolding includeOf
+returns-3 c = search steps depth 12
+
+pub read-include-spec : {M : Type 1} → statement M
+read-include-spec =
+    tie.close
+    (tie.spec read-spec-requires enum-known-from enum-told enum-told-2 returns returns-2 returns-3)

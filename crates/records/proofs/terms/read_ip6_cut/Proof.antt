@@ -1,0 +1,54 @@
+-- `records::terms::read_ip6_cut` meets its contract. From the laws of Reading.
+use Rattle.records.proofs.Laws.Reading.{ip6-network, ip6-no-length, ip6-no-network}
+use borrow.Author.Needs.{needs}
+use Rattle.records.proofs.terms.read_ip6_cut.Statement.{statement}
+use Rattle.records.proofs.terms.read_ip6_cut.Tie as tie
+
+part-requires : tie.Need-part-requires
+part-requires c κs = search needs
+
+read-ip6-requires : tie.Need-read-ip6-requires
+read-ip6-requires c κs = search needs
+
+enum-known-address : tie.Need-enum-known-address
+enum-known-address c = search needs
+
+enum-told : tie.Need-enum-told
+enum-told c = search needs
+
+returns : tie.Need-returns
+returns c = search ip6-no-network
+
+part-requires-2 : tie.Need-part-requires-2
+part-requires-2 c κs = search needs
+
+read-length6-requires : tie.Need-read-length6-requires
+read-length6-requires c κs = search needs
+
+enum-known-length : tie.Need-enum-known-length
+enum-known-length c = search needs
+
+enum-told-2 : tie.Need-enum-told-2
+enum-told-2 c = search needs
+
+returns-2 : tie.Need-returns-2
+returns-2 c = search ip6-no-length
+
+returns-3 : tie.Need-returns-3
+returns-3 c = search ip6-network
+
+pub read-ip6-cut-spec : {M : Type 1} → statement M
+read-ip6-cut-spec =
+    tie.close
+    (tie.spec
+    part-requires
+    read-ip6-requires
+    enum-known-address
+    enum-told
+    returns
+    part-requires-2
+    read-length6-requires
+    enum-known-length
+    enum-told-2
+    returns-2
+    returns-3)

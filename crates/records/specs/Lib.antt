@@ -1,0 +1,15 @@
+-- What the contracts of this crate are said in.
+-- Readings: what a term says; a reading is a list of them with their places.
+pub mod Readings
+-- Grammar: records as productions (RFC 7208 appendix A with 01's amendments).
+pub mod Grammar
+-- Numbers: 01's number and values for each answer.
+pub mod Numbers
+-- Answers: what each call answers, by the productions.
+pub mod Answers
+-- Reader: records as the code reads them; the laws tie it to the productions.
+pub mod Reader
+-- Claim: what reading a record and then its terms promise together.
+pub mod Claim
+-- Examples: the cases of 01 that are proved.
+pub mod Examples

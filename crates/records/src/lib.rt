@@ -1,0 +1,285 @@
+// Records and their terms.
+ghost use mathlib.Core.Path.{_≡_};
+ghost use mathlib.Core.Bool.{_&&_, _||_};
+ghost use Prim.Native.Nat.{ℕ, _+_, _≤_, _<_};
+ghost use lib.ListN.{length};
+ghost use Rattle.text.specs.Bytes.{part};
+ghost use Rattle.records.specs.Numbers.{recordReport, termReport, argumentOf};
+ghost use Rattle.records.specs.Answers.{RecordAnswers, TermAnswers};
+ghost use Rattle.records.specs.Reader.{hasVersion, isRedirect, isExplanation, termFrom, readTerm, endedOf, checkFrom, readRecord};
+use address::Address;
+use terms::read_token;
+use text::bytes;
+use text::bytes::Class;
+use text::words;
+
+pub mod terms;
+
+// A term. `from` and `to` are places in the term's own text: where its argument stands, and equal where `a`, `mx` or `ptr` has none. An unknown
+// modifier's name ends at `name`, where its `=` stands.
+pub enum Term {
+    All {
+        sign: u8,
+    },
+    Include {
+        sign: u8,
+        from: usize,
+        to: usize,
+    },
+    A {
+        sign: u8,
+        from: usize,
+        to: usize,
+        four: u8,
+        six: u8,
+    },
+    Mx {
+        sign: u8,
+        from: usize,
+        to: usize,
+        four: u8,
+        six: u8,
+    },
+    Ptr {
+        sign: u8,
+        from: usize,
+        to: usize,
+    },
+    Network {
+        sign: u8,
+        from: usize,
+        to: usize,
+        address: Address,
+        length: u8,
+    },
+    Exists {
+        sign: u8,
+        from: usize,
+        to: usize,
+    },
+    Redirect {
+        from: usize,
+        to: usize,
+    },
+    Explanation {
+        from: usize,
+        to: usize,
+    },
+    Unknown {
+        name: usize,
+        to: usize,
+    },
+}
+
+// A run of non-spaces: a term, or outside the grammar.
+pub enum Token {
+    Is(Term),
+    Outside,
+}
+
+// What reading a term answers: a term with its first byte's place and the next place; the end; or a refusal with its number and place.
+pub enum TermAnswer {
+    Is { at: usize, next: usize, term: Term },
+    End,
+    Refused { number: u8, at: usize },
+}
+
+// What reading a record answers: the place just after the version, or a refusal with its number and place.
+pub enum RecordAnswer {
+    Accepted(usize),
+    Refused { number: u8, at: usize },
+}
+
+// The term at a place where no space stands, or the end.
+fn term_from(s: &[u8], at: usize) -> TermAnswer
+    requires { ⌜ at ≤ length (now s) ⌝ }
+    ensures { λ r. ⌜ r ≡ termFrom (now (s .entry)) at ⌝ }
+{
+    if at == s.len() {
+        return TermAnswer::End;
+    }
+    let next = bytes::run_end(s, at, Class::NotSpace);
+    let Token::Is(term) = read_token(bytes::part(s, at, next)) else {
+        return TermAnswer::Refused { number: 32, at };
+    };
+    TermAnswer::Is { at, next, term }
+}
+
+// Reads one term from a place on: 30, 34, the end, 32, or the term with the next place.
+pub fn read_term(s: &[u8], at: usize) -> TermAnswer
+    ensures { λ r. ⌜ r ≡ readTerm (now (s .entry)) at ⌝ }
+    ensures { λ r. ⌜ TermAnswers (now (s .entry)) at (termReport (now (s .entry)) r) ⌝ }
+{
+    if 4096 < s.len() {
+        return TermAnswer::Refused { number: 30, at: 0 };
+    }
+    if s.len() < at {
+        return TermAnswer::Refused { number: 34, at };
+    }
+    term_from(s, bytes::run_end(s, at, Class::Space))
+}
+
+// The value of an unknown modifier whose name ends at a place.
+fn value_part(w: &[u8], name: usize, to: usize) -> &[u8]
+    ensures { λ r. ⌜ now r ≡ part (now (w .entry)) (name + 1) to ⌝ }
+{
+    if name < w.len() {
+        return bytes::part(w, name + 1, to);
+    }
+    bytes::part(w, w.len(), w.len())
+}
+
+// The argument of a term that begins at a place, as that part of the record; for a term without one the empty part at the term's end.
+pub fn argument(s: &[u8], at: usize, next: usize, term: Term) -> &[u8]
+    ensures { λ r. ⌜ now r ≡ argumentOf (part (now (s .entry)) at next) term ⌝ }
+{
+    let w = bytes::part(s, at, next);
+    match term {
+        Term::All { sign: _ } => bytes::part(w, w.len(), w.len()),
+        Term::Include { sign: _, from, to } => bytes::part(w, from, to),
+        Term::A {
+            sign: _,
+            from,
+            to,
+            four: _,
+            six: _,
+        } => bytes::part(w, from, to),
+        Term::Mx {
+            sign: _,
+            from,
+            to,
+            four: _,
+            six: _,
+        } => bytes::part(w, from, to),
+        Term::Ptr { sign: _, from, to } => bytes::part(w, from, to),
+        Term::Network {
+            sign: _,
+            from,
+            to,
+            address: _,
+            length: _,
+        } => bytes::part(w, from, to),
+        Term::Exists { sign: _, from, to } => bytes::part(w, from, to),
+        Term::Redirect { from, to } => bytes::part(w, from, to),
+        Term::Explanation { from, to } => bytes::part(w, from, to),
+        Term::Unknown { name, to } => value_part(w, name, to),
+    }
+}
+
+// Whether the version section stands at the front.
+fn has_version(s: &[u8]) -> bool
+    ensures { λ r. ⌜ r ≡ hasVersion (now (s .entry)) ⌝ }
+{
+    if words::equal_word(bytes::part(s, 0, 6), b"v=spf1") {
+        if s.len() == 6 {
+            return true;
+        }
+        return bytes::peek(s, 6) == 32;
+    }
+    false
+}
+
+fn is_redirect(term: Term) -> bool
+    ensures { λ r. ⌜ r ≡ isRedirect term ⌝ }
+{
+    let Term::Redirect { from: _, to: _ } = term else {
+        return false;
+    };
+    true
+}
+
+fn is_explanation(term: Term) -> bool
+    ensures { λ r. ⌜ r ≡ isExplanation term ⌝ }
+{
+    let Term::Explanation { from: _, to: _ } = term else {
+        return false;
+    };
+    true
+}
+
+// Whether two tests hold.
+fn both(a: bool, b: bool) -> bool
+    ensures { λ r. ⌜ r ≡ (a && b) ⌝ }
+{
+    if a {
+        return b;
+    }
+    false
+}
+
+// Whether one of two tests holds.
+fn either(a: bool, b: bool) -> bool
+    ensures { λ r. ⌜ r ≡ (a || b) ⌝ }
+{
+    if a {
+        return true;
+    }
+    b
+}
+
+// Whether a term is a second redirect or a second exp, by what has stood before it.
+fn repeats(redirect: bool, explanation: bool, term: Term) -> bool
+    ensures { λ r. ⌜ r ≡ ((redirect && isRedirect term) || (explanation && isExplanation term)) ⌝ }
+{
+    if both(redirect, is_redirect(term)) {
+        return true;
+    }
+    both(explanation, is_explanation(term))
+}
+
+// What a record is answered where no term is left to read.
+fn ended(answer: TermAnswer) -> RecordAnswer
+    ensures { λ r. ⌜ r ≡ endedOf answer ⌝ }
+{
+    match answer {
+        TermAnswer::Refused { number, at } => RecordAnswer::Refused { number, at },
+        TermAnswer::End => RecordAnswer::Accepted(6),
+        TermAnswer::Is {
+            at: _,
+            next: _,
+            term: _,
+        } => RecordAnswer::Accepted(6),
+    }
+}
+
+// The terms of a record, from a place on and with what has stood before it.
+fn check_terms(s: &[u8], at: usize, redirect: bool, explanation: bool) -> RecordAnswer
+    requires { ⌜ at ≤ length (now s) ⌝ }
+    ensures { λ r. ⌜ ((f : ℕ) → length (now (s .entry)) < f + at → r ≡ checkFrom f (now (s .entry)) at redirect explanation) ⌝ }
+{
+    let answer = read_term(s, at);
+    let TermAnswer::Is {
+        at: place,
+        next,
+        term,
+    } = answer
+    else {
+        return ended(answer);
+    };
+    if repeats(redirect, explanation, term) {
+        return RecordAnswer::Refused {
+            number: 33,
+            at: place,
+        };
+    }
+    check_terms(
+        s,
+        next,
+        either(redirect, is_redirect(term)),
+        either(explanation, is_explanation(term)),
+    )
+}
+
+// Reads a record: 30, 31, then the earlier of 32 and 33 with its place, or accepted with the place just after the version.
+pub fn read_record(s: &[u8]) -> RecordAnswer
+    ensures { λ r. ⌜ r ≡ readRecord (now (s .entry)) ⌝ }
+    ensures { λ r. ⌜ RecordAnswers (now (s .entry)) (recordReport r) ⌝ }
+{
+    if 4096 < s.len() {
+        return RecordAnswer::Refused { number: 30, at: 0 };
+    }
+    if has_version(s) {
+        return check_terms(s, 6, false, false);
+    }
+    RecordAnswer::Refused { number: 31, at: 0 }
+}
