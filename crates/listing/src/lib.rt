@@ -85,12 +85,42 @@ fn print_modifier(name: &[u8], argument: &[u8]) {
 pub fn print_term(term: Term, w: &[u8], argument: &[u8]) {
     match term {
         Term::All { sign } => print_plain(b"all", sign, argument),
-        Term::Include { sign, from: _, to: _ } => print_plain(b"include", sign, argument),
-        Term::A { sign, from: _, to: _, four, six } => print_hosts(b"a", sign, argument, four, six),
-        Term::Mx { sign, from: _, to: _, four, six } => print_hosts(b"mx", sign, argument, four, six),
-        Term::Ptr { sign, from: _, to: _ } => print_plain(b"ptr", sign, argument),
-        Term::Network { sign, from: _, to: _, address, length } => print_network(sign, argument, address, length),
-        Term::Exists { sign, from: _, to: _ } => print_plain(b"exists", sign, argument),
+        Term::Include {
+            sign,
+            from: _,
+            to: _,
+        } => print_plain(b"include", sign, argument),
+        Term::A {
+            sign,
+            from: _,
+            to: _,
+            four,
+            six,
+        } => print_hosts(b"a", sign, argument, four, six),
+        Term::Mx {
+            sign,
+            from: _,
+            to: _,
+            four,
+            six,
+        } => print_hosts(b"mx", sign, argument, four, six),
+        Term::Ptr {
+            sign,
+            from: _,
+            to: _,
+        } => print_plain(b"ptr", sign, argument),
+        Term::Network {
+            sign,
+            from: _,
+            to: _,
+            address,
+            length,
+        } => print_network(sign, argument, address, length),
+        Term::Exists {
+            sign,
+            from: _,
+            to: _,
+        } => print_plain(b"exists", sign, argument),
         Term::Redirect { from: _, to: _ } => print_modifier(b"redirect", argument),
         Term::Explanation { from: _, to: _ } => print_modifier(b"exp", argument),
         Term::Unknown { name, to: _ } => print_modifier(bytes::part(w, 0, name), argument),
@@ -111,12 +141,21 @@ fn print_terms(record: &[u8], start: usize) {
     let mut at = start;
     let mut budget: usize = 4097;
     while 0 < budget {
-        let TermAnswer::Is { at: place, next, term } = records::read_term(record, at) else {
+        let TermAnswer::Is {
+            at: place,
+            next,
+            term,
+        } = records::read_term(record, at)
+        else {
             return;
         };
         io::print_decimal(1, place as u64);
         io::write_all(1, b" ");
-        print_term(term, bytes::part(record, place, next), records::argument(record, place, next, term));
+        print_term(
+            term,
+            bytes::part(record, place, next),
+            records::argument(record, place, next, term),
+        );
         io::write_all(1, b"\n");
         at = next;
         budget -= 1;

@@ -105,12 +105,42 @@ fn print_modifier(name: &[u8], argument: &[u8]) {
 fn print_term(term: Term, w: &[u8], argument: &[u8]) {
     match term {
         Term::All { sign } => print_plain(b"all", sign, argument),
-        Term::Include { sign, from: _, to: _ } => print_plain(b"include", sign, argument),
-        Term::A { sign, from: _, to: _, four, six } => print_hosts(b"a", sign, argument, four, six),
-        Term::Mx { sign, from: _, to: _, four, six } => print_hosts(b"mx", sign, argument, four, six),
-        Term::Ptr { sign, from: _, to: _ } => print_plain(b"ptr", sign, argument),
-        Term::Network { sign, from: _, to: _, address, length } => print_network(sign, argument, address, length),
-        Term::Exists { sign, from: _, to: _ } => print_plain(b"exists", sign, argument),
+        Term::Include {
+            sign,
+            from: _,
+            to: _,
+        } => print_plain(b"include", sign, argument),
+        Term::A {
+            sign,
+            from: _,
+            to: _,
+            four,
+            six,
+        } => print_hosts(b"a", sign, argument, four, six),
+        Term::Mx {
+            sign,
+            from: _,
+            to: _,
+            four,
+            six,
+        } => print_hosts(b"mx", sign, argument, four, six),
+        Term::Ptr {
+            sign,
+            from: _,
+            to: _,
+        } => print_plain(b"ptr", sign, argument),
+        Term::Network {
+            sign,
+            from: _,
+            to: _,
+            address,
+            length,
+        } => print_network(sign, argument, address, length),
+        Term::Exists {
+            sign,
+            from: _,
+            to: _,
+        } => print_plain(b"exists", sign, argument),
         Term::Redirect { from: _, to: _ } => print_modifier(b"redirect", argument),
         Term::Explanation { from: _, to: _ } => print_modifier(b"exp", argument),
         Term::Unknown { name, to: _ } => print_modifier(part(w, 0, name), argument),
@@ -126,7 +156,11 @@ fn print_term_answer(s: &[u8], answer: TermAnswer) {
             io::print_decimal(1, at as u64);
             io::write_all(1, b" ");
             io::print_decimal(1, next as u64);
-            print_term(term, part(s, at, next), records::argument(s, at, next, term));
+            print_term(
+                term,
+                part(s, at, next),
+                records::argument(s, at, next, term),
+            );
             cases::print_line(b"");
         }
     }

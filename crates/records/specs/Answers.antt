@@ -51,7 +51,7 @@ pub data RecordAnswers (s : List ℕ) : RecordReport → Type 0 where
   no-version : length s ≤ most-bytes → ((v rest : List ℕ) → Version s v rest → ⊥) → RecordAnswers s (refused 31 0)
   outside : {ts : List Placed} {w : List ℕ} {p : ℕ} → length s ≤ most-bytes → Front s ts w p → Once ts → Ill w → RecordAnswers s (refused 32 p)
   repeated : {ts : List Placed} {w : List ℕ} {p : ℕ} {x : Said} → length s ≤ most-bytes → Front s ts w p → Once ts → Term w x
-    → (Once (ts ++ (record { place = p; said = x } ∷ [])) → ⊥) → RecordAnswers s (refused 33 p)
+      → (Once (ts ++ (record { place = p; said = x } ∷ [])) → ⊥) → RecordAnswers s (refused 33 p)
   produced : {v rest : List ℕ} {ts : List Placed} → length s ≤ most-bytes → Version s v rest → Record s ts → RecordAnswers s (accepted (length v))
 
 -- reading one term: "30, 34, then 32"; "skips spaces and answers the end, refusal 32, or the term with the next place, just after its last byte"
@@ -60,6 +60,6 @@ pub data TermAnswers (s : List ℕ) (i : ℕ) : TermReport → Type 0 where
   beyond : length s ≤ most-bytes → length s < i → TermAnswers s i (refused 34 i)
   only-spaces : length s ≤ most-bytes → i ≤ length s → all isSpace (drop i s) ≡ true → TermAnswers s i end
   outside : (u w rest : List ℕ) → length s ≤ most-bytes → i ≤ length s → drop i s ≡ u ++ (w ++ rest) → all isSpace u ≡ true → Run w rest → Ill w
-    → TermAnswers s i (refused 32 (i + length u))
+      → TermAnswers s i (refused 32 (i + length u))
   produced : (u w rest : List ℕ) {x : Said} → length s ≤ most-bytes → i ≤ length s → drop i s ≡ u ++ (w ++ rest) → all isSpace u ≡ true → Run w rest
-    → Term w x → TermAnswers s i (term (i + (length u + length w)) (record { place = i + length u; said = x }))
+      → Term w x → TermAnswers s i (term (i + (length u + length w)) (record { place = i + length u; said = x }))

@@ -30,24 +30,24 @@ pub data Mechanism (sign : ℕ) : List ℕ → Said → Type 0 where
   all-term : {w : List ℕ} → Literal (bytes "all") w → Mechanism sign w (mechanism (bytes "all") sign absent)
   -- include = "include" ":" domain-spec
   include : {w d : List ℕ} {ps : List Piece} → Literal (bytes "include") w → DomainSpecs d ps
-    → Mechanism sign (w ++ (58 ∷ d)) (mechanism (bytes "include") sign (present d))
+      → Mechanism sign (w ++ (58 ∷ d)) (mechanism (bytes "include") sign (present d))
   -- a = "a" [ ":" domain-spec ] [ dual-cidr-length ]
   a : {w u l : List ℕ} {arg : Optional (List ℕ)} {n m : ℕ} → Literal (bytes "a") w → OptionalSpec u arg → DualCidrLength l n m
-    → Mechanism sign (w ++ (u ++ l)) (hosts (bytes "a") sign arg n m)
+      → Mechanism sign (w ++ (u ++ l)) (hosts (bytes "a") sign arg n m)
   -- mx = "mx" [ ":" domain-spec ] [ dual-cidr-length ]
   mx : {w u l : List ℕ} {arg : Optional (List ℕ)} {n m : ℕ} → Literal (bytes "mx") w → OptionalSpec u arg → DualCidrLength l n m
-    → Mechanism sign (w ++ (u ++ l)) (hosts (bytes "mx") sign arg n m)
+      → Mechanism sign (w ++ (u ++ l)) (hosts (bytes "mx") sign arg n m)
   -- ptr = "ptr" [ ":" domain-spec ]
   ptr : {w u : List ℕ} {arg : Optional (List ℕ)} → Literal (bytes "ptr") w → OptionalSpec u arg → Mechanism sign (w ++ u) (mechanism (bytes "ptr") sign arg)
   -- ip4 = "ip4" ":" ip4-network [ ip4-cidr-length ]
   ip4 : {w t l : List ℕ} {x : Address} {n : ℕ} → Literal (bytes "ip4") w → Network4 t x → Length4 l n
-    → Mechanism sign (w ++ (58 ∷ (t ++ l))) (network4 (bytes "ip4") sign t x n)
+      → Mechanism sign (w ++ (58 ∷ (t ++ l))) (network4 (bytes "ip4") sign t x n)
   -- ip6 = "ip6" ":" ip6-network [ ip6-cidr-length ]
   ip6 : {w t l : List ℕ} {x : Address} {n : ℕ} → Literal (bytes "ip6") w → Network6 t x → Length6 l n
-    → Mechanism sign (w ++ (58 ∷ (t ++ l))) (network6 (bytes "ip6") sign t x n)
+      → Mechanism sign (w ++ (58 ∷ (t ++ l))) (network6 (bytes "ip6") sign t x n)
   -- exists = "exists" ":" domain-spec
   exists : {w d : List ℕ} {ps : List Piece} → Literal (bytes "exists") w → DomainSpecs d ps
-    → Mechanism sign (w ++ (58 ∷ d)) (mechanism (bytes "exists") sign (present d))
+      → Mechanism sign (w ++ (58 ∷ d)) (mechanism (bytes "exists") sign (present d))
 
 -- qualifier = "+" / "-" / "?" / "~"
 unfoldable pub isQualifier : ℕ → Bool
@@ -84,8 +84,8 @@ pub data Term : List ℕ → Said → Type 0 where
 pub data Terms : ℕ → List ℕ → List Placed → Type 0 where
   done : {p : ℕ} {w : List ℕ} → all isSpace w ≡ true → Terms p w []
   term : {p : ℕ} (u w : List ℕ) {rest : List ℕ} {x : Said} {ts : List Placed} → all isSpace u ≡ true → Term w x
-    → Terms (p + length ((32 ∷ u) ++ w)) rest ts
-    → Terms p ((32 ∷ u) ++ (w ++ rest)) (record { place = p + length (32 ∷ u); said = x } ∷ ts)
+      → Terms (p + length ((32 ∷ u) ++ w)) rest ts
+      → Terms p ((32 ∷ u) ++ (w ++ rest)) (record { place = p + length (32 ∷ u); said = x } ∷ ts)
 
 -- how many terms are modifiers of a name
 unfoldable pub countOf : List ℕ → List Placed → ℕ

@@ -13,6 +13,6 @@ claim s h = record {
   accepts = ((λ e. record-sound s 6 e), (λ d. record-complete (d .1) h .accepted));
   one = λ ts us d e. one-reading h d e;
   walks = λ ts us d.
-    let w = record-complete d h .walk in
-    ((λ t. reads-one t w), (λ e. subst (λ (x : List Placed). Reads s 6 x) (sym e) w));
+      let w = record-complete d h .walk in
+      ((λ t. reads-one t w), (λ e. subst (λ (x : List Placed). Reads s 6 x) (sym e) w));
 }
