@@ -26,3 +26,5 @@ pub mod Senders
 pub mod Emitting
 -- Expanding: the values of the letters, and the answers of an expansion.
 pub mod Expanding
+-- Answering: what an expansion answers, by the productions.
+pub mod Answering

@@ -7,6 +7,8 @@ pub mod Reader
 pub mod Expansion
 -- Numbers: 01's number for each answer of an expansion, and the lent buffer afterwards.
 pub mod Numbers
+-- Answers: what an expansion answers, by the productions.
+pub mod Answers
 -- Question: the question name of an expansion.
 pub mod Question
 -- Examples: expansions that are proved.

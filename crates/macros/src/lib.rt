@@ -14,6 +14,7 @@ ghost use Rattle.notation.specs.Digits.{inDecimal};
 ghost use Rattle.notation.specs.Forms.{dotted, readable, family};
 ghost use Rattle.macros.specs.Expansion.{given, letters, receiverName, lettersOf, textOf, isHost, isShort};
 ghost use Rattle.macros.specs.Numbers.{fitted, outcome, Says};
+ghost use Rattle.macros.specs.Answers.{Answered};
 ghost use Rattle.macros.specs.Question.{questionName};
 use address::Address;
 use domain::Name;
@@ -302,6 +303,7 @@ pub fn expand(
     out: &mut [u8],
 ) -> Expanded
     ensures { λ r. ⌜ Says (outcome form (now (text .entry)) (given (now (sender .entry)) (now (helo .entry)) (now (receiver .entry)) (now (domain .entry)) (now (p .entry)) client seconds) (length (now (out .entry)))) r (now (out .entry)) (now (out .exit)) ⌝ }
+    ensures { λ r. ⌜ Answered form (now (text .entry)) (given (now (sender .entry)) (now (helo .entry)) (now (receiver .entry)) (now (domain .entry)) (now (p .entry)) client seconds) r (now (out .entry)) (now (out .exit)) ⌝ }
 {
     if values::is_sender(sender) {
         if are_hosts(helo, receiver) {

@@ -1,0 +1,230 @@
+-- Record lookup, terms, include, redirect and the explanation, in 01's words and order.
+use Prim.Native.Nat.{ℕ, zero, suc}
+use mathlib.Core.List.{List, [], _∷_}
+use mathlib.Core.Bool.{Bool, true, false, cond, _&&_}
+use lib.ListN.{length}
+use lib.Dec.{leb, eqb}
+use Rattle.text.specs.Bytes.{isPrintable}
+use Rattle.text.specs.Lists.{all, same}
+use Rattle.text.specs.Texts.{bytes}
+use Rattle.address.specs.declared.Address.{Address}
+use Rattle.address.specs.declared.Address.the-variants.{IPv4, IPv6}
+use Rattle.address.specs.Matching.{matchesAt}
+use Rattle.domain.specs.Names.{labelCount}
+use Rattle.domain.specs.Normal.{Naming, name, malformed, normal}
+use Rattle.macros.specs.declared.Form.{Form}
+use Rattle.macros.specs.Reader.{isMacroString}
+use Rattle.records.specs.Readings.{Optional, absent, present, Said, Placed}
+use Rattle.records.specs.Reader.{readRecord, hasVersion, readTerm}
+use Rattle.records.specs.Numbers.{TermReport, term, termReport, end, refused}
+use Rattle.records.specs.declared.RecordAnswer.{RecordAnswer}
+use Rattle.meaning.specs.declared.Counts.{Counts}
+use Rattle.meaning.specs.Tree.{Reply, failed, items, Check, give, ask, peek, bind}
+use Rattle.meaning.specs.Mechanisms.{Mail, Match, yes, no, stop, Step, step, matched, target, expanded, counting, aStep, existsStep, mxStep, ptrStep}
+
+-- where an explanation is to be fetched: the failing record's domain, and its exp
+pub record Failing : Type 0 where
+  pub domain : List ℕ
+  pub exp : List ℕ
+
+-- 01's result by its number: 0 none, 1 neutral, 2 pass, 3 fail, 4 softfail, 5 temperror, 6 permerror; both counts; for a fail, where its explanation is
+pub record Result : Type 0 where
+  pub value : ℕ
+  pub counts : Counts
+  pub failing : Optional Failing
+
+abbrev pub ended : ℕ → Counts → Check Result
+ended v c = give (record { value = v; counts = c; failing = absent })
+
+-- the check of another domain, one level down
+abbrev pub Sub : Type 0
+Sub = Naming → Counts → Check Result
+
+-- include: "Pass matches; fail, softfail, neutral don't; temperror stays; permerror and none give permerror"
+unfoldable pub includeMatch : ℕ → Match
+includeMatch v = cond (eqb v 2) yes (cond (eqb v 5) (stop 5) (cond (eqb v 6) (stop 6) (cond (eqb v 0) (stop 6) no)))
+
+-- "include runs the whole check afresh on another domain, sharing the counts"
+unfoldable pub includeStep : Mail → Sub → List ℕ → List ℕ → Counts → Check Step
+includeStep mail sub d spec c =
+    counting (step (stop 6)) (λ c. bind (target mail d spec c) (λ t. bind (sub t c) (λ r. step (includeMatch (r .value)) (r .counts)))) c
+
+-- the part of a term that its mechanism has; a term of the grammar has it
+unfoldable pub bytesOr : Optional (List ℕ) → List ℕ
+bytesOr absent = []
+bytesOr (present x) = x
+
+unfoldable pub numberOr : Optional ℕ → ℕ
+numberOr absent = 0
+numberOr (present n) = n
+
+-- "Addresses match if the stated number of high-order bits agree": the length of the client's family
+unfoldable pub lengthFor : Address → Said → ℕ
+lengthFor (IPv4 v) x = numberOr (x .four)
+lengthFor (IPv6 h l) x = numberOr (x .six)
+
+-- ip4 and ip6: "families never match each other"
+unfoldable pub networkStep : Mail → Said → Optional Address → Counts → Check Step
+networkStep mail x absent c = step no c
+networkStep mail x (present (IPv4 v)) c = matched (matchesAt (mail .client) (IPv4 v) (numberOr (x .four))) c
+networkStep mail x (present (IPv6 h l)) c = matched (matchesAt (mail .client) (IPv6 h l) (numberOr (x .six))) c
+
+-- a mechanism, by its name
+unfoldable pub mechanismStep : Mail → Sub → List ℕ → Said → Counts → Check Step
+mechanismStep mail sub d x c =
+    cond (same (x .name) (bytes "all")) (step yes c)
+    (cond (same (x .name) (bytes "include")) (includeStep mail sub d (bytesOr (x .argument)) c)
+    (cond (same (x .name) (bytes "a")) (aStep mail d (x .argument) (lengthFor (mail .client) x) c)
+    (cond (same (x .name) (bytes "mx")) (mxStep mail d (x .argument) (lengthFor (mail .client) x) c)
+    (cond (same (x .name) (bytes "ptr")) (ptrStep mail d (x .argument) c)
+    (cond (same (x .name) (bytes "exists")) (existsStep mail d (bytesOr (x .argument)) c)
+    (networkStep mail x (x .address) c))))))
+
+-- a modifier is no mechanism and is passed over
+unfoldable pub termStep : Mail → Sub → List ℕ → Said → Optional ℕ → Counts → Check Step
+termStep mail sub d x absent c = step no c
+termStep mail sub d x (present sign) c = mechanismStep mail sub d x c
+
+-- "the first match gives its sign's result": + pass, - fail, ~ softfail, ? neutral
+unfoldable pub signResult : ℕ → ℕ
+signResult sign = cond (eqb sign 43) 2 (cond (eqb sign 45) 3 (cond (eqb sign 126) 4 1))
+
+-- the modifier of a name among the terms
+unfoldable pub modifierOf : List ℕ → List Placed → Optional (List ℕ)
+modifierOf wanted [] = absent
+modifierOf wanted (t ∷ ts) = cond (same (t .said .name) wanted) (t .said .argument) (modifierOf wanted ts)
+
+-- where this record's explanation is, if it has an exp
+unfoldable pub failingAt : List ℕ → Optional (List ℕ) → Optional Failing
+failingAt d absent = absent
+failingAt d (present e) = present (record { domain = d; exp = e })
+
+-- a result of this record: "exp of the failing record"
+unfoldable pub signed : List ℕ → List Placed → ℕ → Counts → Check Result
+signed d all-terms v c = give (record { value = v; counts = c; failing = cond (eqb v 3) (failingAt d (modifierOf (bytes "exp") all-terms)) absent })
+
+-- redirect: "runs the check on its target with its result, none becoming permerror"
+unfoldable pub noneIsPermerror : Result → Result
+noneIsPermerror r = cond (eqb (r .value) 0) (record { value = 6; counts = r .counts; failing = absent }) r
+
+-- "No match: redirect ..; without it, neutral."
+unfoldable pub noMatch : Mail → Sub → List ℕ → Optional (List ℕ) → Counts → Check Result
+noMatch mail sub d absent c = ended 1 c
+noMatch mail sub d (present spec) c =
+    counting (ended 6) (λ c. bind (target mail d spec c) (λ t. bind (sub t c) (λ r. give (noneIsPermerror r)))) c
+
+-- what a step makes of the check
+unfoldable pub afterStep : List ℕ → List Placed → Said → Match → Counts → (Counts → Check Result) → Check Result
+afterStep d all-terms x yes c rest = signed d all-terms (signResult (numberOr (x .sign))) c
+afterStep d all-terms x no c rest = rest c
+afterStep d all-terms x (stop v) c rest = ended v c
+
+-- "Terms run left to right"
+unfoldable pub tryTerms : Mail → Sub → List ℕ → List Placed → List Placed → Counts → Check Result
+tryTerms mail sub d all-terms [] c = noMatch mail sub d (modifierOf (bytes "redirect") all-terms) c
+tryTerms mail sub d all-terms (t ∷ ts) c =
+    bind (termStep mail sub d (t .said) (t .said .sign) c)
+    (λ s. afterStep d all-terms (t .said) (s .match) (s .counts) (tryTerms mail sub d all-terms ts))
+
+-- the reading of a record, term after term; at most f terms
+unfoldable pub termsAfter : TermReport → (ℕ → List Placed) → List Placed
+termsAfter end rest = []
+termsAfter (refused number at) rest = []
+termsAfter (term next t) rest = t ∷ rest next
+
+unfoldable pub termsFrom : ℕ → List ℕ → ℕ → List Placed
+termsFrom zero s i = []
+termsFrom (suc f) s i = termsAfter (termReport s (readTerm s i)) (termsFrom f s)
+
+-- "The whole record is read before any term is tried; outside the grammar gives permerror."
+unfoldable pub readOutcome : Mail → Sub → List ℕ → List ℕ → RecordAnswer → Counts → Check Result
+readOutcome mail sub d s (RecordAnswer.Accepted next) c =
+    tryTerms mail sub d (termsFrom (suc (length s)) s next) (termsFrom (suc (length s)) s next) c
+readOutcome mail sub d s (RecordAnswer.Refused number at) c = ended 6 c
+
+unfoldable pub evaluated : Mail → Sub → List ℕ → List ℕ → Counts → Check Result
+evaluated mail sub d s c = readOutcome mail sub d s (readRecord s) c
+
+-- "Of the texts with a version section"
+unfoldable pub versioned : List (List ℕ) → List (List ℕ)
+versioned [] = []
+versioned (s ∷ ss) = cond (hasVersion s) (s ∷ versioned ss) (versioned ss)
+
+-- "none gives none, several permerror, a single one is selected"
+unfoldable pub selected : Mail → Sub → List ℕ → List (List ℕ) → Counts → Check Result
+selected mail sub d [] c = ended 0 c
+selected mail sub d (s ∷ []) c = evaluated mail sub d s c
+selected mail sub d (s ∷ u ∷ r) c = ended 6 c
+
+-- "Failed gives temperror."
+unfoldable pub textReply : Mail → Sub → List ℕ → Counts → Reply → Check Result
+textReply mail sub d c failed = ended 5 c
+textReply mail sub d c (items ss) = selected mail sub d (versioned ss) c
+
+unfoldable pub textLookup : Mail → Sub → List ℕ → Counts → Check Result
+textLookup mail sub d c = ask 16 d c (textReply mail sub d c)
+
+-- "if the table holds an answered SPF entry with items, those texts; otherwise the TXT question"
+unfoldable pub spfItems : Mail → Sub → List ℕ → Counts → List (List ℕ) → Check Result
+spfItems mail sub d c [] = textLookup mail sub d c
+spfItems mail sub d c (s ∷ ss) = selected mail sub d (versioned (s ∷ ss)) c
+
+unfoldable pub spfReply : Mail → Sub → List ℕ → Counts → Optional Reply → Check Result
+spfReply mail sub d c absent = textLookup mail sub d c
+spfReply mail sub d c (present failed) = textLookup mail sub d c
+spfReply mail sub d c (present (items ss)) = spfItems mail sub d c ss
+
+-- "A malformed or single-label domain gives none."
+unfoldable pub checkName : Mail → Sub → Naming → Counts → Check Result
+checkName mail sub malformed c = ended 0 c
+checkName mail sub (name d) c = cond (leb (labelCount d) 1) (ended 0 c) (peek d (spfReply mail sub d c))
+
+-- the check of a domain, with at most n checks below one another; each takes one of the ten lookups, so eleven are enough
+unfoldable pub check : ℕ → Mail → Sub
+check zero mail d c = ended 6 c
+check (suc n) mail d c = checkName mail (check n mail) d c
+
+abbrev pub noCounts : Counts
+noCounts = record { lookups = 0; voids = 0 }
+
+-- the evaluation of a domain as it was given
+unfoldable pub evaluation : Mail → List ℕ → Check Result
+evaluation mail domain = check 11 mail (normal domain) noCounts
+
+-- "over 500 bytes: empty text"
+abbrev pub most-text : ℕ
+most-text = 500
+
+-- "a byte outside 32 to 126, or over 500 bytes: empty text"
+unfoldable pub shown : List ℕ → List ℕ
+shown s = cond (leb (length s) most-text && all isPrintable s) s []
+
+-- "one TXT text, expanded. A failed, void, doubled or malformed case ..: empty text."
+unfoldable pub explained : Mail → List ℕ → Counts → List (List ℕ) → Check (List ℕ)
+explained mail d c [] = give []
+explained mail d c (s ∷ []) = cond (isMacroString Form.Explanation s) (bind (expanded mail d Form.Explanation s c) (λ x. give (shown x))) (give [])
+explained mail d c (s ∷ u ∷ r) = give []
+
+unfoldable pub explainReply : Mail → List ℕ → Counts → Reply → Check (List ℕ)
+explainReply mail d c failed = give []
+explainReply mail d c (items ss) = explained mail d c ss
+
+unfoldable pub explainName : Mail → List ℕ → Counts → Naming → Check (List ℕ)
+explainName mail d c malformed = give []
+explainName mail d c (name n) = ask 16 n c (explainReply mail d c)
+
+-- "Fail at the outermost check, or through redirects only, fetches exp of the failing record"; it counts nothing
+unfoldable pub explanation : Mail → Optional Failing → Counts → Check (List ℕ)
+explanation mail absent c = give []
+explanation mail (present f) c = bind (target mail (f .domain) (f .exp) c) (explainName mail (f .domain) c)
+
+-- the whole answer of an evaluation: the result, both counts, and the text of a fail
+pub record Verdict : Type 0 where
+  pub value : ℕ
+  pub counts : Counts
+  pub text : List ℕ
+
+unfoldable pub verdict : Mail → List ℕ → Check Verdict
+verdict mail domain =
+    bind (evaluation mail domain)
+    (λ r. bind (explanation mail (r .failing) (r .counts)) (λ x. give (record { value = r .value; counts = r .counts; text = x })))
