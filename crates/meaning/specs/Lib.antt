@@ -7,3 +7,5 @@ pub mod Tables
 pub mod Mechanisms
 -- Evaluation: record lookup, terms, include, redirect, and the explanation.
 pub mod Evaluation
+-- Examples: cases of 01 about evaluation, computed.
+pub mod Examples

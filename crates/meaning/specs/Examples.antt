@@ -1,0 +1,118 @@
+-- 01's cases about evaluation and its "errors that look right", computed: each is a zone, a mail and what the evaluation answers.
+use Prim.Native.Nat.{ℕ}
+use mathlib.Core.Path.{_≡_, refl}
+use mathlib.Core.List.{List, [], _∷_}
+use mathlib.Core.Bool.{cond, _&&_}
+use lib.Dec.{eqb}
+use Rattle.text.specs.Texts.{bytes}
+use Rattle.address.specs.declared.Address.the-variants.{IPv4}
+use Rattle.records.specs.Readings.{Optional, absent, present}
+use Rattle.text.specs.Bytes.{within, isSpace, isNotSpace, isNotSlash, isUpper, isNotUpper, isAlpha, isDigit, isLengthByte, isAlphanumeric, isHexDigit, isVisible, isPrintable, isLabelByte, isNameByte, isToplabelByte, isMacroLiteral, isDelimiter, lower}
+use Rattle.text.specs.Decimal.{decimalFrom, decimal, isDecimal, readDecimal, pushed, hasNoLeadingZero, readNumber}
+use Rattle.text.specs.Lists.{same, sameWord, contains, all, rightmost, grow, split, dotBefore, join}
+use Rattle.text.specs.Runs.{isIn, run as text-runs-of-run, runEnd, trailingStart}
+use Rattle.text.specs.Writing.{overwritten}
+use Rattle.address.specs.Matching.{bitsOf, bits, agree, matchesAt}
+use Rattle.address.specs.Octets.{octetsOf, octets, valueFrom, valueOf as address-octets-of-valueOf, fromOctets, mappedPrefix, clientOctets, asClient}
+use Rattle.domain.specs.Names.{labels, isLabel, isName, isTableName, labelCount, sameLabels, atOrBelow}
+use Rattle.domain.specs.Normal.{withoutDot, lowered, normal}
+use Rattle.domain.specs.Shortening.{shorterLabels, shortened}
+use Rattle.notation.specs.Digits.{digit, numeral, inDecimal, inHex}
+use Rattle.notation.specs.Forms.{nibbles, groups, octetTexts, nibbleTexts, colonBefore, dotted, readable, family, reversedName}
+use Rattle.notation.specs.Rows.{partsOf, textOf as notation-rows-of-textOf, ordered, place, separatorBefore, separated, row}
+use Rattle.transformers.specs.Transform.{isListed, reversedIf, kept, isUnreserved, hexDigit, escapedByte, escaped, transformed}
+use Rattle.macros.specs.Expansion.{lastPart as macros-expansion-of-lastPart, senderDomain, written, localPart, receiverName, lettersOf, valueOf as macros-expansion-of-valueOf, laterValue, escapeText, pieceText, macroText, textOf as macros-expansion-of-textOf, isSender, isHost, isShort}
+use Rattle.macros.specs.Grammar.{isLetter, isCount}
+use Rattle.macros.specs.Numbers.{fitted, outcome}
+use Rattle.macros.specs.Question.{questionName}
+use Rattle.macros.specs.Reader.{isLiteral, isEscape, isReverse, closedAt, delimitersAt, reversalAt, digitsAt, bracesOf, pieceOf, macroOf, piecesAfter, piecesFrom, pieces, endsInMacro, isToplabel, lastLabel, endsInLabel, endsRight, isMacroString, isP, anyP, scanOf, usesP}
+use Rattle.networks.specs.Grammar.{hexValue, hexFrom, groupsFrom}
+use Rattle.networks.specs.Reader.{octetAt, dotOctetAt, readIp4, slashNumber, readLength, readLength4, readLength6, frontEnd, secondLength, readDual}
+use Rattle.networks.specs.Reader6.{firstColon, isDoubleColon, doubleColon, readH16, tailOf, lastOf, lastPart as networks-reader6-of-lastPart, push, rowOf, readRow, readSide, addressOf, filled, fullOf, shortOf, readIp6, firstOf, readAddress, octetPairs, networkOf}
+use Rattle.records.specs.Grammar.{isQualifier, isReserved, countOf}
+use Rattle.records.specs.Numbers.{saidOf, argumentOf}
+use Rattle.records.specs.Reader.{laterKind, kindOf, specAt, allOf, includeOf, existsOf, ptrOf, cutOf, hostsCut, hostsAt, aOf, mxOf, ip4Cut, ip4Of, ip6Cut, ip6Of, mechanismBy, mechanismOf, modifierOf as records-reader-of-modifierOf, tokenOf, tokenAnswer, termFrom, readTerm, isRedirect, isExplanation, checkAfter, endedOf, checkFrom, hasVersion, readRecord}
+use Rattle.meaning.specs.Evaluation.{Verdict, includeMatch, includeStep, bytesOr, numberOr, lengthFor, networkStep, mechanismStep, termStep, signResult, modifierOf, failingAt, signed, noneIsPermerror, noMatch, afterStep, tryTerms, termsAfter, termsFrom, readOutcome, evaluated, versioned, selected, textReply, textLookup, spfItems, spfReply, checkName, check, evaluation, shown, explained, explainReply, explainName, explanation, verdict}
+use Rattle.meaning.specs.Mechanisms.{Mail, addressKind, itemMatches, anyMatches, width, includesClient, validated, namesOf, holdsName, firstBelow, firstOr, chosen, pValue, expansion, expanded, target, targetOr, counting, withName, orVoid, orFailed, aStep, existsStep, insertHost, byPreference, askHosts, mxStep, askNames, ptrReply, ptrStep}
+use Rattle.meaning.specs.Tables.{replyOf, asks}
+use Rattle.meaning.specs.Tree.{Reply, failed, items, Table, Settled, settled, wanting, bind, then, answered, run}
+
+-- a zone: the kind, the name and the answer of each entry
+pub record Row : Type 0 where
+  pub kind : ℕ
+  pub owner : List ℕ
+  pub reply : Reply
+
+unfoldable pub zone : List Row → Table
+zone [] kind owner = absent
+zone (r ∷ rs) kind owner = cond (eqb (r .kind) kind && same (r .owner) owner) (present (r .reply)) (zone rs kind owner)
+
+-- a record of a domain
+abbrev pub txt : List ℕ → List ℕ → Row
+txt owner s = record { kind = 16; owner = owner; reply = items (s ∷ []) }
+
+-- a question for addresses that finds nothing
+abbrev pub nothing : List ℕ → Row
+nothing owner = record { kind = 1; owner = owner; reply = items [] }
+
+-- client 192.0.2.129, sender user@example.com, HELO helo.example
+abbrev pub mail : Mail
+mail = record { client = IPv4 3221226113; sender = bytes "user@example.com"; helo = bytes "helo.example"; receiver = []; seconds = 7 }
+
+-- what example.com's evaluation answers over a zone
+unfoldable pub answer : List Row → Settled Verdict
+answer rs = run (zone rs) (verdict mail (bytes "example.com"))
+
+-- a number and both counts, without a text
+abbrev pub decided : ℕ → ℕ → ℕ → Settled Verdict
+decided v l w = settled (record { value = v; counts = record { lookups = l; voids = w }; text = [] })
+
+pub record Cases : Type 0 where
+  -- nothing is known yet: the TXT question is wanting
+  pub first-question : answer [] ≡ wanting 16 (bytes "example.com") (record { lookups = 0; voids = 0 })
+  pub plain-fail : answer (txt (bytes "example.com") (bytes "v=spf1 -all") ∷ []) ≡ decided 3 0 0
+  -- 192.0.2.129 against 192.0.2.0 at /24 and /25
+  pub within-24 : answer (txt (bytes "example.com") (bytes "v=spf1 ip4:192.0.2.0/24 -all") ∷ []) ≡ decided 2 0 0
+  pub outside-25 : answer (txt (bytes "example.com") (bytes "v=spf1 ip4:192.0.2.0/25 -all") ∷ []) ≡ decided 3 0 0
+  -- an included fail isn't this record's fail
+  pub included-fail : answer (txt (bytes "example.com") (bytes "v=spf1 include:b.example ?all") ∷ txt (bytes "b.example") (bytes "v=spf1 -all") ∷ []) ≡ decided 1 1 0
+  -- a redirect to a domain without a record isn't neutral
+  pub redirect-none : answer (txt (bytes "example.com") (bytes "v=spf1 redirect=b.example") ∷ record { kind = 16; owner = bytes "b.example"; reply = items [] } ∷ [])
+    ≡ decided 6 1 0
+  -- a later bad term is read before any is tried
+  pub later-bad-term : answer (txt (bytes "example.com") (bytes "v=spf1 +all moo") ∷ []) ≡ decided 6 0 0
+  -- a length of 33 isn't reduced to 1
+  pub length-33 : answer (txt (bytes "example.com") (bytes "v=spf1 ip4:192.0.2.0/33 -all") ∷ []) ≡ decided 6 0 0
+  -- two void exists and `-all` give 3, three give 6
+  pub two-voids : answer (txt (bytes "example.com") (bytes "v=spf1 exists:a.b exists:a.b -all") ∷ nothing (bytes "a.b") ∷ []) ≡ decided 3 2 2
+  pub three-voids : answer (txt (bytes "example.com") (bytes "v=spf1 exists:a.b exists:a.b exists:a.b -all") ∷ nothing (bytes "a.b") ∷ []) ≡ decided 6 3 3
+  -- the eleventh lookup isn't begun: ten redirects work, eleven give 6
+  pub ten-redirects : answer (txt (bytes "example.com") (bytes "v=spf1 redirect=a0.b") ∷ txt (bytes "a0.b") (bytes "v=spf1 redirect=a1.b") ∷ txt (bytes "a1.b") (bytes "v=spf1 redirect=a2.b")
+    ∷ txt (bytes "a2.b") (bytes "v=spf1 redirect=a3.b") ∷ txt (bytes "a3.b") (bytes "v=spf1 redirect=a4.b") ∷ txt (bytes "a4.b") (bytes "v=spf1 redirect=a5.b")
+    ∷ txt (bytes "a5.b") (bytes "v=spf1 redirect=a6.b") ∷ txt (bytes "a6.b") (bytes "v=spf1 redirect=a7.b") ∷ txt (bytes "a7.b") (bytes "v=spf1 redirect=a8.b")
+    ∷ txt (bytes "a8.b") (bytes "v=spf1 redirect=a9.b") ∷ txt (bytes "a9.b") (bytes "v=spf1 -all") ∷ []) ≡ decided 3 10 0
+  pub eleven-redirects : answer (txt (bytes "example.com") (bytes "v=spf1 redirect=a0.b") ∷ txt (bytes "a0.b") (bytes "v=spf1 redirect=a1.b") ∷ txt (bytes "a1.b") (bytes "v=spf1 redirect=a2.b")
+    ∷ txt (bytes "a2.b") (bytes "v=spf1 redirect=a3.b") ∷ txt (bytes "a3.b") (bytes "v=spf1 redirect=a4.b") ∷ txt (bytes "a4.b") (bytes "v=spf1 redirect=a5.b")
+    ∷ txt (bytes "a5.b") (bytes "v=spf1 redirect=a6.b") ∷ txt (bytes "a6.b") (bytes "v=spf1 redirect=a7.b") ∷ txt (bytes "a7.b") (bytes "v=spf1 redirect=a8.b")
+    ∷ txt (bytes "a8.b") (bytes "v=spf1 redirect=a9.b") ∷ txt (bytes "a9.b") (bytes "v=spf1 redirect=b0.b") ∷ txt (bytes "b0.b") (bytes "v=spf1 -all") ∷ []) ≡ decided 6 10 0
+  -- the explanation of a fail, expanded
+  pub explained-fail : answer (txt (bytes "example.com") (bytes "v=spf1 -all exp=e.example") ∷ txt (bytes "e.example") (bytes "%{i} at %{t}") ∷ [])
+    ≡ settled (record { value = 3; counts = record { lookups = 0; voids = 0 }; text = bytes "192.0.2.129 at 7" })
+
+pub cases : Cases
+unfolding zone answer within isSpace isNotSpace isNotSlash isUpper isNotUpper isAlpha isDigit isLengthByte isAlphanumeric isHexDigit isVisible isPrintable isLabelByte isNameByte isToplabelByte isMacroLiteral isDelimiter lower decimalFrom decimal isDecimal readDecimal pushed hasNoLeadingZero readNumber same sameWord contains all rightmost grow split dotBefore join isIn text-runs-of-run runEnd trailingStart overwritten bitsOf bits agree matchesAt octetsOf octets valueFrom address-octets-of-valueOf fromOctets mappedPrefix clientOctets asClient labels isLabel isName isTableName labelCount sameLabels atOrBelow withoutDot lowered normal shorterLabels shortened digit numeral inDecimal inHex nibbles groups octetTexts nibbleTexts colonBefore dotted readable family reversedName partsOf notation-rows-of-textOf ordered place separatorBefore separated row isListed reversedIf kept isUnreserved hexDigit escapedByte escaped transformed macros-expansion-of-lastPart senderDomain written localPart receiverName lettersOf macros-expansion-of-valueOf laterValue escapeText pieceText macroText macros-expansion-of-textOf isSender isHost isShort isLetter isCount fitted outcome questionName isLiteral isEscape isReverse closedAt delimitersAt reversalAt digitsAt bracesOf pieceOf macroOf piecesAfter piecesFrom pieces endsInMacro isToplabel lastLabel endsInLabel endsRight isMacroString isP anyP scanOf usesP hexValue hexFrom groupsFrom octetAt dotOctetAt readIp4 slashNumber readLength readLength4 readLength6 frontEnd secondLength readDual firstColon isDoubleColon doubleColon readH16 tailOf lastOf networks-reader6-of-lastPart push rowOf readRow readSide addressOf filled fullOf shortOf readIp6 firstOf readAddress octetPairs networkOf isQualifier isReserved countOf saidOf argumentOf laterKind kindOf specAt allOf includeOf existsOf ptrOf cutOf hostsCut hostsAt aOf mxOf ip4Cut ip4Of ip6Cut ip6Of mechanismBy mechanismOf records-reader-of-modifierOf tokenOf tokenAnswer termFrom readTerm isRedirect isExplanation checkAfter endedOf checkFrom hasVersion readRecord includeMatch includeStep bytesOr numberOr lengthFor networkStep mechanismStep termStep signResult modifierOf failingAt signed noneIsPermerror noMatch afterStep tryTerms termsAfter termsFrom readOutcome evaluated versioned selected textReply textLookup spfItems spfReply checkName check evaluation shown explained explainReply explainName explanation verdict addressKind itemMatches anyMatches width includesClient validated namesOf holdsName firstBelow firstOr chosen pValue expansion expanded target targetOr counting withName orVoid orFailed aStep existsStep insertHost byPreference askHosts mxStep askNames ptrReply ptrStep replyOf asks bind then answered run
+cases = record {
+  first-question = refl;
+  plain-fail = refl;
+  within-24 = refl;
+  outside-25 = refl;
+  included-fail = refl;
+  redirect-none = refl;
+  later-bad-term = refl;
+  length-33 = refl;
+  two-voids = refl;
+  three-voids = refl;
+  ten-redirects = refl;
+  eleven-redirects = refl;
+  explained-fail = refl;
+}
