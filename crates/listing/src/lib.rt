@@ -82,7 +82,7 @@ fn print_modifier(name: &[u8], argument: &[u8]) {
 }
 
 // Prints all of a term but its place; w is its text.
-pub fn print_term(term: Term, w: &[u8], argument: &[u8]) {
+fn print_term(term: Term, w: &[u8], argument: &[u8]) {
     match term {
         Term::All { sign } => print_plain(b"all", sign, argument),
         Term::Include {

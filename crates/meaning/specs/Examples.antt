@@ -78,7 +78,7 @@ pub record Cases : Type 0 where
   pub included-fail : answer (txt (bytes "example.com") (bytes "v=spf1 include:b.example ?all") ∷ txt (bytes "b.example") (bytes "v=spf1 -all") ∷ []) ≡ decided 1 1 0
   -- a redirect to a domain without a record isn't neutral
   pub redirect-none : answer (txt (bytes "example.com") (bytes "v=spf1 redirect=b.example") ∷ record { kind = 16; owner = bytes "b.example"; reply = items [] } ∷ [])
-    ≡ decided 6 1 0
+      ≡ decided 6 1 0
   -- a later bad term is read before any is tried
   pub later-bad-term : answer (txt (bytes "example.com") (bytes "v=spf1 +all moo") ∷ []) ≡ decided 6 0 0
   -- a length of 33 isn't reduced to 1
@@ -88,16 +88,16 @@ pub record Cases : Type 0 where
   pub three-voids : answer (txt (bytes "example.com") (bytes "v=spf1 exists:a.b exists:a.b exists:a.b -all") ∷ nothing (bytes "a.b") ∷ []) ≡ decided 6 3 3
   -- the eleventh lookup isn't begun: ten redirects work, eleven give 6
   pub ten-redirects : answer (txt (bytes "example.com") (bytes "v=spf1 redirect=a0.b") ∷ txt (bytes "a0.b") (bytes "v=spf1 redirect=a1.b") ∷ txt (bytes "a1.b") (bytes "v=spf1 redirect=a2.b")
-    ∷ txt (bytes "a2.b") (bytes "v=spf1 redirect=a3.b") ∷ txt (bytes "a3.b") (bytes "v=spf1 redirect=a4.b") ∷ txt (bytes "a4.b") (bytes "v=spf1 redirect=a5.b")
-    ∷ txt (bytes "a5.b") (bytes "v=spf1 redirect=a6.b") ∷ txt (bytes "a6.b") (bytes "v=spf1 redirect=a7.b") ∷ txt (bytes "a7.b") (bytes "v=spf1 redirect=a8.b")
-    ∷ txt (bytes "a8.b") (bytes "v=spf1 redirect=a9.b") ∷ txt (bytes "a9.b") (bytes "v=spf1 -all") ∷ []) ≡ decided 3 10 0
+      ∷ txt (bytes "a2.b") (bytes "v=spf1 redirect=a3.b") ∷ txt (bytes "a3.b") (bytes "v=spf1 redirect=a4.b") ∷ txt (bytes "a4.b") (bytes "v=spf1 redirect=a5.b")
+      ∷ txt (bytes "a5.b") (bytes "v=spf1 redirect=a6.b") ∷ txt (bytes "a6.b") (bytes "v=spf1 redirect=a7.b") ∷ txt (bytes "a7.b") (bytes "v=spf1 redirect=a8.b")
+      ∷ txt (bytes "a8.b") (bytes "v=spf1 redirect=a9.b") ∷ txt (bytes "a9.b") (bytes "v=spf1 -all") ∷ []) ≡ decided 3 10 0
   pub eleven-redirects : answer (txt (bytes "example.com") (bytes "v=spf1 redirect=a0.b") ∷ txt (bytes "a0.b") (bytes "v=spf1 redirect=a1.b") ∷ txt (bytes "a1.b") (bytes "v=spf1 redirect=a2.b")
-    ∷ txt (bytes "a2.b") (bytes "v=spf1 redirect=a3.b") ∷ txt (bytes "a3.b") (bytes "v=spf1 redirect=a4.b") ∷ txt (bytes "a4.b") (bytes "v=spf1 redirect=a5.b")
-    ∷ txt (bytes "a5.b") (bytes "v=spf1 redirect=a6.b") ∷ txt (bytes "a6.b") (bytes "v=spf1 redirect=a7.b") ∷ txt (bytes "a7.b") (bytes "v=spf1 redirect=a8.b")
-    ∷ txt (bytes "a8.b") (bytes "v=spf1 redirect=a9.b") ∷ txt (bytes "a9.b") (bytes "v=spf1 redirect=b0.b") ∷ txt (bytes "b0.b") (bytes "v=spf1 -all") ∷ []) ≡ decided 6 10 0
+      ∷ txt (bytes "a2.b") (bytes "v=spf1 redirect=a3.b") ∷ txt (bytes "a3.b") (bytes "v=spf1 redirect=a4.b") ∷ txt (bytes "a4.b") (bytes "v=spf1 redirect=a5.b")
+      ∷ txt (bytes "a5.b") (bytes "v=spf1 redirect=a6.b") ∷ txt (bytes "a6.b") (bytes "v=spf1 redirect=a7.b") ∷ txt (bytes "a7.b") (bytes "v=spf1 redirect=a8.b")
+      ∷ txt (bytes "a8.b") (bytes "v=spf1 redirect=a9.b") ∷ txt (bytes "a9.b") (bytes "v=spf1 redirect=b0.b") ∷ txt (bytes "b0.b") (bytes "v=spf1 -all") ∷ []) ≡ decided 6 10 0
   -- the explanation of a fail, expanded
   pub explained-fail : answer (txt (bytes "example.com") (bytes "v=spf1 -all exp=e.example") ∷ txt (bytes "e.example") (bytes "%{i} at %{t}") ∷ [])
-    ≡ settled (record { value = 3; counts = record { lookups = 0; voids = 0 }; text = bytes "192.0.2.129 at 7" })
+      ≡ settled (record { value = 3; counts = record { lookups = 0; voids = 0 }; text = bytes "192.0.2.129 at 7" })
 
 pub cases : Cases
 unfolding zone answer within isSpace isNotSpace isNotSlash isUpper isNotUpper isAlpha isDigit isLengthByte isAlphanumeric isHexDigit isVisible isPrintable isLabelByte isNameByte isToplabelByte isMacroLiteral isDelimiter lower decimalFrom decimal isDecimal readDecimal pushed hasNoLeadingZero readNumber same sameWord contains all rightmost grow split dotBefore join isIn text-runs-of-run runEnd trailingStart overwritten bitsOf bits agree matchesAt octetsOf octets valueFrom address-octets-of-valueOf fromOctets mappedPrefix clientOctets asClient labels isLabel isName isTableName labelCount sameLabels atOrBelow withoutDot lowered normal shorterLabels shortened digit numeral inDecimal inHex nibbles groups octetTexts nibbleTexts colonBefore dotted readable family reversedName partsOf notation-rows-of-textOf ordered place separatorBefore separated row isListed reversedIf kept isUnreserved hexDigit escapedByte escaped transformed macros-expansion-of-lastPart senderDomain written localPart receiverName lettersOf macros-expansion-of-valueOf laterValue escapeText pieceText macroText macros-expansion-of-textOf isSender isHost isShort isLetter isCount fitted outcome questionName isLiteral isEscape isReverse closedAt delimitersAt reversalAt digitsAt bracesOf pieceOf macroOf piecesAfter piecesFrom pieces endsInMacro isToplabel lastLabel endsInLabel endsRight isMacroString isP anyP scanOf usesP hexValue hexFrom groupsFrom octetAt dotOctetAt readIp4 slashNumber readLength readLength4 readLength6 frontEnd secondLength readDual firstColon isDoubleColon doubleColon readH16 tailOf lastOf networks-reader6-of-lastPart push rowOf readRow readSide addressOf filled fullOf shortOf readIp6 firstOf readAddress octetPairs networkOf isQualifier isReserved countOf saidOf argumentOf laterKind kindOf specAt allOf includeOf existsOf ptrOf cutOf hostsCut hostsAt aOf mxOf ip4Cut ip4Of ip6Cut ip6Of mechanismBy mechanismOf records-reader-of-modifierOf tokenOf tokenAnswer termFrom readTerm isRedirect isExplanation checkAfter endedOf checkFrom hasVersion readRecord includeMatch includeStep bytesOr numberOr lengthFor networkStep mechanismStep termStep signResult modifierOf failingAt signed noneIsPermerror noMatch afterStep tryTerms termsAfter termsFrom readOutcome evaluated versioned selected textReply textLookup spfItems spfReply checkName check evaluation shown explained explainReply explainName explanation verdict addressKind itemMatches anyMatches width includesClient validated namesOf holdsName firstBelow firstOr chosen pValue expansion expanded target targetOr counting withName orVoid orFailed aStep existsStep insertHost byPreference askHosts mxStep askNames ptrReply ptrStep replyOf asks bind then answered run

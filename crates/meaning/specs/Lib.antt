@@ -7,5 +7,13 @@ pub mod Tables
 pub mod Mechanisms
 -- Evaluation: record lookup, terms, include, redirect, and the explanation.
 pub mod Evaluation
+-- Always: what holds of every way through a check.
+pub mod Always
+-- Bounds: lookups never exceed 10, voids never 3, and 2 unless the result is permerror.
+pub mod Bounds
+-- Reached: which checks an evaluation reaches, and that a record outside the grammar is never evaluated.
+pub mod Reached
+-- Demand3: reading a record, reading its terms and evaluating, as one theorem.
+pub mod Demand3
 -- Examples: cases of 01 about evaluation, computed.
 pub mod Examples

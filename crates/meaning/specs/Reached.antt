@@ -1,0 +1,222 @@
+-- A record outside the grammar is never evaluated: where a check that an evaluation reaches selects one, the whole evaluation ends in permerror with
+-- the counts of that moment. By induction on how the check is reached, from the productions, records' claim and the tree of questions.
+use Prim.Native.Nat.{ℕ, zero, suc, _≤_, _<_}
+use mathlib.Core.Path.{_≡_, refl, ap, _∙_}
+use mathlib.Core.Logic.{⊎-elim}
+use mathlib.Core.List.{List, [], _∷_, _++_}
+use native.Mathlib.Omega.{arith}
+use lib.ListN.{length, length-append}
+use borrow.Author.Tests.{lt-ltb, lt-leb}
+use Rattle.text.specs.Lists.{same}
+use Rattle.text.specs.Texts.{bytes}
+use Rattle.text.proofs.Laws.Orders.{le-or-lt}
+use Rattle.domain.specs.Names.{labelCount}
+use Rattle.domain.specs.Normal.{Naming, name, normal}
+use Rattle.records.specs.Readings.{Optional, absent, present, Said, Placed}
+use Rattle.records.specs.Grammar.{Terms, done, term as term-made, Record, spf1}
+use Rattle.records.specs.Reader.{readRecord, Reads, stop as reads-stop, step as reads-step}
+use Rattle.records.specs.declared.RecordAnswer.{RecordAnswer}
+use Rattle.records.proofs.Laws.Records.{record-complete, record-sound}
+use Rattle.meaning.specs.declared.Counts.{Counts}
+use Rattle.meaning.specs.Tree.{Reply, failed, items, Table, Check, peek, Settled, settled, bind, then, answered, run, run-bind}
+use Rattle.meaning.specs.Mechanisms.{Mail, Match, no, stop, Step, target, most-lookups, begun, counting}
+use Rattle.meaning.specs.Evaluation.{Result, Sub, includeMatch, includeStep, bytesOr, mechanismStep, termStep, modifierOf, noneIsPermerror, noMatch, afterStep, tryTerms, termsAfter, termsFrom, readOutcome, evaluated, versioned, selected, textReply, textLookup, spfItems, spfReply, checkName, check, noCounts, evaluation, explanation, verdict}
+
+-- what a table has for the SPF question of a name is no "answered SPF entry with items"
+pub data NoSpfItems : Optional Reply → Type 0 where
+  not-there : NoSpfItems absent
+  not-answered : NoSpfItems (present failed)
+  void : NoSpfItems (present (items []))
+
+-- the texts of a domain: "if the table holds an answered SPF entry with items, those texts; otherwise the TXT question"
+pub data Texts (t : Table) (d : List ℕ) : List (List ℕ) → Type 0 where
+  of-spf : {s : List ℕ} {ss : List (List ℕ)} → t 99 d ≡ present (items (s ∷ ss)) → Texts t d (s ∷ ss)
+  of-txt : {ss : List (List ℕ)} {r : Optional Reply} → t 99 d ≡ r → NoSpfItems r → t 16 d ≡ present (items ss) → Texts t d ss
+
+-- the check of a domain of more than one label selects a text: the only one of the domain's texts with a version section
+pub data Selects (t : Table) (d s : List ℕ) : Type 0 where
+  only : {ss : List (List ℕ)} → 1 < labelCount d → Texts t d ss → versioned ss ≡ s ∷ [] → Selects t d s
+
+-- Trying the terms of a record of the domain d, from the counts c on, comes to the check of a domain: each term before gives no match and hands on
+-- its counts; the term is an include that is begun, or none is left and the record has a redirect that is begun; and its target is a name.
+pub data Begins (t : Table) (mail : Mail) (sub : Sub) (d : List ℕ) (all-terms : List Placed) : List Placed → Counts → List ℕ → Counts → Type 0 where
+  past-term : {x : Placed} {ts : List Placed} {c l k : Counts} {e : List ℕ}
+      → run t (termStep mail sub d (x .said) (x .said .sign) c) ≡ settled (record { match = no; counts = l })
+      → Begins t mail sub d all-terms ts l e k → Begins t mail sub d all-terms (x ∷ ts) c e k
+  by-include : {x : Placed} {ts : List Placed} {c : Counts} {e spec : List ℕ} {sign : ℕ}
+      → x .said .name ≡ bytes "include" → x .said .sign ≡ present sign → x .said .argument ≡ present spec
+      → c .lookups < most-lookups → run t (target mail d spec (begun c)) ≡ settled (name e)
+      → Begins t mail sub d all-terms (x ∷ ts) c e (begun c)
+  by-redirect : {c : Counts} {e spec : List ℕ}
+      → modifierOf (bytes "redirect") all-terms ≡ present spec
+      → c .lookups < most-lookups → run t (target mail d spec (begun c)) ≡ settled (name e)
+      → Begins t mail sub d all-terms [] c e (begun c)
+
+-- The check of a domain from the counts c on comes to the check of the domain e with the counts k: it is that check; or it selects a record of the
+-- grammar, and trying the terms of its reading comes to a check, one level down, that comes to it. The numbers are how many levels are left;
+-- the theorem holds of any, also of none.
+pub data Reaches (t : Table) (mail : Mail) : ℕ → Naming → Counts → ℕ → List ℕ → Counts → Type 0 where
+  here : {n : ℕ} {d : List ℕ} {c : Counts} → Reaches t mail n (name d) c n d c
+  below : {n m : ℕ} {d s x e : List ℕ} {ts : List Placed} {c l k : Counts}
+      → Selects t d s → length s ≤ 4096 → Record s ts → Begins t mail (check n mail) d ts ts c x l
+      → Reaches t mail n (name x) l m e k → Reaches t mail (suc n) (name d) c m e k
+
+abbrev pub permerror : Counts → Settled Result
+permerror c = settled (record { value = 6; counts = c; failing = absent })
+
+-- a check by the record that it selects
+text-is : (t : Table) (mail : Mail) (sub : Sub) (d : List ℕ) (c : Counts) (ss : List (List ℕ)) → t 16 d ≡ present (items ss)
+    → run t (textLookup mail sub d c) ≡ run t (selected mail sub d (versioned ss) c)
+unfolding textLookup run answered textReply
+text-is t mail sub d c ss e = rw e
+
+peeked : (t : Table) (d : List ℕ) (g : Optional Reply → Check Result) → run t (peek d g) ≡ run t (g (t 99 d))
+unfolding run
+peeked t d g = refl
+
+peek-is : (t : Table) (mail : Mail) (n : ℕ) (d : List ℕ) (c : Counts) → 1 < labelCount d
+    → run t (check (suc n) mail (name d) c) ≡ run t (spfReply mail (check n mail) d c (t 99 d))
+unfolding check checkName
+peek-is t mail n d c h = rw (lt-leb _ _ h) (peeked t d (spfReply mail (check n mail) d c))
+
+texts-are : (t : Table) (mail : Mail) (sub : Sub) (d : List ℕ) (c : Counts) {ss : List (List ℕ)} → Texts t d ss
+    → run t (spfReply mail sub d c (t 99 d)) ≡ run t (selected mail sub d (versioned ss) c)
+unfolding spfReply spfItems
+texts-are t mail sub d c (of-spf p) = rw p
+texts-are t mail sub d c (of-txt p not-there q) = rw p (text-is t mail sub d c _ q)
+texts-are t mail sub d c (of-txt p not-answered q) = rw p (text-is t mail sub d c _ q)
+texts-are t mail sub d c (of-txt p void q) = rw p (text-is t mail sub d c _ q)
+
+select-is : (t : Table) (mail : Mail) (n : ℕ) (d s : List ℕ) (c : Counts) → Selects t d s
+    → run t (check (suc n) mail (name d) c) ≡ run t (readOutcome mail (check n mail) d s (readRecord s) c)
+unfolding selected evaluated
+select-is t mail n d s c (only h x v) = peek-is t mail n d c h ∙ texts-are t mail (check n mail) d c x ∙ rw v
+
+-- the terms that are tried are those of the reading that the productions make
+terms-length : {p : ℕ} {w : List ℕ} {ts : List Placed} → Terms p w ts → length ts ≤ length w
+terms-length (done m) = omega arith
+terms-length (term-made u w {rest = rest} m d r) = omega (arith, terms-length r, length-append (32 ∷ u) (w ++ rest), length-append w rest)
+
+record-length : {s : List ℕ} {ts : List Placed} → Record s ts → length ts ≤ length s
+record-length (spf1 {v = v} {rest = rest} l t o) = omega (arith, terms-length t, length-append v rest)
+
+reads-terms : {s : List ℕ} {i : ℕ} {ts : List Placed} (f : ℕ) → length ts ≤ f → Reads s i ts → termsFrom (suc f) s i ≡ ts
+unfolding termsFrom termsAfter
+reads-terms f h (reads-stop p) = rw p
+reads-terms zero h (reads-step p r) = absurd (omega arith)
+reads-terms (suc f) h (reads-step {t = t} p r) = rw p (ap (λ (us : List Placed). t ∷ us) (reads-terms f (omega arith) r))
+
+read-is : (t : Table) (mail : Mail) (sub : Sub) (d s : List ℕ) (c : Counts) {ts : List Placed} → length s ≤ 4096 → Record s ts
+    → run t (readOutcome mail sub d s (readRecord s) c) ≡ run t (tryTerms mail sub d ts ts c)
+unfolding readOutcome
+read-is t mail sub d s c {ts} h r =
+    let a = record-complete r h in
+    rw (a .accepted, reads-terms (length s) (record-length r) (a .walk))
+
+-- a lookup that is begun
+counting-is : {A : Type 0} (refuse go : Counts → Check A) (c : Counts) → c .lookups < most-lookups → counting refuse go c ≡ go (begun c)
+unfolding counting
+counting-is refuse go c h = rw (lt-ltb _ _ h)
+
+-- the first of two checks by what it settles at
+bind-is : {A B : Type 0} (t : Table) (m : Check A) (f : A → Check B) (a : A) → run t m ≡ settled a → run t (bind m f) ≡ run t (f a)
+unfolding then
+bind-is t m f a e = run-bind t m f ∙ rw e
+
+-- one term by what it settles at
+term-is : (t : Table) (mail : Mail) (sub : Sub) (d : List ℕ) (all-terms : List Placed) (x : Placed) (ts : List Placed) (c l : Counts) (m : Match)
+    → run t (termStep mail sub d (x .said) (x .said .sign) c) ≡ settled (record { match = m; counts = l })
+    → run t (tryTerms mail sub d all-terms (x ∷ ts) c) ≡ run t (afterStep d all-terms (x .said) m l (tryTerms mail sub d all-terms ts))
+unfolding tryTerms
+term-is t mail sub d all-terms x ts c l m e = bind-is t (termStep mail sub d (x .said) (x .said .sign) c) _ _ e
+
+-- an include's permerror stops the check
+include-error : (t : Table) (mail : Mail) (sub : Sub) (d spec e : List ℕ) (c z : Counts) → c .lookups < most-lookups
+    → run t (target mail d spec (begun c)) ≡ settled (name e) → run t (sub (name e) (begun c)) ≡ permerror z
+    → run t (includeStep mail sub d spec c) ≡ settled (record { match = stop 6; counts = z })
+unfolding includeStep run includeMatch
+include-error t mail sub d spec e c z h g p =
+    ap (λ (m : Check Step). run t m) (counting-is _ _ c h) ∙ bind-is t (target mail d spec (begun c)) _ (name e) g ∙ bind-is t (sub (name e) (begun c)) _ _ p
+
+include-is : (t : Table) (mail : Mail) (sub : Sub) (d : List ℕ) (x : Said) (spec : List ℕ) (sign : ℕ) (c : Counts)
+    → x .name ≡ bytes "include" → x .sign ≡ present sign → x .argument ≡ present spec
+    → termStep mail sub d x (x .sign) c ≡ includeStep mail sub d spec c
+unfolding termStep mechanismStep bytesOr same
+include-is t mail sub d x spec sign c n g a = rw (g, n, a)
+
+-- a redirect's permerror is the check's
+redirect-error : (t : Table) (mail : Mail) (sub : Sub) (d spec e : List ℕ) (c z : Counts) → c .lookups < most-lookups
+    → run t (target mail d spec (begun c)) ≡ settled (name e) → run t (sub (name e) (begun c)) ≡ permerror z
+    → run t (noMatch mail sub d (present spec) c) ≡ permerror z
+unfolding noMatch run noneIsPermerror
+redirect-error t mail sub d spec e c z h g p =
+    ap (λ (m : Check Result). run t m) (counting-is _ _ c h) ∙ bind-is t (target mail d spec (begun c)) _ (name e) g ∙ bind-is t (sub (name e) (begun c)) _ _ p
+
+-- a permerror of the check that is begun is one of the terms
+terms-error : (t : Table) (mail : Mail) (sub : Sub) (d : List ℕ) (all-terms : List Placed) {ts : List Placed} {c k : Counts} {e : List ℕ} (z : Counts)
+    → Begins t mail sub d all-terms ts c e k → run t (sub (name e) k) ≡ permerror z → run t (tryTerms mail sub d all-terms ts c) ≡ permerror z
+unfolding tryTerms afterStep run
+terms-error t mail sub d all-terms z (past-term {x = x} {ts = ts} {c = c} {l = l} m b) p =
+    term-is t mail sub d all-terms x ts c l no m ∙ terms-error t mail sub d all-terms z b p
+terms-error t mail sub d all-terms z (by-include {x = x} {ts = ts} {c = c} {e = e} {spec = spec} {sign = sign} n g a h q) p =
+    term-is t mail sub d all-terms x ts c z (stop 6)
+    (ap (λ (m : Check Step). run t m) (include-is t mail sub d (x .said) spec sign c n g a) ∙ include-error t mail sub d spec e c z h q p)
+terms-error t mail sub d all-terms z (by-redirect {c = c} {e = e} {spec = spec} r h q) p =
+    rw r (redirect-error t mail sub d spec e c z h q p)
+
+-- A text is outside the grammar: it is over 4,096 bytes, or the productions make no reading of it.
+pub data Outside (s : List ℕ) : Type 0 where
+  too-long : 4096 < length s → Outside s
+  unproduced : ((ts : List Placed) → Record s ts → ⊥) → Outside s
+
+-- such a text is refused
+pub outside-refused : (s : List ℕ) → Outside s → (number : ℕ) × ((at : ℕ) × (readRecord s ≡ RecordAnswer.Refused number at))
+unfolding readRecord
+outside-refused s (too-long h) = (30, (0, rw (lt-ltb 4096 (length s) h)))
+outside-refused s (unproduced u) = by (readRecord s) refl
+  where
+    by : (r : RecordAnswer) → readRecord s ≡ r → (number : ℕ) × ((at : ℕ) × (readRecord s ≡ RecordAnswer.Refused number at))
+    by (RecordAnswer.Accepted n) e = let d = record-sound s n e in absurd (u (d .0) (d .1))
+    by (RecordAnswer.Refused number at) e = (number, (at, e))
+
+-- what is accepted is not outside: it has at most 4,096 bytes, and the terms that are read of it are a reading that the productions make
+pub accepted-reading : (s : List ℕ) (n : ℕ) → readRecord s ≡ RecordAnswer.Accepted n → (length s ≤ 4096) × Record s (termsFrom (suc (length s)) s n)
+unfolding readRecord
+accepted-reading s n e = ⊎-elim
+    (λ (h : length s ≤ 4096). (h, made h))
+    (λ (h : 4096 < length s). absurd (let q : readRecord s ≡ RecordAnswer.Refused 30 0 = rw (lt-ltb 4096 (length s) h) in let z : _≡_ {A = ℕ} 0 1 = cc in omega arith))
+    (le-or-lt (length s) 4096)
+  where
+    made : length s ≤ 4096 → Record s (termsFrom (suc (length s)) s n)
+    made h =
+        let d = record-sound s n e in
+        let a = record-complete (d .1) h in
+        let i : n ≡ 6 = cc in
+        rw (i, reads-terms (length s) (record-length (d .1)) (a .walk)) (d .1)
+
+-- the check that selects a refused text is permerror with the counts it had, and so is every check above it
+pub refused-never-evaluated : (t : Table) (mail : Mail) {n m : ℕ} {d : Naming} {c k : Counts} {e : List ℕ} (s : List ℕ) (number at : ℕ)
+    → Reaches t mail n d c m e k → Selects t e s → readRecord s ≡ RecordAnswer.Refused number at → run t (check n mail d c) ≡ permerror k
+unfolding readOutcome run check
+refused-never-evaluated t mail {n = zero} s number at here p q = refl
+refused-never-evaluated t mail {n = suc n} {c = c} {e = e} s number at here p q = select-is t mail n e s c p ∙ rw q
+refused-never-evaluated t mail s number at (below {n = n} {d = d} {s = r} {ts = ts} {c = c} g h y b w) p q =
+    select-is t mail n d r c g ∙ read-is t mail (check n mail) d r c h y
+    ∙ terms-error t mail (check n mail) d ts _ b (refused-never-evaluated t mail s number at w p q)
+
+-- A record outside the grammar is never evaluated. Whenever an evaluation comes, along its includes and redirects, to the check of a domain whose one
+-- record is outside the grammar, the result of the whole is permerror, with the lookups begun and the void answers met just before that record was
+-- selected: whatever its terms say, and whatever terms stand after the include in the records above.
+pub never-evaluated : (t : Table) (mail : Mail) {n m : ℕ} {d : Naming} {c k : Counts} {e : List ℕ} (s : List ℕ)
+    → Reaches t mail n d c m e k → Selects t e s → Outside s → run t (check n mail d c) ≡ settled (record { value = 6; counts = k; failing = absent })
+never-evaluated t mail s r p o =
+    let q = outside-refused s o in
+    refused-never-evaluated t mail s (q .0) (q .1 .0) r p (q .1 .1)
+
+-- The same of the whole answer: permerror, those counts, and no explanation.
+pub verdict-never-evaluated : (t : Table) (mail : Mail) (domain : List ℕ) {m : ℕ} {k : Counts} {e : List ℕ} (s : List ℕ)
+    → Reaches t mail 11 (normal domain) noCounts m e k → Selects t e s → Outside s
+    → run t (verdict mail domain) ≡ settled (record { value = 6; counts = k; text = [] })
+unfolding verdict evaluation explanation bind run
+verdict-never-evaluated t mail domain {k = k} s r p o =
+    bind-is t (check 11 mail (normal domain) noCounts) _ (record { value = 6; counts = k; failing = absent }) (never-evaluated t mail s r p o)
