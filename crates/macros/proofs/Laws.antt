@@ -1,7 +1,5 @@
 -- Bytes: classes of the bytes of macro strings, one inside another or apart.
 pub mod Bytes
--- Texts: the bytes of a text, each, the first that fails a test, the last.
-pub mod Texts
 -- Braces: one macro-expand, read and produced.
 pub mod Braces
 -- Strings: macro strings and explain strings, piece after piece.

@@ -11,6 +11,14 @@ pub mod Evaluation
 pub mod Always
 -- Bounds: lookups never exceed 10, voids never 3, and 2 unless the result is permerror.
 pub mod Bounds
+-- Rising: lookups never fall in a check.
+pub mod Rising
+-- Enough: the depth bound never decides.
+pub mod Enough
+-- Agreement: what a check consults decides it.
+pub mod Agreement
+-- Growth: a settled result stays when the table only gains entries that answer no peek.
+pub mod Growth
 -- Reached: which checks an evaluation reaches, and that a record outside the grammar is never evaluated.
 pub mod Reached
 -- Demand3: reading a record, reading its terms and evaluating, as one theorem.

@@ -2,11 +2,11 @@
 pub mod Orders
 -- Tests: a branch's test as the Boolean that a definition picks by.
 pub mod Tests
--- Classes: bytes of a class as numbers; two tests that agree at all 256 bytes.
+-- Classes: bytes of a class as numbers; a class by its own test; two tests that agree at all 256 bytes.
 pub mod Classes
 -- Words: equality of lists.
 pub mod Words
--- Parts: tests of every element, and the right-most elements.
+-- Parts: tests of every element, the last element, and the right-most elements.
 pub mod Parts
 -- Spans: a word that stands in a list from a place up to another.
 pub mod Spans

@@ -6,7 +6,7 @@ use mathlib.Core.Bool.{_&&_}
 use lib.ListN.{length}
 use lib.Dec.{leb}
 use borrow.Author.Tests.{leb-true, leb-false, le-leb, lt-leb}
-use Rattle.text.proofs.Laws.Tests.{cond-elim, test-fails}
+use Rattle.text.proofs.Laws.Tests.{cond-elim, test-fails, true-false}
 use Rattle.macros.specs.declared.Form.{Form}
 use Rattle.macros.specs.declared.Expanded.{Expanded}
 use Rattle.macros.specs.Grammar.{Piece, Produces}
@@ -14,7 +14,6 @@ use Rattle.macros.specs.Reader.{pieces, isMacroString}
 use Rattle.macros.specs.Expansion.{Given, lettersOf, textOf, isSender, isHost, isShort}
 use Rattle.macros.specs.Numbers.{Outcome, fitted, outcome, Says}
 use Rattle.macros.specs.Answers.{Fit, Expands, no-sender, no-host, too-long, outside, no-room, made, Answered}
-use Rattle.macros.proofs.Laws.Bytes.{true-false}
 use Rattle.macros.proofs.Laws.Soundness.{sound}
 use Rattle.macros.proofs.Laws.Completeness.{complete}
 

@@ -6,7 +6,6 @@ use mathlib.Core.Path.{_≡_, refl, sym, ap, subst, _∙_}
 use mathlib.Core.List.{List, [], _∷_, _++_}
 use mathlib.Core.Bool.{Bool, true, false, _||_}
 use native.Mathlib.Omega.{arith}
-use native.Mathlib.Numerals.{add-one}
 use lib.ListN.{length, drop}
 use lib.Seq.{drop-cons, drop-append-seam, drop-append-add}
 use lib.Dec.{eqb}
@@ -15,29 +14,16 @@ use Rattle.text.specs.Bytes.{at, within, lower, isUpper, isDigit, isMacroLitera
 use Rattle.text.specs.Lists.{all, contains}
 use Rattle.text.specs.Runs.{isIn, runEnd}
 use Rattle.text.specs.declared.bytes.Class.the-variants.{Digit, Delimiter}
-use Rattle.text.proofs.Laws.Tests.{cond-elim, and-left}
-use Rattle.text.proofs.Laws.Classes.{apart, class-inside, nonzero-inside}
-use Rattle.text.proofs.Laws.Spans.{Span, span-join, span-cut, span-byte, span-at, span-word}
+use Rattle.text.proofs.Laws.Tests.{cond-elim, and-left, or-elim}
+use Rattle.text.proofs.Laws.Classes.{class-test, class-tests, apart, class-inside, nonzero-inside}
+use Rattle.text.proofs.Laws.Spans.{Span, span-join, span-cut, span-byte, span-here, span-none, span-between, span-at, span-word}
 use Rattle.text.proofs.Laws.Runs.{run-span, run-span-all, span-run}
 use Rattle.macros.specs.Grammar.{Piece, literal, escape, expand, isLetter, isCount, Reversal, absent, present, MacroExpand, braces, percent, underscore, hyphen}
 use Rattle.macros.specs.Reader.{isLiteral, isEscape, isReverse, closedAt, delimitersAt, reversalAt, digitsAt, bracesOf, pieceOf, macroOf, Pieces, push, piecesAfter}
 use Rattle.macros.specs.declared.Form.{Form}
 use Rattle.macros.specs.declared.Form.the-variants.{DomainSpec, ModifierValue, Explanation}
 use Rattle.macros.specs.declared.pieces.Found.{Found}
-use Rattle.macros.proofs.Laws.Bytes.{or-elim, delimiter-no-digit, delimiter-no-reverse, reverse-no-digit}
-
--- words in a list
-span-here : (s : List ℕ) (i : ℕ) → i < length s → Span s i (i + 1) (at s i ∷ [])
-span-here s i h = record { split = drop-cons s i 0 h ∙ simp add-one; size = refl }
-
-span-none : (s : List ℕ) (i : ℕ) → Span s i i []
-span-none s i = record { split = refl; size = omega arith }
-
-span-between : (u w rest : List ℕ) → Span (u ++ (w ++ rest)) (length u) (length u + length w) w
-span-between u w rest = record {
-  split = drop-append-seam u (w ++ rest) ∙ ap (λ (t : List ℕ). w ++ t) (sym (drop-append-add u (w ++ rest) (length w) ∙ drop-append-seam w rest));
-  size = refl;
-}
+use Rattle.macros.proofs.Laws.Bytes.{delimiter-no-digit, delimiter-no-reverse, reverse-no-digit}
 
 -- the reader's answer, in the grammar's words
 pub record Expanded (form : Form) (s : List ℕ) (n : ℕ) (p : Piece) : Type 0 where
@@ -54,10 +40,6 @@ FoundRight form s (Found.Expand m) = Expanded form s (m .to + 1) (expand (macroO
 FoundRight form s Found.Bad = Unit {0}
 
 -- SOUNDNESS
-delimiters-of : (w : List ℕ) → all (isIn Delimiter) w ≡ true → all isDelimiter w ≡ true
-unfolding isIn
-delimiters-of w h = h
-
 letter-zero : (form : Form) → isLetter form 0 ≡ false
 unfolding isLetter lower isUpper within contains
 letter-zero DomainSpec = refl
@@ -68,7 +50,7 @@ reversed-of : (b : ℕ) → isReverse b ≡ true → Reversal (b ∷ []) true
 unfolding isReverse
 reversed-of b h = present h
 
-reverse-zero : isReverse 0 ≡ false
+pub reverse-zero : isReverse 0 ≡ false
 unfolding isReverse lower isUpper within
 reverse-zero = refl
 
@@ -90,7 +72,7 @@ module _ (form : Form) (s : List ℕ) (front : Span s 0 3 (37 ∷ 123 ∷ at s 2
     delimiters-sound : (f : ℕ) (r : List ℕ) (reversed : Bool) → Span s d f r → Reversal r reversed → FoundRight form s (delimitersAt s d reversed f)
     unfolding delimitersAt
     delimiters-sound f r reversed sr hr =
-        closed-sound f (runEnd (isIn Delimiter) s f) r reversed sr hr (run-span (isIn Delimiter) s f) (delimiters-of (part s f (runEnd (isIn Delimiter) s f)) (run-span-all (isIn Delimiter) s f))
+        closed-sound f (runEnd (isIn Delimiter) s f) r reversed sr hr (run-span (isIn Delimiter) s f) (sym (class-tests Delimiter (part s f (runEnd (isIn Delimiter) s f))) ∙ run-span-all (isIn Delimiter) s f)
 
     reversal-sound : FoundRight form s (reversalAt s d)
     unfolding reversalAt
@@ -171,17 +153,9 @@ brace-no-reverse : isReverse 125 ≡ false
 unfolding isReverse lower isUpper within
 brace-no-reverse = refl
 
-in-delimiters : (w : List ℕ) → all isDelimiter w ≡ true → all (isIn Delimiter) w ≡ true
-unfolding isIn
-in-delimiters w h = h
-
 in-digits : (w : List ℕ) → isCount w ≡ true → all (isIn Digit) w ≡ true
-unfolding isCount isIn
-in-digits w h = and-left (all isDigit w) _ h
-
-in-digit : (b : ℕ) → isDigit b ≡ false → isIn Digit b ≡ false
-unfolding isIn
-in-digit b h = h
+unfolding isCount
+in-digits w h = class-tests Digit w ∙ and-left (all isDigit w) _ h
 
 is-reverse : (b : ℕ) → eqb (lower b) 114 ≡ true → isReverse b ≡ true
 unfolding isReverse
@@ -203,7 +177,7 @@ unfolding delimitersAt closedAt
 delimiters-complete {s} {f} {e} d reversed delimiters h sp =
     let c = span-cut delimiters (125 ∷ []) sp in
     let b = span-at (c .1) in
-    simp (span-run (isIn Delimiter) (c .0) (in-delimiters delimiters h) (ap (isIn Delimiter) b ∙ brace-no-delimiter), b)
+    simp (span-run (isIn Delimiter) (c .0) (class-tests Delimiter delimiters ∙ h) (ap (isIn Delimiter) b ∙ brace-no-delimiter), b)
 
 reversal-complete : {r : List ℕ} {reversed : Bool} → Reversal r reversed → (s : List ℕ) (d e : ℕ) (delimiters : List ℕ) → all isDelimiter delimiters ≡ true
     → Span s d e (r ++ (delimiters ++ (125 ∷ []))) → Closed s d e reversed delimiters
@@ -251,7 +225,7 @@ module _ (form : Form) (letter : ℕ) (digits more delimiters rest : List ℕ) (
   unfolding bracesOf digitsAt piecesAfter macroOf
   closed-complete hl hc k after =
       let c = span-cut digits more (span-between (37 ∷ 123 ∷ letter ∷ []) (digits ++ more) rest) in
-      let e = span-run (isIn Digit) (c .0) (in-digits digits hc) (in-digit (at text (3 + length digits)) (k .stops)) in
+      let e = span-run (isIn Digit) (c .0) (in-digits digits hc) (class-test Digit (at text (3 + length digits)) ∙ k .stops) in
       let x : drop (k .to + 1) text ≡ rest =
       ap (λ (n : ℕ). drop n text) (sym (k .ends)) ∙ drop-append-add (37 ∷ 123 ∷ letter ∷ []) ((digits ++ more) ++ rest) (length (digits ++ more)) ∙ drop-append-seam (digits ++ more) rest in
       simp (braces-here form (letter ∷ ((digits ++ more) ++ rest)), hl, e, span-word (c .0), hc, k .found, span-word (k .span), x)

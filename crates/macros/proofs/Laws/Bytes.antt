@@ -7,25 +7,9 @@ use native.Mathlib.Omega.{arith}
 use lib.Dec.{eqb}
 use borrow.Author.Tests.{eqb-true}
 use Rattle.text.specs.Bytes.{within, lower, isUpper, isAlpha, isDigit, isAlphanumeric, isToplabelByte, isMacroLiteral, isDelimiter}
-use Rattle.text.proofs.Laws.Tests.{cond-elim}
+use Rattle.text.proofs.Laws.Tests.{cond-elim, or-elim, or-left, true-false}
 use Rattle.text.proofs.Laws.Classes.{within-range, allBelow, below}
 use Rattle.macros.specs.Reader.{isReverse}
-
--- a test that holds doesn't fail
-pub true-false : (t : Bool) → t ≡ true → t ≡ false → ⊥
-true-false t h k = let z : _≡_ {A = ℕ} 0 1 = cc in omega arith
-
--- the parts of "or"
-pub or-elim {κ} : {P : Type κ} (t u : Bool) → (t || u) ≡ true → (t ≡ true → P) → (u ≡ true → P) → P
-or-elim true u h f g = f refl
-or-elim false u h f g = g h
-
-pub or-left : (t u : Bool) → t ≡ true → (t || u) ≡ true
-or-left t u h = simp h
-
-pub or-right : (t u : Bool) → u ≡ true → (t || u) ≡ true
-or-right true u h = refl
-or-right false u h = h
 
 -- a test of every byte that holds by computation
 module _ (p q : ℕ → Bool) (b : ℕ) (small : b < 256) (holds : p b ≡ true) where

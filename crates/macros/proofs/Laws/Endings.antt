@@ -12,17 +12,17 @@ use lib.Seq.{getD-at, getD-append-add, take-at, take-append-le, drop-append-le, 
 use borrow.Author.Tests.{eqb-true}
 use Rattle.text.specs.Bytes.{at, within, isDot, isUpper, isAlpha, isDigit, isAlphanumeric, isToplabelByte, isMacroLiteral}
 use Rattle.text.specs.Lists.{all, split, grow, dotBefore, join}
-use Rattle.text.proofs.Laws.Tests.{cond-elim}
+use Rattle.text.proofs.Laws.Tests.{cond-elim, true-false, or-elim, or-left, or-right}
 use Rattle.text.proofs.Laws.Classes.{class-inside}
 use Rattle.text.proofs.Laws.Splitting.{Some, some, split-some, split-append, join-dots}
 use Rattle.text.proofs.Laws.Orders.{le-or-lt}
+use Rattle.text.proofs.Laws.Parts.{all-none, all-join, all-cons, all-first, all-rest, all-at, all-inside, at-last}
 use Rattle.macros.specs.Grammar.{Piece, literal, escape, expand, MacroExpand, braces, percent, underscore, hyphen, MacroString, DomainEnd, label, label-dot, DomainSpecs, spec}
 use Rattle.macros.specs.Reader.{isLiteral, endsInMacro, isToplabel, lastLabel, endsInLabel}
 use Rattle.macros.specs.declared.Form.{Form}
 use Rattle.macros.specs.declared.Form.the-variants.{DomainSpec}
-use Rattle.macros.proofs.Laws.Bytes.{true-false, or-elim, or-left, or-right, alphanumeric-toplabel, toplabel-literal, toplabel-no-dot}
+use Rattle.macros.proofs.Laws.Bytes.{alphanumeric-toplabel, toplabel-literal, toplabel-no-dot}
 use Rattle.macros.proofs.Laws.Strings.{Row, none, expands, literals, string-row, row-string}
-use Rattle.macros.proofs.Laws.Texts.{all-none, all-join, all-cons, all-first, all-rest, all-at, all-inside, at-last}
 use Rattle.macros.proofs.Laws.Toplabels.{passed, toplabel-complete, toplabel-sound}
 
 -- in a domain-spec the bytes that stand for themselves are the macro-literals

@@ -1,18 +1,18 @@
 -- The last label of a text, found from the right, and the tests of a top label. From the definitions of Reader and the laws of Splitting.
-use Prim.Native.Nat.{ℕ, suc, _-_, _≤_, _<_}
-use mathlib.Core.Path.{_≡_, refl, sym, ap, subst, _∙_}
+use Prim.Native.Nat.{ℕ, _-_, _≤_, _<_}
+use mathlib.Core.Path.{_≡_, refl, sym, ap, _∙_}
 use mathlib.Core.List.{List, [], _∷_, _++_}
-use mathlib.Core.Bool.{Bool, true, false, not, _&&_}
+use mathlib.Core.Bool.{Bool, true, false, _&&_}
 use native.Mathlib.Omega.{arith}
 use lib.ListN.{length, take, drop}
-use lib.Seq.{drop-cons, drop-length, split-at}
 use borrow.Author.Tests.{eq-eqb, ne-eqb}
 use Rattle.text.specs.Bytes.{at, isDot, isAlphanumeric, isAlpha, isUpper, isDigit, isToplabelByte, within}
-use Rattle.text.specs.Lists.{all, split, grow}
+use Rattle.text.specs.Lists.{all, split}
 use Rattle.text.specs.Runs.{isIn}
 use Rattle.text.specs.declared.bytes.Class.the-variants.{Digit, Alphanumeric, ToplabelByte}
+use Rattle.text.proofs.Laws.Classes.{class-test, class-tests}
 use Rattle.text.proofs.Laws.Spans.{rest-part}
-use Rattle.text.proofs.Laws.Splitting.{Some, some, split-append, split-some}
+use Rattle.text.proofs.Laws.Splitting.{Some, some, split-some, Undelimited, undelimited-start, undelimited-next, undelimited-last, undelimited-whole}
 use Rattle.macros.specs.Reader.{isToplabel, lastLabel, endsInLabel}
 
 -- the last of several parts
@@ -23,51 +23,24 @@ last-snoc (x ∷ z ∷ []) y some = refl
 last-snoc (x ∷ z ∷ w ∷ r) y some = last-snoc (z ∷ w ∷ r) y some
 
 -- the loop of `last_label`: from i on there is no dot
-pub record Undotted (s : List ℕ) (i : ℕ) : Type 0 where
-  pub within : i ≤ length s
-  pub one : split isDot (drop i s) ≡ drop i s ∷ []
+abbrev pub Undotted : List ℕ → ℕ → Type 0
+Undotted s i = Undelimited isDot s i
 
 pub undotted-start : (s : List ℕ) → Undotted s (length s)
-unfolding split
-undotted-start s = record { within = omega arith; one = rw drop-length }
+undotted-start s = undelimited-start isDot s
 
 module _ (s : List ℕ) (i : ℕ) (inv : Undotted s i) where
-  before : 0 < i → suc (i - 1) ≡ i
-  before h = omega arith
-
   pub undotted-next : 0 < i → (at s (i - 1) ≡ 46 → ⊥) → Undotted s (i - 1)
-  unfolding split grow
-  undotted-next h n =
-      let w = inv .within in
-      let e = before h in
-      let o : split isDot (drop (suc (i - 1)) s) ≡ drop (suc (i - 1)) s ∷ [] = rw e (inv .one) in
-      record { within = omega arith; one = rw (drop-cons s (i - 1) 0 (omega arith), ne-eqb (at s (i - 1)) 46 n, o) }
+  undotted-next h n = undelimited-next isDot s i inv h (ne-eqb (at s (i - 1)) 46 n)
 
   pub label-here : 0 < i → at s (i - 1) ≡ 46 → take (length s - i) (drop i s) ≡ lastLabel (split isDot s)
   label-here h n =
-      let w = inv .within in
-      let e = before h in
-      let c : s ≡ take (i - 1) s ++ at s (i - 1) ∷ drop i s = subst (λ (k : ℕ). s ≡ take (i - 1) s ++ at s (i - 1) ∷ drop k s) e (split-at s (i - 1) 0 (omega arith)) in
-      rest-part s i ∙ sym (ap (λ (t : List ℕ). lastLabel (split isDot t)) c
-      ∙ ap lastLabel (split-append isDot (take (i - 1) s) (at s (i - 1)) (drop i s) (eq-eqb (at s (i - 1)) 46 n) ∙ ap (λ (t : List (List ℕ)). split isDot (take (i - 1) s) ++ t) (inv .one))
+      rest-part s i ∙ sym (ap lastLabel (undelimited-last isDot s i inv h (eq-eqb (at s (i - 1)) 46 n))
       ∙ last-snoc (split isDot (take (i - 1) s)) (drop i s) (split-some isDot (take (i - 1) s)))
 
   pub label-none : i ≤ 0 → [] ≡ lastLabel (split isDot s)
   unfolding lastLabel
-  label-none h = let e : i ≡ 0 = omega arith in sym (ap lastLabel (subst (λ (k : ℕ). split isDot (drop k s) ≡ drop k s ∷ []) e (inv .one)))
-
--- the tests of classes
-top-bytes : (l : List ℕ) → all (isIn ToplabelByte) l ≡ all isToplabelByte l
-unfolding isIn
-top-bytes l = refl
-
-pub digit-bytes : (l : List ℕ) → all (isIn Digit) l ≡ all isDigit l
-unfolding isIn
-digit-bytes l = refl
-
-alphanumeric-byte : (b : ℕ) → isIn Alphanumeric b ≡ isAlphanumeric b
-unfolding isIn
-alphanumeric-byte b = refl
+  label-none h = sym (ap lastLabel (undelimited-whole isDot s i inv h))
 
 and-none : (t : Bool) → (t && false) ≡ false
 and-none true = refl
@@ -76,7 +49,7 @@ and-none false = refl
 -- the ways out of `is_toplabel`
 pub top-digits : (l : List ℕ) (x : Bool) → x ≡ false → (d : Bool) → d ≡ all (isIn Digit) l → d ≡ true → x ≡ isToplabel l
 unfolding isToplabel
-top-digits l x e d p q = e ∙ sym (simp (sym (digit-bytes l) ∙ sym p ∙ q, and-none))
+top-digits l x e d p q = e ∙ sym (simp (sym (class-tests Digit l) ∙ sym p ∙ q, and-none))
 
 module _ (l : List ℕ) where
   pub top-empty : length l ≡ 0 → false ≡ isToplabel l
@@ -89,7 +62,7 @@ module _ (l : List ℕ) where
 
   module _ (r : Bool) (p : r ≡ all (isIn ToplabelByte) l) where
     bytes : all isToplabelByte l ≡ r
-    bytes = sym (top-bytes l) ∙ sym p
+    bytes = sym (class-tests ToplabelByte l) ∙ sym p
 
     pub top-bad-byte : r ≡ false → false ≡ isToplabel l
     unfolding isToplabel
@@ -97,7 +70,7 @@ module _ (l : List ℕ) where
 
     module _ (q : r ≡ true) (a : Bool) (pa : a ≡ isIn Alphanumeric (at l 0)) where
       first : isAlphanumeric (at l 0) ≡ a
-      first = sym (alphanumeric-byte (at l 0)) ∙ sym pa
+      first = sym (class-test Alphanumeric (at l 0)) ∙ sym pa
 
       pub top-bad-first : a ≡ false → false ≡ isToplabel l
       unfolding isToplabel
@@ -105,7 +78,7 @@ module _ (l : List ℕ) where
 
       module _ (qa : a ≡ true) (z : Bool) (pz : z ≡ isIn Alphanumeric (at l (length l - 1))) where
         last : isAlphanumeric (at l (length l - 1)) ≡ z
-        last = sym (alphanumeric-byte (at l (length l - 1))) ∙ sym pz
+        last = sym (class-test Alphanumeric (at l (length l - 1))) ∙ sym pz
 
         pub top-bad-last : z ≡ false → false ≡ isToplabel l
         unfolding isToplabel
@@ -114,7 +87,7 @@ module _ (l : List ℕ) where
         module _ (qz : z ≡ true) (d : Bool) (pd : d ≡ all (isIn Digit) l) where
           pub top-right : d ≡ false → true ≡ isToplabel l
           unfolding isToplabel
-          top-right qd = simp (bytes ∙ q, first ∙ qa, last ∙ qz, sym (digit-bytes l) ∙ sym pd ∙ qd)
+          top-right qd = simp (bytes ∙ q, first ∙ qa, last ∙ qz, sym (class-tests Digit l) ∙ sym pd ∙ qd)
 
 -- the ways out of `ends_in_label`
 pub ends-empty : (s : List ℕ) → length s ≡ 0 → false ≡ endsInLabel s

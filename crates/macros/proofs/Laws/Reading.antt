@@ -18,6 +18,7 @@ use Rattle.text.specs.Runs.{isIn, runEnd}
 use Rattle.text.specs.declared.bytes.Class.the-variants.{Digit, Delimiter}
 use Rattle.text.specs.declared.decimal.Number.{Number}
 use Rattle.text.specs.declared.decimal.Number.the-variants.{Value, Refused}
+use Rattle.text.proofs.Laws.Classes.{class-tests}
 use Rattle.text.proofs.Laws.Spans.{rest-part}
 use Rattle.macros.specs.Grammar.{Macro, Piece, literal, escape, expand, Produces, isLetter, isCount}
 use Rattle.macros.specs.Reader.{isLiteral, isEscape, isReverse, closedAt, delimitersAt, reversalAt, digitsAt, bracesOf, pieceOf, macroOf, Pieces, push, pieces, endsInMacro, endsInLabel, endsRight, isMacroString, isP, anyP, scanOf, usesP}
@@ -27,13 +28,12 @@ use Rattle.macros.specs.declared.Summary.{Summary}
 use Rattle.macros.specs.declared.pieces.Braces.{Braces}
 use Rattle.macros.specs.declared.pieces.Found.{Found}
 use Rattle.macros.proofs.Laws.Completeness.{accepted-iff}
-use Rattle.macros.proofs.Laws.Labels.{digit-bytes}
 use Rattle.macros.proofs.Laws.Pieces.{reverse-inside, piece-none, escape-inside, expand-inside, pieces-none, pieces-end, pieces-bad, pieces-literal, pieces-escape, pieces-expand}
 
 -- `is_count`
 module _ (s : List ℕ) (r : Bool) (p : r ≡ all (isIn Digit) s) where
   digits : all isDigit s ≡ r
-  digits = sym (digit-bytes s) ∙ sym p
+  digits = sym (class-tests Digit s) ∙ sym p
 
   pub count-other : r ≡ false → false ≡ isCount s
   unfolding isCount

@@ -1,12 +1,11 @@
 -- The tests of the values that an expansion is given, and the parts of a sender, whose domain is found from the right. From the definitions of
 -- Expansion and the laws of Splitting.
-use Prim.Native.Nat.{ℕ, suc, _+_, _-_, _≤_, _<_}
-use mathlib.Core.Path.{_≡_, refl, sym, ap, subst, _∙_}
+use Prim.Native.Nat.{ℕ, suc, _-_, _≤_, _<_}
+use mathlib.Core.Path.{_≡_, refl, sym, ap, _∙_}
 use mathlib.Core.List.{List, [], _∷_, _++_}
 use mathlib.Core.Bool.{Bool, true, false}
 use native.Mathlib.Omega.{arith}
 use lib.ListN.{length, take, drop, length-append, length-take}
-use lib.Seq.{drop-cons, drop-length, split-at}
 use lib.Dec.{leb, eqb}
 use borrow.Author.Tests.{eq-eqb, ne-eqb, le-leb, lt-leb}
 use Rattle.text.specs.Bytes.{at, within, isPrintable}
@@ -18,7 +17,7 @@ use Rattle.text.specs.declared.bytes.Class.the-variants.{Visible, Printable}
 use Rattle.text.proofs.Laws.Tests.{cond-elim, and-left}
 use Rattle.text.proofs.Laws.Classes.{within-range}
 use Rattle.text.proofs.Laws.Spans.{rest-part}
-use Rattle.text.proofs.Laws.Splitting.{Some, some, split-append, split-some}
+use Rattle.text.proofs.Laws.Splitting.{Some, some, split-some, Undelimited, undelimited-start, undelimited-next, undelimited-last, undelimited-whole}
 use Rattle.text.proofs.Laws.Writing.{wrote-then}
 use Rattle.macros.specs.Expansion.{isAt, lastPart, senderDomain, written, localPart, isSender, isHost, isShort}
 
@@ -62,39 +61,25 @@ last-snoc (x ∷ []) y = refl
 last-snoc (x ∷ z ∷ r) y = last-snoc (z ∷ r) y
 
 -- the loop of `sender_domain`: from i on there is no @
-pub record Unsigned (s : List ℕ) (i : ℕ) : Type 0 where
-  pub within : i ≤ length s
-  pub one : split isAt (drop i s) ≡ drop i s ∷ []
+abbrev pub Unsigned : List ℕ → ℕ → Type 0
+Unsigned s i = Undelimited isAt s i
 
 pub unsigned-start : (s : List ℕ) → Unsigned s (length s)
-unfolding split
-unsigned-start s = record { within = omega arith; one = rw drop-length }
+unsigned-start s = undelimited-start isAt s
 
 module _ (s : List ℕ) (i : ℕ) (inv : Unsigned s i) where
-  before : 0 < i → suc (i - 1) ≡ i
-  before h = omega arith
-
   pub unsigned-next : 0 < i → (at s (i - 1) ≡ 64 → ⊥) → Unsigned s (i - 1)
-  unfolding split grow
-  unsigned-next h n =
-      let w = inv .within in
-      let e = before h in
-      let o : split isAt (drop (suc (i - 1)) s) ≡ drop (suc (i - 1)) s ∷ [] = rw e (inv .one) in
-      record { within = omega arith; one = rw (drop-cons s (i - 1) 0 (omega arith), ne-eqb (at s (i - 1)) 64 n, o) }
+  unsigned-next h n = undelimited-next isAt s i inv h (ne-eqb (at s (i - 1)) 64 n)
 
   pub domain-here : 0 < i → at s (i - 1) ≡ 64 → take (length s - i) (drop i s) ≡ senderDomain s
   unfolding senderDomain
   domain-here h n =
-      let w = inv .within in
-      let e = before h in
-      let c : s ≡ take (i - 1) s ++ at s (i - 1) ∷ drop i s = subst (λ (k : ℕ). s ≡ take (i - 1) s ++ at s (i - 1) ∷ drop k s) e (split-at s (i - 1) 0 (omega arith)) in
-      rest-part s i ∙ sym (ap (λ (t : List ℕ). lastPart (split isAt t)) c
-      ∙ ap lastPart (split-append isAt (take (i - 1) s) (at s (i - 1)) (drop i s) (eq-eqb (at s (i - 1)) 64 n) ∙ ap (λ (t : List (List ℕ)). split isAt (take (i - 1) s) ++ t) (inv .one))
+      rest-part s i ∙ sym (ap lastPart (undelimited-last isAt s i inv h (eq-eqb (at s (i - 1)) 64 n))
       ∙ last-snoc (split isAt (take (i - 1) s)) (drop i s))
 
   pub domain-whole : i ≤ 0 → s ≡ senderDomain s
   unfolding senderDomain lastPart
-  domain-whole h = let e : i ≡ 0 = omega arith in sym (ap lastPart (subst (λ (k : ℕ). split isAt (drop k s) ≡ drop k s ∷ []) e (inv .one)))
+  domain-whole h = sym (ap lastPart (undelimited-whole isAt s i inv h))
 
 -- the domain is no longer than the sender
 last-empty : (xs : List (List ℕ)) → Some xs → lastPart ([] ∷ xs) ≡ lastPart xs

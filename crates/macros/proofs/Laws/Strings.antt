@@ -6,14 +6,14 @@ use mathlib.Core.List.{List, [], _∷_, _++_, append-assoc, append-nil}
 use mathlib.Core.Bool.{true, false}
 use native.Mathlib.Omega.{arith}
 use lib.ListN.{length, drop, length-append, length-drop}
-use borrow.Author.Tests.{eqb-true}
 use Rattle.text.specs.Bytes.{within, isMacroLiteral, isSpace}
+use Rattle.text.proofs.Laws.Tests.{or-elim, or-left, true-false}
+use Rattle.text.proofs.Laws.Classes.{space-is}
 use Rattle.macros.specs.Grammar.{Piece, literal, escape, expand, MacroExpand, MacroString, ExplainString}
 use Rattle.macros.specs.Reader.{isLiteral, pieceOf, macroOf, Pieces, push, piecesAfter, piecesFrom, pieces}
 use Rattle.macros.specs.declared.Form.{Form}
 use Rattle.macros.specs.declared.Form.the-variants.{Explanation}
 use Rattle.macros.specs.declared.pieces.Found.{Found}
-use Rattle.macros.proofs.Laws.Bytes.{or-elim, or-left, true-false}
 use Rattle.macros.proofs.Laws.Braces.{Expanded, FoundRight, piece-sound, expand-complete, literal-complete, expand-some}
 
 pub data Row (form : Form) : List ℕ → List Piece → Type 0 where
@@ -117,10 +117,6 @@ space-literal : isLiteral Explanation 32 ≡ true
 unfolding isLiteral isMacroLiteral isSpace within
 space-literal = refl
 
-space-of : (b : ℕ) → isSpace b ≡ true → b ≡ 32
-unfolding isSpace
-space-of b h = eqb-true b 32 h
-
 pub explain-row : {s : List ℕ} {ps : List Piece} → ExplainString s ps → Row Explanation s ps
 unfolding isLiteral
 explain-row ExplainString.none = none
@@ -134,4 +130,4 @@ row-explain (expands {w = w} {rest = rest} {p = p} {ps = ps} m r) =
     rw append-nil at (ExplainString.string (MacroString.expands m MacroString.none) (row-explain r))
 row-explain (literals {b = b} {rest = rest} {ps = ps} k r) = or-elim (isMacroLiteral b) (isSpace b) k
     (λ h. ExplainString.string (MacroString.literals h MacroString.none) (row-explain r))
-    (λ h. subst (λ (c : ℕ). ExplainString (c ∷ rest) (literal c ∷ ps)) (sym (space-of b h)) (ExplainString.space (row-explain r)))
+    (λ h. subst (λ (c : ℕ). ExplainString (c ∷ rest) (literal c ∷ ps)) (sym (space-is b h)) (ExplainString.space (row-explain r)))

@@ -1,4 +1,4 @@
--- Top labels: the reader's test holds of exactly what the grammar produces. From the classes of bytes and the laws of texts.
+-- Top labels: the reader's test holds of exactly what the grammar produces. From the classes of bytes and the laws of parts.
 use Prim.Native.Nat.{ℕ, _-_}
 use mathlib.Core.Path.{_≡_, refl, sym, ap, subst, _∙_}
 use mathlib.Core.List.{List, [], _∷_, _++_, append-assoc}
@@ -8,11 +8,11 @@ use lib.ListN.{length, length-append}
 use borrow.Author.Tests.{not-true}
 use Rattle.text.specs.Bytes.{at, within, isUpper, isAlpha, isDigit, isAlphanumeric, isToplabelByte}
 use Rattle.text.specs.Lists.{all}
-use Rattle.text.proofs.Laws.Tests.{and-left, and-right}
+use Rattle.text.proofs.Laws.Tests.{and-left, and-right, true-false}
+use Rattle.text.proofs.Laws.Parts.{all-none, all-join, all-front, all-back, all-cons, all-first, all-rest, all-at, all-inside, one-fails, first-failing, at-last, Last, empty, snoc, last-of}
 use Rattle.macros.specs.Grammar.{Toplabel, letters, hyphens}
 use Rattle.macros.specs.Reader.{isToplabel}
-use Rattle.macros.proofs.Laws.Texts.{all-none, all-join, all-front, all-back, all-cons, all-first, all-rest, all-at, all-inside, one-fails, first-failing, at-last, Last, empty, snoc, last-of}
-use Rattle.macros.proofs.Laws.Bytes.{true-false, alpha-no-digit, alpha-alphanumeric, alphanumeric-toplabel, letter-of, hyphen-of}
+use Rattle.macros.proofs.Laws.Bytes.{alpha-no-digit, alpha-alphanumeric, alphanumeric-toplabel, letter-of, hyphen-of}
 
 -- the last byte of a label with a hyphen
 last-at : (u w : List ℕ) (z : ℕ) → at (u ++ (45 ∷ (w ++ (z ∷ [])))) (length (u ++ (45 ∷ (w ++ (z ∷ [])))) - 1) ≡ z
@@ -73,16 +73,16 @@ module _ (l : List ℕ) (bytes : all isToplabelByte l ≡ true) (first : isAlpha
       by true e =
           let f = first-failing isDigit l word in
           let a = f .parts in
-          let h : all isAlphanumeric (f .before ++ (f .byte ∷ f .after)) ≡ true = ap (all isAlphanumeric) (sym a) ∙ e in
-          let k = all-back isAlphanumeric (f .before) (f .byte ∷ f .after) h in
-          subst Toplabel (sym a) (letters (f .before) (f .after) (f .byte) (all-front isAlphanumeric (f .before) (f .byte ∷ f .after) h)
-          (letter-of (f .byte) (all-first isAlphanumeric (f .byte) (f .after) k) (f .fails)) (all-rest isAlphanumeric (f .byte) (f .after) k))
+          let h : all isAlphanumeric (f .before ++ (f .element ∷ f .after)) ≡ true = ap (all isAlphanumeric) (sym a) ∙ e in
+          let k = all-back isAlphanumeric (f .before) (f .element ∷ f .after) h in
+          subst Toplabel (sym a) (letters (f .before) (f .after) (f .element) (all-front isAlphanumeric (f .before) (f .element ∷ f .after) h)
+          (letter-of (f .element) (all-first isAlphanumeric (f .element) (f .after) k) (f .fails)) (all-rest isAlphanumeric (f .element) (f .after) k))
       by false e =
           let f = first-failing isAlphanumeric l e in
-          let h = all-back isToplabelByte (f .before) (f .byte ∷ f .after) (ap (all isToplabelByte) (sym (f .parts)) ∙ bytes) in
-          let b : f .byte ≡ 45 = hyphen-of (f .byte) (all-first isToplabelByte (f .byte) (f .after) h) (f .fails) in
+          let h = all-back isToplabelByte (f .before) (f .element ∷ f .after) (ap (all isToplabelByte) (sym (f .parts)) ∙ bytes) in
+          let b : f .element ≡ 45 = hyphen-of (f .element) (all-first isToplabelByte (f .element) (f .after) h) (f .fails) in
           let a : l ≡ f .before ++ (45 ∷ f .after) = f .parts ∙ ap (λ (c : ℕ). f .before ++ (c ∷ f .after)) b in
-          subst Toplabel (sym a) (hyphens-made (f .before) (f .after) (last-of (f .after)) (f .holds) (all-rest isToplabelByte (f .byte) (f .after) h)
+          subst Toplabel (sym a) (hyphens-made (f .before) (f .after) (last-of (f .after)) (f .holds) (all-rest isToplabelByte (f .element) (f .after) h)
           (ap (λ (t : List ℕ). isAlphanumeric (at t 0)) (sym a) ∙ first) (ap (λ (t : List ℕ). isAlphanumeric (at t (length t - 1))) (sym a) ∙ last))
 
 -- the parts of the test

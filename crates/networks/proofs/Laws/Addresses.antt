@@ -1,12 +1,13 @@
 -- Addresses written as for ip4 or ip6: the reader is sound and complete for both productions together. No text is written both ways: an IPv6
 -- network has a colon, and an IPv4 network has none. From the laws of Ip4, Rows and Ip6.
-use Prim.Native.Nat.{ℕ, _+_, _≤_}
+use Prim.Native.Nat.{ℕ, _≤_}
 use mathlib.Core.Path.{_≡_, refl, sym, ap, subst, _∙_}
 use mathlib.Core.List.{List, _∷_, _++_}
 use mathlib.Core.Bool.{true, false}
 use native.Mathlib.Omega.{arith}
 use lib.ListN.{length}
 use Rattle.text.specs.Lists.{all}
+use Rattle.text.proofs.Laws.Parts.{all-between}
 use Rattle.address.specs.declared.Address.{Address}
 use Rattle.networks.specs.Grammar.{Row, Ip6Network, full, short, Network4, Network6, network}
 use Rattle.networks.specs.Answers.{NetworkAnswer, Written, four, six}
@@ -17,7 +18,7 @@ use Rattle.networks.specs.declared.Network.the-variants.{Is, NoNetwork}
 use Rattle.networks.proofs.Laws.Readings.{network-answer}
 use Rattle.networks.proofs.Laws.Colons.{isNotColon}
 use Rattle.networks.proofs.Laws.Ip4.{ip4-sound, ip4-complete}
-use Rattle.networks.proofs.Laws.Rows.{ip4-colonless, all-between}
+use Rattle.networks.proofs.Laws.Rows.{ip4-colonless}
 use Rattle.networks.proofs.Laws.Ip6.{ip6-sound, ip6-complete}
 
 -- a text without a colon is at most two groups

@@ -1,8 +1,8 @@
 -- The numbers that hex digits write, as the code reads them, and groups against `Group`. From the definitions of Grammar and Reader6.
-use Prim.Native.Nat.{ℕ, zero, suc, _+_, _-_, _*_, _^_, _≤_, _<_}
+use Prim.Native.Nat.{ℕ, _+_, _-_, _*_, _^_, _≤_, _<_}
 use mathlib.Core.Path.{_≡_, refl, sym, ap, subst, _∙_}
 use mathlib.Core.List.{List, [], _∷_, _++_}
-use mathlib.Core.Bool.{Bool, true, false, cond, _||_}
+use mathlib.Core.Bool.{Bool, true, false, cond}
 use native.Mathlib.Omega.{arith}
 use native.Mathlib.Numerals.{add-one}
 use native.Mathlib.Nat.{pow-suc, lt-of-lt-of-le, pow-le-pow-right}
@@ -14,8 +14,9 @@ use Rattle.text.specs.Bytes.{at, within, isDigit, isUpper, isHexDigit, lower}
 use Rattle.text.specs.Lists.{all}
 use Rattle.text.specs.Runs.{isIn}
 use Rattle.text.specs.declared.bytes.Class.the-variants.{HexDigit}
-use Rattle.text.proofs.Laws.Tests.{cond-elim, and-left, and-right}
-use Rattle.text.proofs.Laws.Classes.{within-range, range-within, allBelow, below}
+use Rattle.text.proofs.Laws.Tests.{cond-elim, or-elim}
+use Rattle.text.proofs.Laws.Classes.{class-tests, within-range, range-within, allBelow, below}
+use Rattle.text.proofs.Laws.Parts.{all-at}
 use Rattle.networks.specs.Grammar.{hexValue, hexFrom, Group, digits}
 use Rattle.networks.specs.Reader6.{readH16}
 use Rattle.networks.specs.declared.ip6.H16.{H16}
@@ -46,15 +47,11 @@ small-below : allBelow 103 isSmall ≡ true
 unfolding isSmall isHexDigit isDigit isUpper within hexValue lower
 small-below = refl
 
-or-elim : (t u : Bool) (P : Type 0) → (t || u) ≡ true → (t ≡ true → P) → (u ≡ true → P) → P
-or-elim true u P h f g = f refl
-or-elim false u P h f g = g h
-
 hex-bound : (b : ℕ) → isHexDigit b ≡ true → b < 103
 unfolding isHexDigit isDigit
 hex-bound b h =
-    or-elim (within 48 57 b) _ (b < 103) h (λ p. let r = within-range 48 57 b p in omega arith)
-    (λ q. or-elim (within 65 70 b) (within 97 102 b) (b < 103) q (λ p. let r = within-range 65 70 b p in omega arith) (λ p. let r = within-range 97 102 b p in omega arith))
+    or-elim (within 48 57 b) _ h (λ p. let r = within-range 48 57 b p in omega arith)
+    (λ q. or-elim (within 65 70 b) (within 97 102 b) q (λ p. let r = within-range 65 70 b p in omega arith) (λ p. let r = within-range 97 102 b p in omega arith))
 
 hex-small : (b : ℕ) → isHexDigit b ≡ true → hexValue b < 16
 unfolding isSmall
@@ -65,13 +62,6 @@ hex-snoc : (v : ℕ) (s : List ℕ) (b : ℕ) → hexFrom v (s ++ (b ∷ [])) �
 unfolding hexFrom
 hex-snoc v [] b = refl
 hex-snoc v (x ∷ s) b = hex-snoc (16 * v + hexValue x) s b
-
--- each byte of a list that a test holds of
-all-at : (p : ℕ → Bool) (s : List ℕ) (i : ℕ) → all p s ≡ true → i < length s → p (at s i) ≡ true
-unfolding all
-all-at p [] i h k = absurd (omega arith)
-all-at p (x ∷ xs) zero h k = and-left (p x) (all p xs) h
-all-at p (x ∷ xs) (suc i) h k = all-at p xs i (and-right (p x) (all p xs) h) (omega arith)
 
 -- the rules of the loop of `hex_number`
 pub record HexRead (w : List ℕ) (v i : ℕ) : Type 0 where
@@ -89,7 +79,7 @@ module _ (w : List ℕ) (v i : ℕ) (p : HexRead w v i) where
     hex-fits l = lt-of-lt-of-le (p .small) (pow-le-pow-right {n = 16} (omega arith) {i = i} {j = 3} (omega arith))
 
     digit-fits : all isHexDigit w ≡ true → hexValue (getD w i 0) < 16
-    digit-fits h = hex-small (getD w i 0) (all-at isHexDigit w i h here)
+    digit-fits h = hex-small (getD w i 0) (all-at isHexDigit w i here h)
 
     pub hex-next : (length w ≤ 4) × (all isHexDigit w ≡ true) → (d : ℕ) → d ≡ hexValue (getD w i 0) → HexRead w (16 * v + d) (i + 1)
     hex-next h d e = record {
@@ -106,10 +96,6 @@ module _ (w : List ℕ) (v i : ℕ) (p : HexRead w v i) where
   hex-end h = p .value ∙ ap (hexFrom 0) (take-all i w h)
 
 -- the ways out of `read_h16`
-class-hex : (w : List ℕ) → all (isIn HexDigit) w ≡ all isHexDigit w
-unfolding isIn
-class-hex w = refl
-
 module _ (w : List ℕ) where
   pub h16-empty : length w ≡ 0 → NoValue ≡ readH16 w
   unfolding readH16
@@ -129,7 +115,7 @@ module _ (w : List ℕ) where
     h16-other h = simp (ne-eqb (length w) 0 some, le-ltb 4 (length w) short, sym e ∙ h)
 
     pub h16-asks : t ≡ true → (length w ≤ 4) × (all isHexDigit w ≡ true)
-    h16-asks h = (short, sym (class-hex w) ∙ sym e ∙ h)
+    h16-asks h = (short, sym (class-tests HexDigit w) ∙ sym e ∙ h)
 
 -- against the production
 abbrev H16Right : List ℕ → H16 → Type 0
@@ -142,7 +128,7 @@ h16-right w =
     cond-elim (H16Right w) (eqb (length w) 0) (λ _. tt)
     (λ a. cond-elim (H16Right w) (ltb 4 (length w)) (λ _. tt)
     (λ b. cond-elim (H16Right w) (all (isIn HexDigit) w) {x = Value (hexFrom 0 w)} {y = NoValue}
-    (λ c. let some = eqb-false (length w) 0 a in let short = ltb-false 4 (length w) b in digits (range-within 1 4 (length w) (omega arith) (omega arith)) (sym (class-hex w) ∙ c))
+    (λ c. let some = eqb-false (length w) 0 a in let short = ltb-false 4 (length w) b in digits (range-within 1 4 (length w) (omega arith) (omega arith)) (sym (class-tests HexDigit w) ∙ c))
     (λ _. tt)))
 
 pub h16-sound : (w : List ℕ) (g : ℕ) → readH16 w ≡ Value g → Group w g
@@ -152,4 +138,4 @@ pub h16-complete : {w : List ℕ} {g : ℕ} → Group w g → readH16 w ≡ Valu
 unfolding readH16
 h16-complete (digits {w = w} l h) =
     let r = within-range 1 4 (length w) l in
-    simp (ne-eqb (length w) 0 (λ e. omega arith), le-ltb 4 (length w) (r .1), class-hex w ∙ h)
+    simp (ne-eqb (length w) 0 (λ e. omega arith), le-ltb 4 (length w) (r .1), class-tests HexDigit w ∙ h)

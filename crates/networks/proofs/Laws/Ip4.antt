@@ -1,5 +1,5 @@
 -- An ip4-network's text is exactly what is read as one. From the laws of Numbers, Spans and Runs.
-use Prim.Native.Nat.{ℕ, _+_, _-_, _≤_, _<_}
+use Prim.Native.Nat.{ℕ, _+_, _≤_, _<_}
 use mathlib.Core.Path.{_≡_, refl, sym, subst, _∙_}
 use mathlib.Core.List.{List, [], _∷_, _++_}
 use mathlib.Core.Bool.{true, false}
@@ -15,8 +15,8 @@ use Rattle.text.specs.declared.decimal.Number.{Number}
 use Rattle.text.specs.declared.decimal.Number.the-variants.{Value, Refused}
 use Rattle.text.specs.declared.bytes.Class.the-variants.{Digit}
 use Rattle.text.proofs.Laws.Tests.{cond-elim}
-use Rattle.text.proofs.Laws.Classes.{past-end}
-use Rattle.text.proofs.Laws.Spans.{Span, span-join, span-cut, span-byte, span-at, span-word, span-all, span-whole}
+use Rattle.text.proofs.Laws.Classes.{past-end, class-tests}
+use Rattle.text.proofs.Laws.Spans.{Span, span-join, span-cut, span-byte, span-at, span-word, span-all, span-to-end}
 use Rattle.text.proofs.Laws.Runs.{run-span, span-run}
 use Rattle.address.specs.Octets.{valueOf}
 use Rattle.address.specs.declared.Address.{Address}
@@ -33,8 +33,7 @@ use Rattle.networks.proofs.Laws.Numbers.{number-digits, number-limit, n
 
 -- a qnum's digits and its bound
 qnum-digits : {w : List ℕ} {v : ℕ} → Qnum w v → all (isIn Digit) w ≡ true
-unfolding isIn
-qnum-digits q = number-digits (qnum-number q)
+qnum-digits {w} q = class-tests Digit w ∙ number-digits (qnum-number q)
 
 pub qnum-small : {w : List ℕ} {v : ℕ} → Qnum w v → v ≤ 255
 qnum-small q = number-limit (qnum-number q)
@@ -95,14 +94,11 @@ abbrev Ip4Right : List ℕ → Network → Type 0
 Ip4Right s (Is x) = Ip4Made s x
 Ip4Right s NoNetwork = Unit {0}
 
-whole-of : {s w : List ℕ} (l : ℕ) → l ≡ length s → Span s 0 l w → s ≡ w
-whole-of {s} {w} l e p = span-whole (subst (λ (m : ℕ). Span s 0 m w) e p)
-
 four-found : (s : List ℕ) (a b c d i j k l : ℕ) → Found s 0 a i → DotFound s i b j → DotFound s j c k → DotFound s k d l → l ≡ length s
     → Ip4Made s (IPv4 (valueOf (a ∷ b ∷ c ∷ d ∷ [])))
 four-found s a b c d i j k l p q r t e =
     let w = span-join (p .span) (span-join (q .span) (span-join (r .span) (t .span))) in
-    let whole = whole-of l e w in
+    let whole = span-to-end l e w in
     record {
       first = a;
       second = b;

@@ -1,12 +1,12 @@
 -- The texts of prefix lengths are exactly what is read as lengths: one law over the limit, cited for 32 and 128, and the law of both together.
 -- From the laws of Numbers and Runs.
-use Prim.Native.Nat.{ℕ, suc, _+_, _-_, _<_}
+use Prim.Native.Nat.{ℕ, suc, _+_, _<_}
 use mathlib.Core.Path.{_≡_, refl, sym, ap, subst, _∙_}
 use mathlib.Core.List.{List, [], _∷_, _++_, append-nil}
 use mathlib.Core.Bool.{Bool, true, false, cond}
 use native.Mathlib.Omega.{arith}
 use native.Mathlib.Numerals.{add-one}
-use lib.ListN.{length, take, length-append}
+use lib.ListN.{length, length-append}
 use lib.Seq.{split-at, take-append-seam, drop-append-add, getD-append-seam}
 use lib.Dec.{eqb}
 use borrow.Author.Tests.{eq-eqb, ne-eqb, eqb-true}
@@ -19,7 +19,8 @@ use Rattle.text.specs.declared.decimal.Number.the-variants.{Value, Refused}
 use Rattle.text.specs.declared.bytes.Class.the-variants.{Digit}
 use Rattle.text.proofs.Laws.Tests.{cond-elim}
 use Rattle.text.proofs.Laws.Classes.{nonzero-inside}
-use Rattle.text.proofs.Laws.Spans.{rest-part}
+use Rattle.text.proofs.Laws.Parts.{all-first}
+use Rattle.text.proofs.Laws.Spans.{front-part, rest-part}
 use Rattle.text.proofs.Laws.Runs.{all-run, run-zero}
 use Rattle.networks.specs.declared.Length.{Length}
 use Rattle.networks.specs.declared.Length.the-variants.{Of, NoLength}
@@ -29,7 +30,7 @@ use Rattle.networks.specs.Grammar.{LengthNumber, Ip6CidrLength, slash, L
 use Rattle.networks.specs.Answers.{LengthAnswer, DualAnswer}
 use Rattle.networks.specs.Reader.{slashNumber, readLength, readLength4, readLength6, frontEnd, secondLength, readDual}
 use Rattle.networks.proofs.Laws.Readings.{number-elim, length-elim, length-answer, dual-answer}
-use Rattle.networks.proofs.Laws.Numbers.{all-first, number-digits, number-some, number-limit, number-read, number-made}
+use Rattle.networks.proofs.Laws.Numbers.{number-digits, number-some, number-limit, number-read, number-made}
 
 -- the productions of a length, over the limit
 data Slashed (limit : ℕ) : List ℕ → ℕ → Type 0 where
@@ -146,9 +147,6 @@ second-right s i =
 second-made : (s : List ℕ) (i m : ℕ) → secondLength s i ≡ Of m → Second s i m
 second-made s i m e = subst (SecondRight s i) e (second-right s i)
 
-front-part : (s : List ℕ) (i : ℕ) → part s 0 i ≡ take i s
-front-part s i = let e : i - 0 ≡ i = omega arith in ap (λ (n : ℕ). take n s) e
-
 -- a text in two at a slash
 slash-splits : (s : List ℕ) (i : ℕ) → at s i ≡ 47 → s ≡ part s 0 i ++ (47 ∷ part s (i + 1) (length s))
 slash-splits s i h = rw (rest-part s (i + 1), front-part s i) (split-at s i 0 (nonzero-inside s i (omega arith)) ∙ simp (h, add-one))
@@ -178,7 +176,7 @@ number-front : (u rest : List ℕ) → all isDigit u ≡ true → 0 < length u �
 unfolding frontEnd runEnd isIn
 number-front [] rest d l h = absurd (omega arith)
 number-front (a ∷ u) rest d l h =
-    ap (λ (t : Bool). cond t (1 + run (isIn Digit) ((a ∷ u) ++ rest)) 0) (all-first a u d)
+    ap (λ (t : Bool). cond t (1 + run (isIn Digit) ((a ∷ u) ++ rest)) 0) (all-first isDigit a u d)
     ∙ ap (λ (n : ℕ). 1 + n) (all-run (isIn Digit) (a ∷ u) rest d (run-zero (isIn Digit) rest h))
     ∙ omega arith
 

@@ -3,7 +3,7 @@
 use Prim.Native.Nat.{ℕ, suc, _+_, _-_, _*_, _≤_, _<_}
 use mathlib.Core.Path.{_≡_, refl, sym, ap, subst, _∙_}
 use mathlib.Core.List.{List, [], _∷_}
-use mathlib.Core.Bool.{Bool, true, false, not, _&&_, _||_}
+use mathlib.Core.Bool.{Bool, true, false, not, _&&_}
 use native.Mathlib.Omega.{arith}
 use lib.ListN.{length}
 use lib.Dec.{leb, eqb}
@@ -13,8 +13,10 @@ use Rattle.text.specs.Lists.{all}
 use Rattle.text.specs.Decimal.{decimalFrom, decimal, isDecimal, readDecimal, hasNoLeadingZero, readNumber}
 use Rattle.text.specs.declared.decimal.Number.{Number}
 use Rattle.text.specs.declared.decimal.Number.the-variants.{Value, Refused}
-use Rattle.text.proofs.Laws.Tests.{cond-elim, and-left, and-right, and-both}
+use Rattle.text.proofs.Laws.Tests.{cond-elim, and-left, and-right, or-right}
 use Rattle.text.proofs.Laws.Classes.{within-range, range-within}
+use Rattle.text.proofs.Laws.Parts.{all-none, all-cons, all-first, all-rest}
+use Rattle.text.proofs.Laws.Digits.{decimal-grows}
 use Rattle.networks.specs.Grammar.{Qnum, units, tens, hundred, two-hundred, two-fifty, LengthNumber, nought, number}
 
 -- digits as numbers
@@ -28,29 +30,6 @@ range-digit b p q = range-within 48 57 b p q
 
 first-digit : (a : ℕ) → within 49 57 a ≡ true → isDigit a ≡ true
 first-digit a h = let r = within-range 49 57 a h in range-digit a (omega arith) (omega arith)
-
-module _ (a : ℕ) (w : List ℕ) where
-  all-both : isDigit a ≡ true → all isDigit w ≡ true → all isDigit (a ∷ w) ≡ true
-  unfolding all
-  all-both p q = and-both (isDigit a) (all isDigit w) p q
-
-  pub all-first : all isDigit (a ∷ w) ≡ true → isDigit a ≡ true
-  unfolding all
-  all-first h = and-left (isDigit a) (all isDigit w) h
-
-  all-rest : all isDigit (a ∷ w) ≡ true → all isDigit w ≡ true
-  unfolding all
-  all-rest h = and-right (isDigit a) (all isDigit w) h
-
-all-none : all isDigit [] ≡ true
-unfolding all
-all-none = refl
-
--- more digits make no smaller number
-decimal-grows : (v : ℕ) (s : List ℕ) → v ≤ decimalFrom v s
-unfolding decimalFrom
-decimal-grows v [] = omega arith
-decimal-grows v (d ∷ s) = let h = decimal-grows (10 * v + (d - 48)) s in omega arith
 
 decimal-1 : (a : ℕ) → decimal (a ∷ []) ≡ a - 48
 unfolding decimal decimalFrom
@@ -71,8 +50,8 @@ decimal-4 a b c d w = omega (arith, decimal-grows (10 * (10 * (10 * (10 * 0 + (a
 -- the digits of a length's number, of which there is one, and its limit
 module _ {limit : ℕ} where
   pub number-digits : {w : List ℕ} {n : ℕ} → LengthNumber limit w n → all isDigit w ≡ true
-  number-digits nought = all-both 48 [] (range-digit 48 (omega arith) (omega arith)) all-none
-  number-digits (number {a = a} {w = w} ha hw le) = all-both a w (first-digit a ha) hw
+  number-digits nought = all-cons isDigit 48 [] (range-digit 48 (omega arith) (omega arith)) (all-none isDigit)
+  number-digits (number {a = a} {w = w} ha hw le) = all-cons isDigit a w (first-digit a ha) hw
 
   pub number-some : {w : List ℕ} {n : ℕ} → LengthNumber limit w n → 0 < length w
   number-some nought = omega arith
@@ -87,10 +66,6 @@ read-digits : (limit : ℕ) (s : List ℕ) → hasNoLeadingZero s ≡ true → 0
     → readNumber limit s ≡ Value (decimal s)
 unfolding readNumber readDecimal isDecimal
 read-digits limit s z l d h = simp (z, le-leb 1 (length s) l, d, le-leb (decimal s) limit h)
-
-or-right : (t u : Bool) → u ≡ true → (t || u) ≡ true
-or-right true u h = refl
-or-right false u h = h
 
 no-leading-zero : (a : ℕ) (w : List ℕ) → within 49 57 a ≡ true → hasNoLeadingZero (a ∷ w) ≡ true
 unfolding hasNoLeadingZero
@@ -109,7 +84,7 @@ number-read {limit} nought =
     let e : decimal (48 ∷ []) ≡ 0 = decimal-1 48 in
     read-digits limit (48 ∷ []) (one-digit 48) (omega arith) (number-digits {limit = limit} nought) (omega arith) ∙ ap Value e
 number-read {limit} (number {a = a} {w = w} ha hw le) =
-    read-digits limit (a ∷ w) (no-leading-zero a w ha) (omega arith) (all-both a w (first-digit a ha) hw) le
+    read-digits limit (a ∷ w) (no-leading-zero a w ha) (omega arith) (all-cons isDigit a w (first-digit a ha) hw) le
 
 -- what is read the grammar makes
 abbrev Right : ℕ → List ℕ → Number → Type 0
@@ -130,9 +105,9 @@ digits-made limit (a ∷ []) z l d h = by (eqb a 48) refl
   where
     by : (t : Bool) → eqb a 48 ≡ t → LengthNumber limit (a ∷ []) (decimal (a ∷ []))
     by true e = rw (eqb-true a 48 e, decimal-1 48) nought
-    by false e = number (first-range a (all-first a [] d) (eqb-false a 48 e)) all-none h
+    by false e = number (first-range a (all-first isDigit a [] d) (eqb-false a 48 e)) (all-none isDigit) h
 digits-made limit (a ∷ b ∷ w) z l d h =
-    number (first-range a (all-first a (b ∷ w) d) (nonzero-first a b w z)) (all-rest a (b ∷ w) d) h
+    number (first-range a (all-first isDigit a (b ∷ w) d) (nonzero-first a b w z)) (all-rest isDigit a (b ∷ w) d) h
 
 number-right : (limit : ℕ) (w : List ℕ) → Right limit w (readNumber limit w)
 unfolding readNumber readDecimal isDecimal
@@ -152,24 +127,24 @@ number-made limit w n e = subst (Right limit w) e (number-right limit w)
 pub qnum-number : {w : List ℕ} {v : ℕ} → Qnum w v → LengthNumber 255 w v
 qnum-number (units {a = a} da) =
     let r = digit-range a da in
-    digits-made 255 (a ∷ []) (one-digit a) (omega arith) (all-both a [] da all-none) (omega (arith, decimal-1 a))
+    digits-made 255 (a ∷ []) (one-digit a) (omega arith) (all-cons isDigit a [] da (all-none isDigit)) (omega (arith, decimal-1 a))
 qnum-number (tens {a = a} {b = b} da db) =
     let r = within-range 49 57 a da in
     let s = digit-range b db in
-    number da (all-both b [] db all-none) (omega (arith, decimal-2 a b))
+    number da (all-cons isDigit b [] db (all-none isDigit)) (omega (arith, decimal-2 a b))
 qnum-number (hundred {b = b} {c = c} db dc) =
     let r = digit-range b db in
     let s = digit-range c dc in
-    number (range-within 49 57 49 (omega arith) (omega arith)) (all-both b (c ∷ []) db (all-both c [] dc all-none)) (omega (arith, decimal-3 49 b c))
+    number (range-within 49 57 49 (omega arith) (omega arith)) (all-cons isDigit b (c ∷ []) db (all-cons isDigit c [] dc (all-none isDigit))) (omega (arith, decimal-3 49 b c))
 qnum-number (two-hundred {b = b} {c = c} db dc) =
     let r = within-range 48 52 b db in
     let s = digit-range c dc in
-    number (range-within 49 57 50 (omega arith) (omega arith)) (all-both b (c ∷ []) (range-digit b (omega arith) (omega arith)) (all-both c [] dc all-none))
+    number (range-within 49 57 50 (omega arith) (omega arith)) (all-cons isDigit b (c ∷ []) (range-digit b (omega arith) (omega arith)) (all-cons isDigit c [] dc (all-none isDigit)))
     (omega (arith, decimal-3 50 b c))
 qnum-number (two-fifty {c = c} dc) =
     let s = within-range 48 53 c dc in
     number (range-within 49 57 50 (omega arith) (omega arith))
-    (all-both 53 (c ∷ []) (range-digit 53 (omega arith) (omega arith)) (all-both c [] (range-digit c (omega arith) (omega arith)) all-none))
+    (all-cons isDigit 53 (c ∷ []) (range-digit 53 (omega arith) (omega arith)) (all-cons isDigit c [] (range-digit c (omega arith) (omega arith)) (all-none isDigit)))
     (omega (arith, decimal-3 50 53 c))
 
 -- three digits with a value up to 255
@@ -202,6 +177,6 @@ number-qnum (number {a = a} {w = w} ha hw le) = by w hw le
   where
     by : (w : List ℕ) → all isDigit w ≡ true → decimal (a ∷ w) ≤ 255 → Qnum (a ∷ w) (decimal (a ∷ w))
     by [] d h = units (first-digit a ha)
-    by (b ∷ []) d h = tens ha (all-first b [] d)
-    by (b ∷ c ∷ []) d h = three-digits a b c ha (all-first b (c ∷ []) d) (all-first c [] (all-rest b (c ∷ []) d)) h
+    by (b ∷ []) d h = tens ha (all-first isDigit b [] d)
+    by (b ∷ c ∷ []) d h = three-digits a b c ha (all-first isDigit b (c ∷ []) d) (all-first isDigit c [] (all-rest isDigit b (c ∷ []) d)) h
     by (b ∷ c ∷ e ∷ w) d h = let r = within-range 49 57 a ha in absurd (omega (arith, decimal-4 a b c e w))

@@ -12,6 +12,7 @@ use Rattle.address.specs.declared.Address.the-variants.{IPv4, IPv6}
 use Rattle.text.specs.Bytes.{at, within, isDigit, isHexDigit, isNotSlash, isNotSpace, isLengthByte}
 use Rattle.text.specs.Lists.{all}
 use Rattle.text.proofs.Laws.Tests.{and-both}
+use Rattle.text.proofs.Laws.Parts.{all-join-by, all-inside}
 use Rattle.text.proofs.Laws.Classes.{apart, within-range, range-within}
 use Rattle.networks.specs.Grammar.{
   Qnum,
@@ -38,7 +39,6 @@ use Rattle.networks.specs.Grammar.{
   both,
 }
 use Rattle.networks.proofs.Laws.Numbers.{number-digits, qnum-number}
-use Rattle.networks.proofs.Laws.Rows.{all-wider, all-joined}
 
 pub record Plain (w : List ℕ) : Type 0 where
   pub no-slash : all isNotSlash w ≡ true
@@ -55,24 +55,24 @@ digit-hex b h = rw h
 -- networks are of every class that holds the hex digits, the colon and the dot
 module _ (p : ℕ → Bool) (hex : (b : ℕ) → isHexDigit b ≡ true → p b ≡ true) (colon : p 58 ≡ true) (dot : p 46 ≡ true) where
   qnum-bytes : {w : List ℕ} {v : ℕ} → Qnum w v → all p w ≡ true
-  qnum-bytes {w} q = all-wider isDigit p (λ b h. hex b (digit-hex b h)) w (number-digits (qnum-number q))
+  qnum-bytes {w} q = all-inside isDigit p (λ b h. hex b (digit-hex b h)) w (number-digits (qnum-number q))
 
   ip4-bytes : {w os : List ℕ} → Ip4Network w os → all p w ≡ true
   ip4-bytes (octets {p = u} {q = v} {r = r} {s = s} a b c d) =
-      all-joined p u 46 (v ++ (46 ∷ (r ++ (46 ∷ s)))) (qnum-bytes a) dot
-      (all-joined p v 46 (r ++ (46 ∷ s)) (qnum-bytes b) dot (all-joined p r 46 s (qnum-bytes c) dot (qnum-bytes d)))
+      all-join-by p u 46 (v ++ (46 ∷ (r ++ (46 ∷ s)))) (qnum-bytes a) dot
+      (all-join-by p v 46 (r ++ (46 ∷ s)) (qnum-bytes b) dot (all-join-by p r 46 s (qnum-bytes c) dot (qnum-bytes d)))
 
   group-bytes : {w : List ℕ} {g : ℕ} → Group w g → all p w ≡ true
-  group-bytes (digits {w = w} l h) = all-wider isHexDigit p hex w h
+  group-bytes (digits {w = w} l h) = all-inside isHexDigit p hex w h
 
   groups-bytes : {w gs : List ℕ} → Groups w gs → all p w ≡ true
   groups-bytes (Groups.one g) = group-bytes g
-  groups-bytes (Groups.more {w = w} {rest = rest} g r) = all-joined p w 58 rest (group-bytes g) colon (groups-bytes r)
+  groups-bytes (Groups.more {w = w} {rest = rest} g r) = all-join-by p w 58 rest (group-bytes g) colon (groups-bytes r)
 
   row-bytes : {w gs : List ℕ} → Row w gs → all p w ≡ true
   row-bytes (Row.one g) = group-bytes g
   row-bytes (Row.tail n) = ip4-bytes n
-  row-bytes (Row.more {w = w} {rest = rest} g r) = all-joined p w 58 rest (group-bytes g) colon (row-bytes r)
+  row-bytes (Row.more {w = w} {rest = rest} g r) = all-join-by p w 58 rest (group-bytes g) colon (row-bytes r)
 
   before-bytes : {w gs : List ℕ} → Before w gs → all p w ≡ true
   unfolding all
@@ -87,7 +87,7 @@ module _ (p : ℕ → Bool) (hex : (b : ℕ) → isHexDigit b ≡ true → p b �
   ip6-bytes : {w gs : List ℕ} → Ip6Network w gs → all p w ≡ true
   ip6-bytes (full r l) = row-bytes r
   ip6-bytes (short {u = u} {w = w} b a l) =
-      all-joined p u 58 (58 ∷ w) (before-bytes b) colon (all-joined p [] 58 w (before-bytes Before.nothing) colon (after-bytes a))
+      all-join-by p u 58 (58 ∷ w) (before-bytes b) colon (all-join-by p [] 58 w (before-bytes Before.nothing) colon (after-bytes a))
 
 -- neither the slash nor the space is among them
 hex-not-slash : (b : ℕ) → isHexDigit b ≡ true → isNotSlash b ≡ true
@@ -120,14 +120,14 @@ pub network6-family : {w : List ℕ} {a : Address} → Network6 w a → (h : ℕ
 network6-family (Network6.network n) = (_, _, refl)
 
 -- a slash and then a number
-digit-length : (b : ℕ) → isDigit b ≡ true → isLengthByte b ≡ true
+pub digit-length : (b : ℕ) → isDigit b ≡ true → isLengthByte b ≡ true
 unfolding isDigit isLengthByte
 digit-length b h = let r = within-range 48 57 b h in range-within 47 57 b (omega arith) (omega arith)
 
 slash-number : {limit : ℕ} {w : List ℕ} {n : ℕ} → LengthNumber limit w n → LengthText (47 ∷ w)
 unfolding all isLengthByte within
 slash-number {w = w} d = record {
-  bytes = and-both (isLengthByte 47) (all isLengthByte w) refl (all-wider isDigit isLengthByte digit-length w (number-digits d));
+  bytes = and-both (isLengthByte 47) (all isLengthByte w) refl (all-inside isDigit isLengthByte digit-length w (number-digits d));
   begins = inr refl;
 }
 
@@ -155,6 +155,6 @@ pub dual-text : {w : List ℕ} {n m : ℕ} → DualCidrLength w n m → LengthTe
 unfolding isLengthByte within
 dual-text (four-only l) = length4-text l
 dual-text (both {w = w} {v = v} l d) = record {
-  bytes = all-joined isLengthByte w 47 v (length4-text l .bytes) refl (ip6-length-text d .bytes);
+  bytes = all-join-by isLengthByte w 47 v (length4-text l .bytes) refl (ip6-length-text d .bytes);
   begins = inr (both-begin l v);
 }

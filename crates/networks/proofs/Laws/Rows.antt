@@ -1,18 +1,18 @@
 -- Rows of groups: the reader against the productions, sound and complete, with and without a tail. From the laws of Ip4, of hex numbers and
 -- of colons.
 use Prim.Native.Nat.{ℕ, _+_, _*_, _/_, _%_, _≤_, _<_}
-use mathlib.Core.Path.{_≡_, refl, sym, ap, subst, _∙_}
+use mathlib.Core.Path.{_≡_, refl, ap, subst, _∙_}
 use mathlib.Core.List.{List, [], _∷_, _++_, append-assoc, append-nil}
 use mathlib.Core.Bool.{Bool, true, false, cond, not, _&&_}
 use native.Mathlib.Omega.{arith}
 use lib.ListN.{length, length-append}
 use lib.Dec.{leb, eqb}
-use borrow.Author.Tests.{le-leb, leb-true, eqb-true, ne-eqb}
+use borrow.Author.Tests.{le-leb, leb-true, eqb-true, ne-eqb, not-true}
 use Rattle.text.specs.Bytes.{at, within, isDigit, isHexDigit}
 use Rattle.text.specs.Lists.{all, split, grow}
-use Rattle.text.proofs.Laws.Tests.{cond-elim, and-left, and-right, and-both}
+use Rattle.text.proofs.Laws.Tests.{cond-elim, and-left, and-right}
 use Rattle.text.proofs.Laws.Classes.{apart, within-range}
-use Rattle.text.proofs.Laws.Parts.{all-append}
+use Rattle.text.proofs.Laws.Parts.{all-join-by, all-between, all-inside}
 use Rattle.text.proofs.Laws.Splitting.{Some, some, split-some}
 use Rattle.address.specs.Octets.{valueFrom, valueOf}
 use Rattle.address.specs.declared.Address.the-variants.{IPv4, IPv6}
@@ -29,12 +29,6 @@ use Rattle.networks.proofs.Laws.HexNumbers.{h16-sound, h16-complete}
 use Rattle.networks.proofs.Laws.Colons.{isNotColon, first-none, first-part, double-past, double-single, double-at, double-empty}
 use Rattle.networks.proofs.Laws.RowWriting.{row-cons}
 
--- bytes of a narrower class
-pub all-wider : (p q : ℕ → Bool) → ((b : ℕ) → p b ≡ true → q b ≡ true) → (s : List ℕ) → all p s ≡ true → all q s ≡ true
-unfolding all
-all-wider p q f [] h = refl
-all-wider p q f (b ∷ s) h = and-both (q b) (all q s) (f b (and-left (p b) (all p s) h)) (all-wider p q f s (and-right (p b) (all p s) h))
-
 -- a group has no colon, and an IPv4 tail has none
 hex-not-colon : (b : ℕ) → isHexDigit b ≡ true → isNotColon b ≡ true
 unfolding isHexDigit isDigit within
@@ -45,25 +39,16 @@ unfolding isDigit within
 digit-not-colon b h = ap not (apart isDigit b 58 h refl)
 
 group-colonless : {w : List ℕ} {g : ℕ} → Group w g → all isNotColon w ≡ true
-group-colonless (digits {w = w} l h) = all-wider isHexDigit isNotColon hex-not-colon w h
+group-colonless (digits {w = w} l h) = all-inside isHexDigit isNotColon hex-not-colon w h
 
 qnum-colonless : {w : List ℕ} {v : ℕ} → Qnum w v → all isNotColon w ≡ true
-qnum-colonless {w} q = all-wider isDigit isNotColon digit-not-colon w (number-digits (qnum-number q))
-
--- two texts with a byte between them
-pub all-joined : (p : ℕ → Bool) (u : List ℕ) (b : ℕ) (w : List ℕ) → all p u ≡ true → p b ≡ true → all p w ≡ true → all p (u ++ (b ∷ w)) ≡ true
-unfolding all
-all-joined p u b w hu hb hw = rw (all-append p u (b ∷ w)) (and-both (all p u) (p b && all p w) hu (and-both (p b) (all p w) hb hw))
-
-pub all-between : (p : ℕ → Bool) (u : List ℕ) (b : ℕ) (w : List ℕ) → all p (u ++ (b ∷ w)) ≡ true → p b ≡ true
-unfolding all
-all-between p u b w h = and-left (p b) (all p w) (and-right (all p u) (p b && all p w) (sym (all-append p u (b ∷ w)) ∙ h))
+qnum-colonless {w} q = all-inside isDigit isNotColon digit-not-colon w (number-digits (qnum-number q))
 
 pub ip4-colonless : {w os : List ℕ} → Ip4Network w os → all isNotColon w ≡ true
 ip4-colonless (octets {p = p} {q = q} {r = r} {s = s} a b c d) =
-    all-joined isNotColon p 46 (q ++ (46 ∷ (r ++ (46 ∷ s)))) (qnum-colonless a) refl
-    (all-joined isNotColon q 46 (r ++ (46 ∷ s)) (qnum-colonless b) refl
-    (all-joined isNotColon r 46 s (qnum-colonless c) refl (qnum-colonless d)))
+    all-join-by isNotColon p 46 (q ++ (46 ∷ (r ++ (46 ∷ s)))) (qnum-colonless a) refl
+    (all-join-by isNotColon q 46 (r ++ (46 ∷ s)) (qnum-colonless b) refl
+    (all-join-by isNotColon r 46 s (qnum-colonless c) refl (qnum-colonless d)))
 
 -- nor are they empty
 group-some : {w : List ℕ} {g : ℕ} → Group w g → 0 < length w
@@ -75,11 +60,7 @@ ip4-some (octets {p = p} {q = q} {r = r} {s = s} a b c d) = simp length-append (
 first-byte : (w t : List ℕ) → all isNotColon w ≡ true → 0 < length w → isColon (at (w ++ t) 0) ≡ false
 unfolding all
 first-byte [] t h k = absurd (omega arith)
-first-byte (b ∷ w) t h k = by (eqb b 58) (and-left (isNotColon b) (all isNotColon w) h)
-  where
-    by : (u : Bool) → not u ≡ true → u ≡ false
-    by true e = sym e
-    by false e = refl
+first-byte (b ∷ w) t h k = not-true (eqb b 58) (and-left (isNotColon b) (all isNotColon w) h)
 
 -- a row has no "::"
 pub record NoDouble (w : List ℕ) : Type 0 where

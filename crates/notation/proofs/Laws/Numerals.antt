@@ -3,8 +3,8 @@
 use Prim.Native.Nat.{ℕ, zero, suc, _+_, _-_, _*_, _/_, _%_, _^_, _≤_, _<_}
 use mathlib.Core.Path.{_≡_, refl, sym, _∙_}
 use mathlib.Core.List.{List, [], _∷_, _++_}
-use mathlib.Core.Bool.{Bool, true, false, _||_}
-use mathlib.Core.Logic.{_⊎_, ⊎-elim}
+use mathlib.Core.Bool.{true}
+use mathlib.Core.Logic.{⊎-elim}
 use native.Mathlib.Omega.{arith}
 use native.Mathlib.Nat.{pow-zero, pow-suc, one-mul, div-lt-iff-lt-mul, div-lt-self, mod-lt}
 use lib.ListN.{length, getD, length-append, List·getD-append}
@@ -15,8 +15,9 @@ use Rattle.text.specs.Lists.{all}
 use Rattle.text.specs.Decimal.{decimalFrom, decimal, isDecimal, readDecimal, hasNoLeadingZero, readNumber}
 use Rattle.text.specs.declared.decimal.Number.the-variants.{Value}
 use Rattle.text.specs.Writing.{Wrote}
-use Rattle.text.proofs.Laws.Tests.{cond-elim, and-both, and-left, and-right}
+use Rattle.text.proofs.Laws.Tests.{cond-elim, and-both, or-right}
 use Rattle.text.proofs.Laws.Classes.{range-within}
+use Rattle.text.proofs.Laws.Parts.{all-none, all-join-by}
 use Rattle.text.proofs.Laws.Orders.{le-or-lt}
 use Rattle.text.proofs.Laws.Writing.{wrote-then}
 use Rattle.notation.specs.Digits.{digit, numeral, inDecimal}
@@ -86,11 +87,6 @@ digit-digit n h = rw (digit-below n h) (range-within 48 57 (48 + n) (omega arith
 digit-value : (n v : ℕ) → n < 10 → 10 * v + (digit n - 48) ≡ 10 * v + n
 digit-value n v h = rw (digit-below n h) (omega arith)
 
-all-snoc : (p : ℕ → Bool) (s : List ℕ) (d : ℕ) → all p s ≡ true → p d ≡ true → all p (s ++ (d ∷ [])) ≡ true
-unfolding all
-all-snoc p [] d h e = and-both (p d) true e refl
-all-snoc p (x ∷ s) d h e = and-both (p x) (all p (s ++ (d ∷ []))) (and-left (p x) (all p s) h) (all-snoc p s d (and-right (p x) (all p s) h) e)
-
 decimal-snoc : (v : ℕ) (s : List ℕ) (d : ℕ) → decimalFrom v (s ++ (d ∷ [])) ≡ 10 * decimalFrom v s + (d - 48)
 unfolding decimalFrom
 decimal-snoc v [] d = refl
@@ -113,7 +109,7 @@ more-digits n s h r =
       some = simp length-append (omega arith);
       one = λ p. absurd (omega arith);
       first = λ p e. r .first (omega arith) (sym (List·getD-append s (digit (n % 10) ∷ []) 0 0 (r .some)) ∙ e);
-      digits = all-snoc isDigit s (digit (n % 10)) (r .digits) (digit-digit (n % 10) (omega arith));
+      digits = all-join-by isDigit s (digit (n % 10)) [] (r .digits) (digit-digit (n % 10) (omega arith)) (all-none isDigit);
       value = decimal-snoc 0 s (digit (n % 10)) ∙ rw (r .value) (digit-value (n % 10) (n / 10) (omega arith) ∙ omega arith);
     }
 
@@ -130,15 +126,11 @@ pub record IsDecimalOf (v : ℕ) (s : List ℕ) : Type 0 where
   pub no-leading-zero : hasNoLeadingZero s ≡ true
   pub value : decimal s ≡ v
 
-or-right : (t : Bool) → (t || true) ≡ true
-or-right true = refl
-or-right false = refl
-
 numeral-plain : (n : ℕ) (s : List ℕ) → Numeral n s → hasNoLeadingZero s ≡ true
 unfolding hasNoLeadingZero
 numeral-plain n s r = ⊎-elim
     (λ (h : n ≤ 9). simp (le-leb (length s) 1 (omega (arith, r .one (omega arith)))))
-    (λ (h : 9 < n). simp (ne-eqb (getD s 0 0) 48 (r .first (omega arith))) (or-right (leb (length s) 1)))
+    (λ (h : 9 < n). simp (ne-eqb (getD s 0 0) 48 (r .first (omega arith))) (or-right (leb (length s) 1) true refl))
     (le-or-lt n 9)
 
 pub in-decimal : (v : ℕ) → v < 2 ^ 64 → IsDecimalOf v (inDecimal v)

@@ -2,25 +2,24 @@
 -- place lies further on. From the definitions of Reader, the laws of runs, and what Terms and Records say of the answers.
 use Prim.Native.Nat.{ℕ, zero, suc, _+_, _-_, _≤_, _<_}
 use mathlib.Core.Path.{_≡_, refl, sym, ap, subst, _∙_}
-use mathlib.Core.List.{List, [], _∷_, map}
+use mathlib.Core.List.{List, [], _∷_}
 use mathlib.Core.Bool.{Bool, true, false, _&&_, _||_}
 use native.Mathlib.Omega.{arith}
 use native.Mathlib.Nat.{sub-self}
-use lib.ListN.{length, take, drop, length-map, length-take, length-drop}
+use lib.ListN.{length, drop, length-drop}
 use lib.Seq.{getD-drop}
 use lib.Dec.{ltb, eqb}
 use borrow.Author.Tests.{eq-eqb, ne-eqb, eqb-false, ltb-false, lt-ltb, le-ltb}
 use types.Run.{OneOf, miss}
 use denote.Enum.Declared.{tagOf, declared}
-use Rattle.text.specs.Bytes.{at, part, lower, isSpace, isNotSpace}
+use Rattle.text.specs.Bytes.{at, part, isSpace, isNotSpace}
 use Rattle.text.specs.Lists.{sameWord}
 use Rattle.text.specs.Texts.{bytes}
 use Rattle.text.specs.Runs.{isIn, run, runEnd}
 use Rattle.text.specs.declared.bytes.Class.the-variants.{Space, NotSpace}
 use Rattle.text.proofs.Laws.Runs.{run-stops, run-end-next, run-end-from, run-end-inside}
 use Rattle.text.proofs.Laws.Spans.{part-past}
-use Rattle.text.proofs.Laws.Tests.{cond-elim, and-left}
-use Rattle.text.proofs.Laws.Words.{same-true}
+use Rattle.text.proofs.Laws.Tests.{cond-elim}
 use Rattle.records.specs.declared.Term.{Term}
 use Rattle.records.specs.declared.Token.{Token}
 use Rattle.records.specs.declared.TermAnswer.{TermAnswer}
@@ -32,6 +31,7 @@ use Rattle.records.proofs.Term as term-type
 use Rattle.records.proofs.TermAnswer as answer-type
 use Rattle.records.proofs.Laws.Terms.{term-answers}
 use Rattle.records.proofs.Laws.Records.{record-answers}
+use Rattle.records.proofs.Laws.Versions.{version-of, version-inside}
 
 -- `term_from`
 pub from-end : (s : List ℕ) (p : ℕ) → p ≡ length s → TermAnswer.End ≡ termFrom s p
@@ -159,12 +159,8 @@ module _ (s t : List ℕ) (p : t ≡ part s 0 6) (x : Bool) (q : x ≡ sameWord 
   unfolding hasVersion
   version-other h = sym (simp (version ∙ h))
 
-pub version-inside : (s : List ℕ) (x : Bool) → x ≡ hasVersion s → x ≡ true → 6 ≤ length s
-unfolding hasVersion sameWord
-version-inside s x p q =
-    let h = and-left (sameWord (part s 0 6) (bytes "v=spf1")) (eqb (length s) 6 || eqb (at s 6) 32) (sym p ∙ q) in
-    let e : map lower (take 6 s) ≡ bytes "v=spf1" = same-true (map lower (take 6 s)) (bytes "v=spf1") h in
-    omega (arith, ap length e, length-map (take 6 s) lower, length-take 6 s)
+pub version-read : (s : List ℕ) (x : Bool) → x ≡ hasVersion s → x ≡ true → 6 ≤ length s
+version-read s x p q = version-inside (version-of s (sym p ∙ q))
 
 -- `is_redirect`, `is_explanation`, where a term is of another case
 pub no-redirect : (t : Term) → OneOf (0 ∷ 1 ∷ 2 ∷ 3 ∷ 4 ∷ 5 ∷ 6 ∷ 8 ∷ 9 ∷ []) (tagOf (declared term-type.enum) t) → false ≡ isRedirect t

@@ -1,7 +1,6 @@
 -- How often a redirect and an exp stand, and the two flags by which the reader knows. From the definition of `countOf`.
 use Prim.Native.Nat.{ℕ, _+_, _≤_}
 use mathlib.Core.Path.{_≡_, refl}
-use mathlib.Core.Logic.{_⊎_, inl, inr}
 use mathlib.Core.List.{List, [], _∷_, _++_}
 use mathlib.Core.Bool.{Bool, true, false, cond, _&&_, _||_}
 use native.Mathlib.Omega.{arith}
@@ -60,11 +59,3 @@ unfolding count
 flag-twice true true h = refl
 flag-twice true false h = let z : _≡_ {A = ℕ} 0 1 = cc in omega arith
 flag-twice false t h = let z : _≡_ {A = ℕ} 0 1 = cc in omega arith
-
-pub or-none : (a b : Bool) → (a || b) ≡ false → (a ≡ false) × (b ≡ false)
-or-none true b h = let z : _≡_ {A = ℕ} 0 1 = cc in absurd (omega arith)
-or-none false b h = (refl, h)
-
-pub or-one : (a b : Bool) → (a || b) ≡ true → (a ≡ true) ⊎ (b ≡ true)
-or-one true b h = inl refl
-or-one false b h = inr h

@@ -13,21 +13,21 @@ use Rattle.text.specs.Bytes.{at, part, within, isDigit, isLengthByte}
 use Rattle.text.specs.Lists.{all}
 use Rattle.text.specs.Runs.{isIn, run, runEnd, trailingStart}
 use Rattle.text.specs.declared.bytes.Class.the-variants.{Digit, LengthByte}
-use Rattle.text.proofs.Laws.Classes.{within-range, range-within}
-use Rattle.text.proofs.Laws.Spans.{Span, span-join, span-cut, span-word, rest-part}
+use Rattle.text.proofs.Laws.Classes.{class-test, class-tests}
+use Rattle.text.proofs.Laws.Spans.{Span, span-join, span-cut, span-word, rest-part, span-part}
 use Rattle.text.proofs.Laws.Runs.{run-zero, all-run, span-run, run-end-inside, trailing-le, trailing-first}
-use Rattle.macros.proofs.Laws.Texts.{all-none, all-join, all-inside, one-fails}
+use Rattle.text.proofs.Laws.Parts.{all-none, all-join, all-inside, one-fails}
 use Rattle.networks.specs.Grammar.{DualCidrLength}
 use Rattle.networks.specs.Reader.{readDual}
 use Rattle.networks.specs.declared.Dual.{Dual}
 use Rattle.networks.proofs.Laws.Lengths.{dual-sound, dual-complete}
-use Rattle.networks.proofs.Laws.Plain.{LengthText, dual-text}
+use Rattle.networks.proofs.Laws.Plain.{LengthText, dual-text, digit-length}
 use Rattle.records.specs.Readings.{Optional}
 use Rattle.records.specs.Grammar.{OptionalSpec, without, with-spec}
 use Rattle.records.specs.Numbers.{optional}
 use Rattle.records.specs.Reader.{specAt, afterDual, afterHosts, cutOf, hostsCut, hostsAt}
 use Rattle.records.specs.declared.terms.Hosts.{Hosts}
-use Rattle.records.proofs.Laws.Specs.{Ending, ending-after, spec-ending, part-span, spec-right, Optionally, argument-given, argument-absent, spec-absent, spec-given, spec-elim}
+use Rattle.records.proofs.Laws.Specs.{Ending, ending-after, spec-ending, spec-right, Optionally, argument-given, argument-absent, spec-absent, spec-given, spec-elim}
 
 -- a domain-spec with its colon ends as a domain-spec does
 optional-ending : {u : List ℕ} {arg : Optional (List ℕ)} → OptionalSpec u arg → (u ≡ []) ⊎ Ending u
@@ -42,28 +42,14 @@ trailing-at p (x ∷ v) b w n h = simp (one-fails p (x ∷ v) b w n) (ap suc (tr
 
 -- what follows the digits is no digit
 length-bytes : {l : List ℕ} → LengthText l → all (isIn LengthByte) l ≡ true
-unfolding isIn
-length-bytes t = t .bytes
-
-digit-bytes : (w : List ℕ) → all isDigit w ≡ true → all (isIn Digit) w ≡ true
-unfolding isIn
-digit-bytes w h = h
-
-digit-length : (b : ℕ) → isDigit b ≡ true → isLengthByte b ≡ true
-unfolding isDigit isLengthByte
-digit-length b h = let r = within-range 48 57 b h in range-within 47 57 b (omega (arith, r)) (r .1)
+length-bytes {l} t = class-tests LengthByte l ∙ t .bytes
 
 lengths-all : (w : List ℕ) → all isDigit w ≡ true → all (isIn LengthByte) w ≡ true
-unfolding isIn
-lengths-all w h = all-inside isDigit isLengthByte digit-length w h
+lengths-all w h = class-tests LengthByte w ∙ all-inside isDigit isLengthByte digit-length w h
 
 length-begins : {l : List ℕ} → LengthText l → isIn Digit (at l 0) ≡ false
 unfolding isIn isDigit within
 length-begins t = ⊎-elim (λ e. ap (λ (x : List ℕ). isIn Digit (at x 0)) e) (λ e. ap (isIn Digit) e) (t .begins)
-
-length-byte : (b : ℕ) → isIn LengthByte b ≡ isLengthByte b
-unfolding isIn
-length-byte b = refl
 
 -- where the lengths begin
 cut-nothing : {l : List ℕ} → LengthText l → cutOf l ≡ 0
@@ -76,7 +62,7 @@ digits-end : (v w l : List ℕ) → all isDigit w ≡ true → isIn Digit (at l 
 unfolding runEnd
 digits-end v w l h n =
     ap (λ (x : List ℕ). length v + run (isIn Digit) x) (drop-append-seam v (w ++ l))
-    ∙ ap (λ (k : ℕ). length v + k) (all-run (isIn Digit) w l (digit-bytes w h) (run-zero (isIn Digit) l n))
+    ∙ ap (λ (k : ℕ). length v + k) (all-run (isIn Digit) w l (class-tests Digit w ∙ h) (run-zero (isIn Digit) l n))
 
 cut-ending : {u l : List ℕ} → Ending u → LengthText l → cutOf (u ++ l) ≡ length u
 unfolding cutOf
@@ -87,7 +73,7 @@ cut-ending {u} {l} e t =
     let whole : u ++ l ≡ v ++ (e .digits ++ l) = parts ∙ sym (append-assoc (e .front) (e .byte ∷ []) (e .digits ++ l)) in
     let start : trailingStart (isIn LengthByte) (u ++ l) ≡ length v =
     ap (trailingStart (isIn LengthByte)) parts
-    ∙ trailing-at (isIn LengthByte) (e .front) (e .byte) (e .digits ++ l) (length-byte (e .byte) ∙ e .outside)
+    ∙ trailing-at (isIn LengthByte) (e .front) (e .byte) (e .digits ++ l) (class-test LengthByte (e .byte) ∙ e .outside)
     (all-join (isIn LengthByte) (e .digits) l (lengths-all (e .digits) (e .inside)) (length-bytes t))
     ∙ n in
     ap (runEnd (isIn Digit) (u ++ l)) start
@@ -101,7 +87,7 @@ cut-is {u} {l} s t = ⊎-elim
     (λ (e : Ending u). cut-ending e t)
     (optional-ending s)
 
-cut-inside : (t : List ℕ) → cutOf t ≤ length t
+pub cut-inside : (t : List ℕ) → cutOf t ≤ length t
 unfolding cutOf
 cut-inside t = run-end-inside (isIn Digit) t (trailingStart (isIn LengthByte) t) (trailing-le (isIn LengthByte) t)
 
@@ -133,7 +119,7 @@ module _ (w : List ℕ) (k cut : ℕ) (after : k ≤ cut) (inside : cut ≤ leng
   hosts-made from to n m a d = record {
     argument = a .word;
     lengths = part w cut (length w);
-    span = span-join (a .span) (part-span w cut (length w) inside (omega arith));
+    span = span-join (a .span) (span-part w cut (length w) inside (omega arith));
     made = a .made;
     sized = dual-sound (part w cut (length w)) n m d;
   }

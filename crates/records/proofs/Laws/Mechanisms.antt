@@ -18,7 +18,7 @@ use Rattle.text.specs.declared.bytes.Class.the-variants.{NameByte}
 use Rattle.text.proofs.Laws.Tests.{cond-elim}
 use Rattle.text.proofs.Laws.Spans.{Span, span-join, span-word}
 use Rattle.text.proofs.Laws.Runs.{run-span, run-end-inside}
-use Rattle.macros.proofs.Laws.Texts.{all-none, all-join}
+use Rattle.text.proofs.Laws.Parts.{all-none, all-join}
 use Rattle.macros.specs.Grammar.{Piece, DomainSpecs}
 use Rattle.networks.specs.Grammar.{Network4, Network6, Length4, Length6}
 use Rattle.networks.proofs.Laws.Plain.{LengthText, network4-plain, network6-plain, length4-text, length6-text, dual-text}

@@ -13,16 +13,15 @@ use Rattle.text.specs.Lists.{all, same, sameWord}
 use Rattle.text.specs.Texts.{bytes}
 use Rattle.text.specs.Runs.{isIn, runEnd}
 use Rattle.text.specs.declared.bytes.Class.the-variants.{NameByte}
-use Rattle.text.proofs.Laws.Tests.{cond-elim}
+use Rattle.text.proofs.Laws.Tests.{cond-elim, true-false}
 use Rattle.text.proofs.Laws.Classes.{nonzero-inside}
 use Rattle.text.proofs.Laws.Words.{false-same, same-false}
-use Rattle.text.proofs.Laws.Spans.{Span, span-all, span-whole, span-join, span-cut, span-byte, span-word}
+use Rattle.text.proofs.Laws.Spans.{Span, span-all, span-whole, span-join, span-cut, span-byte, span-word, span-part}
 use Rattle.text.proofs.Laws.Runs.{run-span, run-span-all}
+use Rattle.text.proofs.Laws.Parts.{all-cons, all-rest}
 use Rattle.macros.specs.declared.Form.the-variants.{DomainSpec, ModifierValue}
 use Rattle.macros.specs.Grammar.{Piece, MacroString, DomainSpecs}
 use Rattle.macros.specs.Reader.{isMacroString}
-use Rattle.macros.proofs.Laws.Bytes.{true-false}
-use Rattle.macros.proofs.Laws.Texts.{all-cons, all-rest}
 use Rattle.macros.proofs.Laws.Soundness.{sound}
 use Rattle.macros.proofs.Laws.Completeness.{complete}
 use Rattle.records.specs.Readings.{Said, modifier}
@@ -32,7 +31,7 @@ use Rattle.records.specs.Reader.{modifierOf}
 use Rattle.records.specs.declared.Term.{Term}
 use Rattle.records.specs.declared.Token.{Token}
 use Rattle.records.proofs.Laws.Names.{alpha-name, Word, literal-word, redirect-word, exp-word, literal-of, literal-same, Named, named, Unreserved}
-use Rattle.records.proofs.Laws.Specs.{part-span, solid-spec, solid-string}
+use Rattle.records.proofs.Laws.Specs.{solid-spec, solid-string}
 use Rattle.records.proofs.Laws.Mechanisms.{solid-after}
 
 -- what is read is a modifier
@@ -61,7 +60,7 @@ module _ (w : List ℕ) (k : ℕ) (p : Span w 0 k (part w 0 k)) (names : all isN
   whole : w ≡ part w 0 k ++ (61 ∷ part w (k + 1) (length w))
   whole =
       let i = nonzero-inside w k (λ e. omega (arith, equals, e)) in
-      span-whole (span-join p (span-join (span-byte w k 60 equals) (part-span w (k + 1) (length w) (omega arith) (omega arith))))
+      span-whole (span-join p (span-join (span-byte w k 60 equals) (span-part w (k + 1) (length w) (omega arith) (omega arith))))
 
   at-whole : {x : Said} → Modifier (part w 0 k ++ (61 ∷ part w (k + 1) (length w))) x → Modifier w x
   at-whole {x} m = subst (λ (u : List ℕ). Modifier u x) (sym whole) m

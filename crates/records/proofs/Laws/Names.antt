@@ -13,13 +13,13 @@ use Rattle.text.specs.Lists.{all, same, sameWord}
 use Rattle.text.specs.Texts.{bytes}
 use Rattle.text.specs.Runs.{isIn, runEnd}
 use Rattle.text.specs.declared.bytes.Class.the-variants.{NameByte}
-use Rattle.text.proofs.Laws.Tests.{cond-elim}
-use Rattle.text.proofs.Laws.Classes.{apart}
+use Rattle.text.proofs.Laws.Tests.{cond-elim, true-false, or-left}
+use Rattle.text.proofs.Laws.Classes.{apart, class-test, class-tests}
 use Rattle.text.proofs.Laws.Words.{same-true, true-same, at-lowered}
 use Rattle.text.proofs.Laws.Spans.{Span, span-cut}
 use Rattle.text.proofs.Laws.Runs.{span-run}
-use Rattle.macros.proofs.Laws.Bytes.{true-false, or-left, alpha-alphanumeric}
-use Rattle.macros.proofs.Laws.Texts.{all-none, all-cons, all-first, all-rest}
+use Rattle.text.proofs.Laws.Parts.{all-none, all-cons, all-first, all-rest}
+use Rattle.macros.proofs.Laws.Bytes.{alpha-alphanumeric}
 use Rattle.records.specs.Grammar.{Literal, isQualifier, isReserved}
 use Rattle.records.specs.Reader.{kindOf, laterKind}
 use Rattle.records.specs.declared.Term.{Term}
@@ -188,14 +188,6 @@ pub last-at : {w : List ℕ} {k : ℕ} (rest : List ℕ) → Span w k (length w)
 last-at {w} {k} rest p =
     sym (simp add-zero at (getD-drop k w 0 0)) ∙ ap (λ (t : List ℕ). at t 0) (p .split ∙ ap (λ (t : List ℕ). rest ++ t) (drop-length w) ∙ append-nil rest)
 
-name-byte : (b : ℕ) → isIn NameByte b ≡ isNameByte b
-unfolding isIn
-name-byte b = refl
-
-name-bytes : (w : List ℕ) → all (isIn NameByte) w ≡ all isNameByte w
-unfolding isIn
-name-bytes w = refl
-
 alpha-zero : isAlpha 0 ≡ false
 unfolding isAlpha isUpper within
 alpha-zero = refl
@@ -211,7 +203,7 @@ named {w} {u} {rest} {i} k p n =
     record {
       front = c .0;
       after = c .1;
-      ends = span-run (isIn NameByte) (c .0) (name-bytes u ∙ k .names) (name-byte (at w (i + length u)) ∙ ap isNameByte f ∙ n);
+      ends = span-run (isIn NameByte) (c .0) (class-tests NameByte u ∙ k .names) (class-test NameByte (at w (i + length u)) ∙ ap isNameByte f ∙ n);
       follows = f;
       first = ap isAlpha (last-at (u ++ rest) p) ∙ first-at u rest (k .letter);
     }

@@ -16,8 +16,8 @@ use Rattle.text.specs.Texts.{bytes}
 use Rattle.text.specs.Runs.{isIn, runEnd}
 use Rattle.text.specs.declared.bytes.Class.the-variants.{NotSlash}
 use Rattle.text.proofs.Laws.Tests.{cond-elim}
-use Rattle.text.proofs.Laws.Classes.{nonzero-inside}
-use Rattle.text.proofs.Laws.Spans.{Span, span-join, span-cut, span-byte, span-at, span-word}
+use Rattle.text.proofs.Laws.Classes.{nonzero-inside, class-tests}
+use Rattle.text.proofs.Laws.Spans.{Span, span-join, span-cut, span-byte, span-at, span-word, span-part}
 use Rattle.text.proofs.Laws.Runs.{span-run, span-run-end, run-end-from, run-end-inside}
 use Rattle.networks.specs.Grammar.{Network4, Network6, Length4, Length6}
 use Rattle.networks.specs.Reader.{readIp4, readLength4, readLength6}
@@ -34,7 +34,6 @@ use Rattle.records.specs.Reader.{afterNetwork, afterLength, ip4Cut, ip4O
 use Rattle.records.specs.declared.Term.{Term}
 use Rattle.records.specs.declared.Token.{Token}
 use Rattle.records.proofs.Laws.Names.{last-at}
-use Rattle.records.proofs.Laws.Specs.{part-span}
 
 -- the ways out of a network and of a length
 network-elim {κ} : {A : Type 0} (P : A → Type κ) (x : Network) (f : Address → A) (z : A)
@@ -77,7 +76,7 @@ module _ (Net : List ℕ → Address → Type 0) (Size : List ℕ → ℕ → Ty
       → Net (part w (k + 1) slash) x → Size (part w slash (length w)) n → NetworkMade Net Size w k (k + 1) slash x n
   network-made w k slash x n c h l d e = record {
     lengths = part w slash (length w);
-    span = span-join (span-byte w k 57 c) (span-join (part-span w (k + 1) slash h l) (part-span w slash (length w) l (omega arith)));
+    span = span-join (span-byte w k 57 c) (span-join (span-part w (k + 1) slash h l) (span-part w slash (length w) l (omega arith)));
     made = d;
     sized = e;
   }
@@ -128,10 +127,6 @@ pub record NetworkRead (token : Token) (sign : ℕ) (w t : List ℕ) (x : Addres
   pub read : token ≡ Token.Is (Term.Network sign from to x n)
   pub says : part w from to ≡ t
 
-unslashed : (t : List ℕ) → all isNotSlash t ≡ true → all (isIn NotSlash) t ≡ true
-unfolding isIn
-unslashed t h = h
-
 slash-stops : isIn NotSlash 47 ≡ false
 unfolding isIn isNotSlash
 slash-stops = refl
@@ -143,8 +138,8 @@ slash-end t l {w} {i} h k p =
     ⊎-elim
     (λ (e : l ≡ []).
     let q : Span w i (length w) t = subst (λ (x : List ℕ). Span w i (length w) x) (ap (λ (x : List ℕ). t ++ x) e ∙ append-nil t) p in
-    span-run-end (isIn NotSlash) q (unslashed t h) ∙ q .size)
-    (λ (e : at l 0 ≡ 47). span-run (isIn NotSlash) (c .0) (unslashed t h) (ap (isIn NotSlash) (last-at l (c .1) ∙ e) ∙ slash-stops))
+    span-run-end (isIn NotSlash) q (class-tests NotSlash t ∙ h) ∙ q .size)
+    (λ (e : at l 0 ≡ 47). span-run (isIn NotSlash) (c .0) (class-tests NotSlash t ∙ h) (ap (isIn NotSlash) (last-at l (c .1) ∙ e) ∙ slash-stops))
     (k .begins)
 
 module _ (read : List ℕ → Network) (size : List ℕ → Length) (sign : ℕ) {w t l : List ℕ} {k : ℕ} {x : Address} {n : ℕ} where

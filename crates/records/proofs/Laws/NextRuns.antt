@@ -3,13 +3,13 @@ use Prim.Native.Nat.{ℕ, _+_, _≤_, _<_}
 use mathlib.Core.Path.{_≡_, refl, sym, ap, subst, _∙_}
 use mathlib.Core.Logic.{_⊎_, inl, inr, ⊎-elim}
 use mathlib.Core.List.{List, [], _∷_, _++_}
-use mathlib.Core.Bool.{Bool, true, false, not}
+use mathlib.Core.Bool.{true, false, not}
 use native.Mathlib.Omega.{arith}
 use native.Mathlib.Nat.{add-zero, add-assoc}
 use lib.ListN.{length, drop, length-drop, length-append, drop-of-length-le}
 use lib.Seq.{getD-drop, drop-drop, drop-append-seam}
 use lib.Dec.{eqb}
-use borrow.Author.Tests.{le-ltb, eq-eqb, ne-eqb, eqb-true, eqb-false}
+use borrow.Author.Tests.{le-ltb, eq-eqb, ne-eqb, eqb-true, eqb-false, not-true, not-false}
 use Rattle.text.specs.Bytes.{at, part, isSpace, isNotSpace}
 use Rattle.text.specs.Lists.{all}
 use Rattle.text.specs.Runs.{isIn, run, runEnd}
@@ -17,7 +17,8 @@ use Rattle.text.specs.declared.bytes.Class.the-variants.{Space, NotSpace}
 use Rattle.text.proofs.Laws.Tests.{cond-elim, and-left, and-right}
 use Rattle.text.proofs.Laws.Orders.{le-or-lt}
 use Rattle.text.proofs.Laws.Spans.{Span, span-at, span-word, rest-part}
-use Rattle.text.proofs.Laws.Runs.{run-nil, run-zero, run-stops, all-run, run-span, run-span-all, span-run, span-run-end, run-end-from, run-end-inside, run-end-next}
+use Rattle.text.proofs.Laws.Runs.{run-nil, run-zero, run-span, run-span-all, span-run, span-run-end, run-end-from, run-end-inside, run-end-next, run-up-to, run-end-stops}
+use Rattle.text.proofs.Laws.Classes.{class-tests, space-is}
 use Rattle.records.specs.Answers.{Run}
 use Rattle.records.specs.Reader.{tokenOf, tokenAnswer, termFrom, readTerm}
 use Rattle.records.specs.declared.Term.{Term}
@@ -34,61 +35,22 @@ pub record NextRun (s : List ℕ) (i a e : ℕ) (u w : List ℕ) : Type 0 where
   pub word : Span s a e w
   pub is-run : Run w (drop e s)
 
--- the two classes as tests
-pub spaces-class : (u : List ℕ) → all isSpace u ≡ true → all (isIn Space) u ≡ true
-unfolding isIn
-spaces-class u h = h
-
-pub class-spaces : (u : List ℕ) → all (isIn Space) u ≡ true → all isSpace u ≡ true
-unfolding isIn
-class-spaces u h = h
-
-solid-class : (w : List ℕ) → all isNotSpace w ≡ true → all (isIn NotSpace) w ≡ true
-unfolding isIn
-solid-class w h = h
-
-class-solid : (w : List ℕ) → all (isIn NotSpace) w ≡ true → all isNotSpace w ≡ true
-unfolding isIn
-class-solid w h = h
-
 not-space-32 : isIn NotSpace 32 ≡ false
 unfolding isIn isNotSpace
 not-space-32 = refl
 
-pub space-32 : (b : ℕ) → isSpace b ≡ true → b ≡ 32
-unfolding isSpace
-space-32 b h = eqb-true b 32 h
-
--- each byte is in one of them
+-- each byte is a space or none
 other-class : (b : ℕ) → isIn Space b ≡ false → isIn NotSpace b ≡ true
 unfolding isIn isSpace isNotSpace
 other-class b h = ap not h
 
 one-class : (b : ℕ) → isNotSpace b ≡ true → isIn Space b ≡ false
 unfolding isIn isSpace isNotSpace
-one-class b h = by (eqb b 32) h
-  where
-    by : (t : Bool) → not t ≡ true → t ≡ false
-    by true h = sym h
-    by false h = refl
+one-class b h = not-true (eqb b 32) h
 
 space-left : (b : ℕ) → isIn NotSpace b ≡ false → b ≡ 32
 unfolding isIn isNotSpace
-space-left b h = eqb-true b 32 (by (eqb b 32) h)
-  where
-    by : (t : Bool) → not t ≡ false → t ≡ true
-    by true h = refl
-    by false h = sym h
-
--- runs by the bytes after them
-module _ (p : ℕ → Bool) where
-  run-up-to : {s : List ℕ} {i j : ℕ} {u : List ℕ} → Span s i j u → all p u ≡ true → run p (drop j s) ≡ 0 → runEnd p s i ≡ j
-  unfolding runEnd
-  run-up-to {s} {i} {j} {u} q m z = simp (q .split, all-run p u (drop j s) m z) (sym (q .size))
-
-  run-end-stops : (s : List ℕ) (i : ℕ) → runEnd p s i < length s → p (at s (runEnd p s i)) ≡ false
-  unfolding runEnd
-  run-end-stops s i h = ap p (sym (getD-drop i s (run p (drop i s)) 0)) ∙ run-stops p (drop i s) (omega (arith, length-drop i s))
+space-left b h = eqb-true b 32 (not-false (eqb b 32) h)
 
 boundary-run : (rest : List ℕ) → Boundary rest → run (isIn NotSpace) rest ≡ 0
 boundary-run rest b = ⊎-elim
@@ -115,10 +77,10 @@ module _ {s : List ℕ} {i a e : ℕ} {u w : List ℕ} (n : NextRun s i a e u w)
       )
 
   pub spaces-end : runEnd (isIn Space) s i ≡ a
-  spaces-end = span-run (isIn Space) (n .spaces) (spaces-class u (n .blank)) run-first
+  spaces-end = span-run (isIn Space) (n .spaces) (class-tests Space u ∙ n .blank) run-first
 
   pub word-end : runEnd (isIn NotSpace) s a ≡ e
-  word-end = run-up-to (isIn NotSpace) (n .word) (solid-class w (n .is-run .solid)) (boundary-run (drop e s) (n .is-run .ends))
+  word-end = run-up-to (isIn NotSpace) (n .word) (class-tests NotSpace w ∙ n .is-run .solid) (boundary-run (drop e s) (n .is-run .ends))
 
   pub read-run : length s ≤ 4096 → readTerm s i ≡ tokenAnswer a e (tokenOf w)
   unfolding readTerm termFrom
@@ -130,7 +92,7 @@ module _ {s : List ℕ} {i a e : ℕ} {u w : List ℕ} (n : NextRun s i a e u w)
 pub read-spaces : {s : List ℕ} {i : ℕ} {u : List ℕ} → length s ≤ 4096 → Span s i (length s) u → all isSpace u ≡ true → readTerm s i ≡ TermAnswer.End
 unfolding readTerm termFrom
 read-spaces {s} {i} {u} h p m =
-    simp (le-ltb 4096 (length s) h, le-ltb (length s) i (omega (arith, p .size)), span-run-end (isIn Space) p (spaces-class u m), eq-eqb (length s) (length s) refl)
+    simp (le-ltb 4096 (length s) h, le-ltb (length s) i (omega (arith, p .size)), span-run-end (isIn Space) p (class-tests Space u ∙ m), eq-eqb (length s) (length s) refl)
 
 -- the run that the reader finds, with a the first place of no space and e the run's end
 run-of : (s : List ℕ) (i a e : ℕ) → a ≡ runEnd (isIn Space) s i → e ≡ runEnd (isIn NotSpace) s a → a < length s → NextRun s i a e (part s i a) (part s a e)
@@ -140,11 +102,11 @@ run-of s i a e p q h =
     let c : isIn NotSpace (at s a) ≡ true = other-class (at s a) (subst (λ (k : ℕ). isIn Space (at s k) ≡ false) (sym p) (run-end-stops (isIn Space) s i (omega arith))) in
     record {
       spaces = g;
-      blank = class-spaces (part s i a) (subst (λ (k : ℕ). all (isIn Space) (part s i k) ≡ true) (sym p) (run-span-all (isIn Space) s i));
+      blank = sym (class-tests Space (part s i a)) ∙ (subst (λ (k : ℕ). all (isIn Space) (part s i k) ≡ true) (sym p) (run-span-all (isIn Space) s i));
       word = v;
       is-run = record {
         some = omega (arith, v .size, run-end-next (isIn NotSpace) s a h c, run-end-from (isIn NotSpace) s (a + 1));
-        solid = class-solid (part s a e) (subst (λ (k : ℕ). all (isIn NotSpace) (part s a k) ≡ true) (sym q) (run-span-all (isIn NotSpace) s a));
+        solid = sym (class-tests NotSpace (part s a e)) ∙ (subst (λ (k : ℕ). all (isIn NotSpace) (part s a k) ≡ true) (sym q) (run-span-all (isIn NotSpace) s a));
         ends = ⊎-elim
             (λ (l : length s ≤ e). inl (drop-of-length-le s l))
             (λ (l : e < length s). inr (getD-drop e s 0 0 ∙ simp add-zero (space-left (at s e) (subst (λ (k : ℕ). isIn NotSpace (at s k) ≡ false) (sym q) (run-end-stops (isIn NotSpace) s a (omega arith))))))
@@ -173,7 +135,7 @@ gap-of {s} {i} {a} {e} {u = []} {w} n b =
     b)
 gap-of {s} {i} {a} {e} {u = x ∷ g} {w} n b = record {
   gap = g;
-  next = subst (λ (y : ℕ). NextRun s i a e (y ∷ g) w) (space-32 x (and-left (isSpace x) (all isSpace g) (n .blank))) n;
+  next = subst (λ (y : ℕ). NextRun s i a e (y ∷ g) w) (space-is x (and-left (isSpace x) (all isSpace g) (n .blank))) n;
   blank = and-right (isSpace x) (all isSpace g) (n .blank);
 }
 
@@ -193,7 +155,7 @@ unfolding readTerm termFrom
 term-view s i h k =
     simp (le-ltb 4096 (length s) h, le-ltb (length s) i k)
     (cond-elim (View s i) (eqb (runEnd (isIn Space) s i) (length s))
-    (λ q. only-spaces (class-spaces (drop i s) (simp (eqb-true (runEnd (isIn Space) s i) (length s) q, rest-part) at (run-span-all (isIn Space) s i))))
+    (λ q. only-spaces (sym (class-tests Space (drop i s)) ∙ (simp (eqb-true (runEnd (isIn Space) s i) (length s) q, rest-part) at (run-span-all (isIn Space) s i))))
     (λ q.
     let d = eqb-false (runEnd (isIn Space) s i) (length s) q in
     view-token s i (runEnd (isIn Space) s i) (runEnd (isIn NotSpace) s (runEnd (isIn Space) s i))

@@ -15,8 +15,9 @@ use Rattle.text.specs.Texts.{bytes}
 use Rattle.text.specs.Runs.{isIn, runEnd, trailingStart}
 use Rattle.text.specs.declared.bytes.Class.the-variants.{NotSlash, Alpha, Digit, LengthByte, NameByte}
 use Rattle.text.proofs.Laws.Classes.{nonzero-inside, class-inside}
-use Rattle.text.proofs.Laws.Runs.{run-end-inside, trailing-le}
+use Rattle.text.proofs.Laws.Runs.{run-end-inside}
 use Rattle.text.proofs.Laws.Spans.{rest-part}
+use Rattle.records.proofs.Laws.Hosts.{cut-inside}
 use Rattle.macros.specs.declared.Form.the-variants.{DomainSpec, ModifierValue}
 use Rattle.macros.specs.Reader.{isMacroString}
 use Rattle.networks.specs.Reader.{readIp4, readLength4, readLength6, readDual}
@@ -53,10 +54,6 @@ module _ (w : List ℕ) (k to : ℕ) (some : k ≡ to → ⊥) (b : ℕ) (p : b 
 pub cut-found : (t : List ℕ) (i r : ℕ) → i ≡ trailingStart (isIn LengthByte) t → r ≡ runEnd (isIn Digit) t i → r ≡ cutOf t
 unfolding cutOf
 cut-found t i r p q = q ∙ ap (runEnd (isIn Digit) t) p
-
-cut-inside : (t : List ℕ) → cutOf t ≤ length t
-unfolding cutOf
-cut-inside t = run-end-inside (isIn Digit) t (trailingStart (isIn LengthByte) t) (trailing-le (isIn LengthByte) t)
 
 -- `read_hosts_cut`
 module _ (w : List ℕ) (k cut : ℕ) (t : List ℕ) (p : t ≡ part w cut (length w)) (d : Dual) (q : d ≡ readDual t) where

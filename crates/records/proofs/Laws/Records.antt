@@ -12,10 +12,10 @@ use borrow.Author.Tests.{lt-ltb, le-ltb}
 use Rattle.text.specs.Bytes.{at, isSpace}
 use Rattle.text.specs.Lists.{all, same}
 use Rattle.text.specs.Texts.{bytes}
-use Rattle.text.proofs.Laws.Tests.{test-fails, and-both}
+use Rattle.text.proofs.Laws.Tests.{test-fails, and-both, or-false-left, or-false-right, test-holds}
 use Rattle.text.proofs.Laws.Orders.{le-or-lt}
 use Rattle.text.proofs.Laws.Parts.{all-append}
-use Rattle.text.proofs.Laws.Spans.{Span}
+use Rattle.text.proofs.Laws.Spans.{Span, span-rest}
 use Rattle.records.specs.Readings.{Said, Placed}
 use Rattle.records.specs.Grammar.{Literal, Term as Produced, Terms, countOf, Once, Record, spf1}
 use Rattle.records.specs.Numbers.{RecordReport, recordReport, accepted}
@@ -23,9 +23,9 @@ use Rattle.records.specs.Answers.{Ill, Version, Front, RecordAnswers, to
 use Rattle.records.specs.Reader.{tokenAnswer, readTerm, isRedirect, isExplanation, checkFrom, hasVersion, readRecord, Reads, stop, step}
 use Rattle.records.specs.declared.TermAnswer.{TermAnswer}
 use Rattle.records.specs.declared.RecordAnswer.{RecordAnswer}
-use Rattle.records.proofs.Laws.Terms.{span-rest, ill-outside}
+use Rattle.records.proofs.Laws.Terms.{ill-outside}
 use Rattle.records.proofs.Laws.NextRuns.{NextRun, next-run, read-run, read-spaces}
-use Rattle.records.proofs.Laws.Counts.{count, count-none, count-more, count-append, count-false, Fits, count-small, flag-sum, or-none}
+use Rattle.records.proofs.Laws.Counts.{count, count-none, count-more, count-append, count-false, Fits, count-small, flag-sum}
 use Rattle.records.proofs.Laws.Versions.{version-size, version-rest, has-version, version-of, version-inside}
 use Rattle.records.proofs.Laws.Walks.{Walk, terms-walk, terms-boundary, space-more, walk-reads, check-end, check-refused, check-twice, Reached, check-walk, term-read}
 use Rattle.records.proofs.Laws.Rests.{FrontFrom, Rest, rest-answers}
@@ -188,17 +188,12 @@ outside-is {s} {ts} {w} {p} h f o i =
 once-more : (ts : List Placed) (t : Placed) (r x p q : Bool) → count r ≡ count false + countOf (bytes "redirect") ts → count x ≡ count false + countOf (bytes "exp") ts
     → same (t .said .name) (bytes "redirect") ≡ p → same (t .said .name) (bytes "exp") ≡ q → ((r && p) || (x && q)) ≡ false → Once (ts ++ (t ∷ []))
 once-more ts t r x p q a b cr cx h =
-    let z = or-none (r && p) (x && q) h in
     let mr = count-more (bytes "redirect") t [] ∙ ap (λ (y : Bool). count y + countOf (bytes "redirect") []) cr in
     let mx = count-more (bytes "exp") t [] ∙ ap (λ (y : Bool). count y + countOf (bytes "exp") []) cx in
     record {
-      redirects = omega (arith, a, count-false, mr, count-none (bytes "redirect"), count-append (bytes "redirect") ts (t ∷ []), flag-sum r p (z .0), count-small (r || p));
-      explanations = omega (arith, b, count-false, mx, count-none (bytes "exp"), count-append (bytes "exp") ts (t ∷ []), flag-sum x q (z .1), count-small (x || q));
+      redirects = omega (arith, a, count-false, mr, count-none (bytes "redirect"), count-append (bytes "redirect") ts (t ∷ []), flag-sum r p (or-false-left (r && p) (x && q) h), count-small (r || p));
+      explanations = omega (arith, b, count-false, mx, count-none (bytes "exp"), count-append (bytes "exp") ts (t ∷ []), flag-sum x q (or-false-right (r && p) (x && q) h), count-small (x || q));
     }
-
-test-holds : (t : Bool) → (t ≡ false → ⊥) → t ≡ true
-test-holds true h = refl
-test-holds false h = absurd (h refl)
 
 repeated-is : {s : List ℕ} {ts : List Placed} {w : List ℕ} {p : ℕ} {x : Said} → length s ≤ 4096 → Front s ts w p → Once ts → Produced w x
     → (Once (ts ++ (record { place = p; said = x } ∷ [])) → ⊥) → readRecord s ≡ RecordAnswer.Refused 33 p

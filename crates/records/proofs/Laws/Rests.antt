@@ -3,14 +3,13 @@
 use Prim.Native.Nat.{ℕ, zero, suc, _+_, _-_, _≤_, _<_}
 use mathlib.Core.Path.{_≡_, refl, sym, ap, subst, _∙_}
 use mathlib.Core.List.{List, [], _∷_, _++_, append-assoc}
-use mathlib.Core.Logic.{⊎-elim}
 use mathlib.Core.Bool.{Bool, true, _&&_, _||_}
 use native.Mathlib.Omega.{arith}
 use lib.ListN.{length, drop, length-append}
 use Rattle.text.specs.Bytes.{part, isSpace}
 use Rattle.text.specs.Lists.{all, same}
 use Rattle.text.specs.Texts.{bytes}
-use Rattle.text.proofs.Laws.Tests.{cond-elim}
+use Rattle.text.proofs.Laws.Tests.{cond-elim, or-elim, or-false-left, or-false-right}
 use Rattle.text.proofs.Laws.Spans.{span-join}
 use Rattle.records.specs.Readings.{Said, Placed}
 use Rattle.records.specs.Grammar.{Term as Produced, Terms, done, term, countOf}
@@ -24,7 +23,7 @@ use Rattle.records.specs.declared.RecordAnswer.{RecordAnswer}
 use Rattle.records.proofs.Laws.Tokens.{token-sound, redirect-name, explanation-name}
 use Rattle.records.proofs.Laws.Terms.{outside-ill}
 use Rattle.records.proofs.Laws.NextRuns.{Boundary, run-forward, Gap, gap-of, View, term-view}
-use Rattle.records.proofs.Laws.Counts.{count, count-none, count-more, Fits, count-small, flag-sum, flag-twice, or-none, or-one}
+use Rattle.records.proofs.Laws.Counts.{count, count-none, count-more, Fits, count-small, flag-sum, flag-twice}
 
 -- from a place on: terms of the grammar, and then, after one space or more, a run of non-spaces
 pub record FrontFrom (s : List ℕ) (i : ℕ) (ts : List Placed) (w : List ℕ) (p : ℕ) : Type 0 where
@@ -117,10 +116,9 @@ fits-not : (r x : Bool) (t : Placed) (p q : Bool) → same (t .said .name) (byte
 fits-not r x t p q a b h c =
     let cr = count-more (bytes "redirect") t [] ∙ ap (λ (y : Bool). count y + countOf (bytes "redirect") []) a in
     let cx = count-more (bytes "exp") t [] ∙ ap (λ (y : Bool). count y + countOf (bytes "exp") []) b in
-    ⊎-elim
+    or-elim (r && p) (x && q) h
     (λ (e : (r && p) ≡ true). omega (arith, flag-twice r p e, c .redirects, cr))
     (λ (e : (x && q) ≡ true). omega (arith, flag-twice x q e, c .explanations, cx))
-    (or-one (r && p) (x && q) h)
 
 rest-term : (f : ℕ) (s : List ℕ) (i a e : ℕ) (t : Term) (r x : Bool) → Gap s i a e (part s a e) → tokenOf (part s a e) ≡ Token.Is t
     → ((r y : Bool) → Rest s e (count r) (count y) (recordReport (checkFrom f s e r y)))
@@ -134,11 +132,9 @@ rest-term f s i a e t r x g o ih =
     cond-elim (λ (y : RecordAnswer). Rest s i (count r) (count x) (recordReport y)) ((r && isRedirect t) || (x && isExplanation t))
     {x = RecordAnswer.Refused 33 a} {y = checkFrom f s e (r || isRedirect t) (x || isExplanation t)}
     (λ q. twice (front-here g) (fits-none r x) d (fits-not r x (record { place = a; said = saidOf w t }) (isRedirect t) (isExplanation t) nr nx q))
-    (λ q.
-    let z = or-none (r && isRedirect t) (x && isExplanation t) q in
-    rest-before g d
-    (flag-sum r (isRedirect t) (z .0) ∙ ap (λ (b : Bool). count r + count b) (sym nr))
-    (flag-sum x (isExplanation t) (z .1) ∙ ap (λ (b : Bool). count x + count b) (sym nx))
+    (λ q. rest-before g d
+    (flag-sum r (isRedirect t) (or-false-left (r && isRedirect t) (x && isExplanation t) q) ∙ ap (λ (b : Bool). count r + count b) (sym nr))
+    (flag-sum x (isExplanation t) (or-false-right (r && isRedirect t) (x && isExplanation t) q) ∙ ap (λ (b : Bool). count x + count b) (sym nx))
     (ih (r || isRedirect t) (x || isExplanation t)))
 
 pub rest-answers : (f : ℕ) (s : List ℕ) (i : ℕ) → length s ≤ 4096 → i ≤ length s → Boundary (drop i s) → length s - i < f → (r x : Bool)

@@ -1,27 +1,26 @@
 -- Domain-specs as terms hold them: no space, not empty, ending in at most digits after a byte that no prefix length holds; read after a colon, or
 -- absent, as the production says. From the grammar of macro strings and its soundness and completeness.
-use Prim.Native.Nat.{ℕ, _+_, _-_, _≤_, _<_}
+use Prim.Native.Nat.{ℕ, _+_, _≤_, _<_}
 use mathlib.Core.Path.{_≡_, refl, sym, ap, subst, _∙_}
 use mathlib.Core.Logic.{_⊎_, inl, inr, ⊎-elim}
 use mathlib.Core.List.{List, [], _∷_, _++_, append-assoc}
 use mathlib.Core.Bool.{Bool, true, false, not, _||_}
 use native.Mathlib.Omega.{arith}
-use lib.ListN.{length, drop, length-append, length-drop}
+use lib.ListN.{length, drop, length-append}
 use lib.Dec.{eqb, leb}
 use borrow.Author.Tests.{eq-eqb, ne-eqb, eqb-true, eqb-false}
 use Rattle.text.specs.Bytes.{at, part, lower, within, isUpper, isAlpha, isDigit, isAlphanumeric, isToplabelByte, isMacroLiteral, isDelimiter, isLengthByte, isNotSpace}
 use Rattle.text.specs.Decimal.{decimal}
 use Rattle.text.specs.Lists.{all, contains}
 use Rattle.text.specs.Texts.{bytes}
-use Rattle.text.proofs.Laws.Tests.{cond-elim, and-left, test-fails}
+use Rattle.text.proofs.Laws.Tests.{cond-elim, and-left, test-fails, true-false}
 use Rattle.text.proofs.Laws.Classes.{apart, within-range, range-within}
-use Rattle.text.proofs.Laws.Spans.{Span, span-take, span-join, span-cut, span-byte, span-at, span-word}
+use Rattle.text.proofs.Laws.Spans.{Span, span-join, span-cut, span-byte, span-at, span-word, span-part}
+use Rattle.text.proofs.Laws.Parts.{all-none, all-cons, all-join, all-first, all-rest, all-inside}
 use Rattle.macros.specs.declared.Form.{Form}
 use Rattle.macros.specs.declared.Form.the-variants.{DomainSpec, ModifierValue, Explanation}
 use Rattle.macros.specs.Grammar.{Piece, isLetter, isCount, Reversal, absent as no-reversal, present as reversal, MacroExpand, braces, percent, underscore, hyphen, MacroString, Toplabel, DomainEnd, label, label-dot, DomainSpecs, spec}
 use Rattle.macros.specs.Reader.{isReverse, isMacroString, pieces}
-use Rattle.macros.proofs.Laws.Bytes.{true-false}
-use Rattle.macros.proofs.Laws.Texts.{all-none, all-cons, all-join, all-first, all-rest, all-inside}
 use Rattle.macros.proofs.Laws.Toplabels.{passed, toplabel-complete}
 use Rattle.macros.proofs.Laws.Soundness.{sound}
 use Rattle.macros.proofs.Laws.Completeness.{complete}
@@ -183,12 +182,6 @@ spec-ending (spec {u = u} {w = w} s e) = ending-after u w (end-ending e)
 pub spec-some : {d : List ℕ} {ps : List Piece} → DomainSpecs d ps → 0 < length d
 spec-some {d} s = let e = spec-ending s in omega (arith, ap length (e .parts), length-append (e .front) (e .byte ∷ e .digits))
 
--- a part of a text as a word
-pub part-span : (w : List ℕ) (i j : ℕ) → i ≤ j → j ≤ length w → Span w i j (part w i j)
-part-span w i j h k =
-    let e : i + (j - i) ≡ j = omega arith in
-    subst (λ (n : ℕ). Span w i n (part w i j)) e (span-take w i (j - i) (omega (arith, length-drop i w)))
-
 -- what is read after a colon is a domain-spec
 pub record Argument (w : List ℕ) (k to from : ℕ) : Type 0 where
   pub pieces : List Piece
@@ -203,7 +196,7 @@ SpecRight w k to Spec.Bad = Unit {0}
 
 after-colon : (w : List ℕ) (k to : ℕ) → k < to → to ≤ length w → at w k ≡ 58 → isMacroString DomainSpec (part w (k + 1) to) ≡ true → Argument w k to (k + 1)
 after-colon w k to h l c m =
-    let p = part-span w (k + 1) to (omega arith) l in
+    let p = span-part w (k + 1) to (omega arith) l in
     let d : DomainSpecs (part w (k + 1) to) (pieces DomainSpec (part w (k + 1) to) .list) = sound DomainSpec (part w (k + 1) to) m in
     record {
       pieces = pieces DomainSpec (part w (k + 1) to) .list;

@@ -3,14 +3,13 @@
 use Prim.Native.Nat.{ℕ, _+_, _≤_, _<_}
 use mathlib.Core.Path.{_≡_, refl, sym, ap, subst, _∙_}
 use mathlib.Core.Logic.{⊎-elim}
-use mathlib.Core.List.{List, _++_, append-nil}
+use mathlib.Core.List.{List, _++_}
 use native.Mathlib.Omega.{arith}
-use lib.ListN.{length, drop, length-drop}
-use lib.Seq.{drop-length}
+use lib.ListN.{length, drop}
 use borrow.Author.Tests.{lt-ltb, le-ltb}
 use Rattle.text.specs.Bytes.{part}
 use Rattle.text.proofs.Laws.Orders.{le-or-lt}
-use Rattle.text.proofs.Laws.Spans.{Span, span-word}
+use Rattle.text.proofs.Laws.Spans.{span-word, span-rest}
 use Rattle.records.specs.Readings.{Said}
 use Rattle.records.specs.Grammar.{Term as Produced}
 use Rattle.records.specs.Numbers.{saidOf, TermReport, termReport, refused, term}
@@ -70,9 +69,6 @@ term-answers s i = ⊎-elim
     (le-or-lt (length s) 4096)
 
 -- the answer is determined
-pub span-rest : (s : List ℕ) (i : ℕ) → i ≤ length s → Span s i (length s) (drop i s)
-span-rest s i k = record { split = simp (drop-length, append-nil); size = omega (arith, length-drop i s) }
-
 pub term-answers-is : (s : List ℕ) (i : ℕ) (r : TermReport) → TermAnswers s i r → r ≡ termReport s (readTerm s i)
 unfolding tokenAnswer
 term-answers-is s i r (too-long h) = simp (read-long s i h)

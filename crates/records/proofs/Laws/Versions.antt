@@ -1,9 +1,9 @@
 -- The version section: the reader's test against the productions. From the laws of words.
 use Prim.Native.Nat.{ℕ, _≤_}
-use mathlib.Core.Path.{_≡_, refl, sym, ap, subst, _∙_}
+use mathlib.Core.Path.{_≡_, sym, ap, subst, _∙_}
 use mathlib.Core.Logic.{inl, inr, ⊎-elim}
 use mathlib.Core.List.{List, [], map}
-use mathlib.Core.Bool.{Bool, true, false, _||_}
+use mathlib.Core.Bool.{true, _||_}
 use native.Mathlib.Omega.{arith}
 use lib.ListN.{length, take, drop, length-map, length-append, take-append-drop, drop-of-length-le}
 use lib.Seq.{getD-drop, drop-append-seam, take-append-seam}
@@ -12,16 +12,11 @@ use borrow.Author.Tests.{eq-eqb, eqb-true}
 use Rattle.text.specs.Bytes.{at, part, lower}
 use Rattle.text.specs.Lists.{sameWord}
 use Rattle.text.specs.Texts.{bytes}
-use Rattle.text.proofs.Laws.Tests.{and-left, and-right, and-both}
+use Rattle.text.proofs.Laws.Tests.{and-left, and-right, and-both, or-elim, or-right}
 use Rattle.text.proofs.Laws.Words.{same-true, true-same}
 use Rattle.records.specs.Grammar.{Literal}
 use Rattle.records.specs.Answers.{Version}
 use Rattle.records.specs.Reader.{hasVersion}
-use Rattle.records.proofs.Laws.Counts.{or-one}
-
-or-right : (a b : Bool) → b ≡ true → (a || b) ≡ true
-or-right true b h = refl
-or-right false b h = h
 
 pub version-length : (v : List ℕ) → Literal (bytes "v=spf1") v → length v ≡ 6
 version-length v l = sym (length-map v lower) ∙ ap length (l .lowered)
@@ -55,10 +50,9 @@ unfolding hasVersion sameWord
 version-of s h = record {
   whole = sym (take-append-drop 6 s);
   version = record { lowered = same-true (map lower (take 6 s)) (bytes "v=spf1") (and-left (sameWord (part s 0 6) (bytes "v=spf1")) (eqb (length s) 6 || eqb (at s 6) 32) h) };
-  ends = ⊎-elim
+  ends = or-elim (eqb (length s) 6) (eqb (at s 6) 32) (and-right (sameWord (part s 0 6) (bytes "v=spf1")) (eqb (length s) 6 || eqb (at s 6) 32) h)
       (λ (q : eqb (length s) 6 ≡ true). let l = eqb-true (length s) 6 q in inl (drop-of-length-le s {i = 6} (omega arith)))
-      (λ (q : eqb (at s 6) 32 ≡ true). inr (getD-drop 6 s 0 0 ∙ eqb-true (at s 6) 32 q))
-      (or-one (eqb (length s) 6) (eqb (at s 6) 32) (and-right (sameWord (part s 0 6) (bytes "v=spf1")) (eqb (length s) 6 || eqb (at s 6) 32) h));
+      (λ (q : eqb (at s 6) 32 ≡ true). inr (getD-drop 6 s 0 0 ∙ eqb-true (at s 6) 32 q));
 }
 
 pub version-inside : {s v rest : List ℕ} → Version s v rest → 6 ≤ length s

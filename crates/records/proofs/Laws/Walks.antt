@@ -11,6 +11,7 @@ use Rattle.text.specs.Lists.{all, same}
 use Rattle.text.specs.Texts.{bytes}
 use Rattle.text.proofs.Laws.Tests.{and-left}
 use Rattle.text.proofs.Laws.Spans.{Span, span-cut, span-word}
+use Rattle.text.proofs.Laws.Classes.{space-is}
 use Rattle.records.specs.Readings.{Said, Placed}
 use Rattle.records.specs.Grammar.{Term as Produced, Terms, done, term, countOf}
 use Rattle.records.specs.Numbers.{saidOf, TermReport, termReport}
@@ -19,7 +20,7 @@ use Rattle.records.specs.declared.Term.{Term}
 use Rattle.records.specs.declared.TermAnswer.{TermAnswer}
 use Rattle.records.specs.declared.RecordAnswer.{RecordAnswer}
 use Rattle.records.proofs.Laws.Tokens.{token-complete, term-solid, redirect-name, explanation-name}
-use Rattle.records.proofs.Laws.NextRuns.{Boundary, NextRun, run-forward, read-run, space-32}
+use Rattle.records.proofs.Laws.NextRuns.{Boundary, NextRun, run-forward, read-run}
 use Rattle.records.proofs.Laws.Counts.{count, count-none, count-more, Fits, flag-free, flag-sum}
 
 -- from place i the terms ts, the last of which ends at j
@@ -32,7 +33,7 @@ pub data Walk (s : List ℕ) : ℕ → List Placed → ℕ → Type 0 where
 spaces-boundary : (w rest : List ℕ) → all isSpace w ≡ true → Boundary rest → Boundary (w ++ rest)
 unfolding all
 spaces-boundary [] rest h b = b
-spaces-boundary (x ∷ w) rest h b = inr (space-32 x (and-left (isSpace x) (all isSpace w) h))
+spaces-boundary (x ∷ w) rest h b = inr (space-is x (and-left (isSpace x) (all isSpace w) h))
 
 pub terms-boundary : {p : ℕ} {w : List ℕ} {ts : List Placed} → Terms p w ts → (rest : List ℕ) → Boundary rest → Boundary (w ++ rest)
 terms-boundary (done {w = w} m) rest b = spaces-boundary w rest m b

@@ -10,7 +10,7 @@ use lib.Seq.{drop-append-seam}
 use lib.Dec.{eqb}
 use borrow.Author.Tests.{eqb-true, eq-eqb, not-true}
 use Rattle.text.specs.Lists.{same}
-use Rattle.text.proofs.Laws.Tests.{and-left, and-right, and-both}
+use Rattle.text.proofs.Laws.Tests.{and-left, and-right, and-both, or-false-left, or-false-right, or-false-both}
 use Rattle.text.proofs.Laws.Words.{same-true, true-same}
 use Rattle.table.specs.Layout.{Entry, Encodes, Entries, none, more, isPair, holds, distinct}
 use Rattle.table.specs.Reader.{headerOf, entryOf, entriesAfter, entriesFrom, entriesOf}
@@ -61,17 +61,6 @@ holds-append kind name [] fs = refl
 holds-append kind name (e ∷ es) fs =
     ap (λ (b : Bool). isPair kind name e || b) (holds-append kind name es fs) ∙ sym (or-assoc (isPair kind name e) (holds kind name es) (holds kind name fs))
 
-or-left : (t u : Bool) → (t || u) ≡ false → t ≡ false
-or-left true u h = h
-or-left false u h = refl
-
-or-right : (t u : Bool) → (t || u) ≡ false → u ≡ false
-or-right true u h = let z : _≡_ {A = ℕ} 0 1 = cc in cc
-or-right false u h = h
-
-or-both : (t u : Bool) → t ≡ false → u ≡ false → (t || u) ≡ false
-or-both t u p q = simp (p, q)
-
 -- two entries of different pairs, either way round
 pub pair-apart : (d e : Entry) → isPair (d .kind) (d .name) e ≡ false → isPair (e .kind) (e .name) d ≡ false
 unfolding isPair
@@ -92,8 +81,8 @@ distinct-snoc [] e h k = refl
 distinct-snoc (d ∷ es) e h k =
     let h₀ : holds (d .kind) (d .name) es ≡ false = not-true _ (and-left (not (holds (d .kind) (d .name) es)) (distinct es) h) in
     let h₁ = and-right (not (holds (d .kind) (d .name) es)) (distinct es) h in
-    let k₀ = pair-apart e d (or-left (isPair (e .kind) (e .name) d) (holds (e .kind) (e .name) es) k) in
-    let k₁ = or-right (isPair (e .kind) (e .name) d) (holds (e .kind) (e .name) es) k in
+    let k₀ = pair-apart e d (or-false-left (isPair (e .kind) (e .name) d) (holds (e .kind) (e .name) es) k) in
+    let k₁ = or-false-right (isPair (e .kind) (e .name) d) (holds (e .kind) (e .name) es) k in
     let a = holds-append (d .kind) (d .name) es (e ∷ []) in
     simp (a, h₀, k₀) (distinct-snoc es e h₁ k₁)
 
@@ -105,6 +94,6 @@ distinct-before (d ∷ ds) e es h =
     let g = holds (d .kind) (d .name) (ds ++ (e ∷ es)) in
     let h₀ : (holds (d .kind) (d .name) ds || (isPair (d .kind) (d .name) e || holds (d .kind) (d .name) es)) ≡ false =
     sym (holds-append (d .kind) (d .name) ds (e ∷ es)) ∙ not-true g (and-left (not g) (distinct (ds ++ (e ∷ es))) h) in
-    let p = or-left (isPair (d .kind) (d .name) e) (holds (d .kind) (d .name) es) (or-right (holds (d .kind) (d .name) ds) _ h₀) in
-    or-both (isPair (e .kind) (e .name) d) (holds (e .kind) (e .name) ds) (pair-apart d e p)
+    let p = or-false-left (isPair (d .kind) (d .name) e) (holds (d .kind) (d .name) es) (or-false-right (holds (d .kind) (d .name) ds) _ h₀) in
+    or-false-both (isPair (e .kind) (e .name) d) (holds (e .kind) (e .name) ds) (pair-apart d e p)
     (distinct-before ds e es (and-right (not g) (distinct (ds ++ (e ∷ es))) h))

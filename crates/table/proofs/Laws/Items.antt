@@ -1,6 +1,6 @@
 -- Items end to end: what the reader takes for items of a kind is such, and each encoding of items is read as them; one item after the
 -- other by places. From the reader and the productions of specs/.
-use Prim.Native.Nat.{ℕ, zero, suc, _+_, _-_, _≤_, _<_, min}
+use Prim.Native.Nat.{ℕ, zero, suc, _+_, _-_, _≤_, _<_}
 use mathlib.Core.Path.{_≡_, refl, sym, ap, subst, _∙_}
 use mathlib.Core.List.{List, [], _∷_, _++_}
 use mathlib.Core.Bool.{Bool, true, false, cond}
@@ -13,7 +13,7 @@ use borrow.Author.Tests.{ltb-false, le-ltb, ne-eqb}
 use Rattle.text.specs.Bytes.{at}
 use Rattle.text.specs.Lists.{all}
 use Rattle.text.proofs.Laws.Tests.{cond-elim, and-both}
-use Rattle.text.proofs.Laws.Orders.{le-or-lt}
+use Rattle.text.proofs.Laws.Spans.{drop-min}
 use Rattle.table.specs.Layout.{isItem, Two, two, Items, none, more}
 use Rattle.table.specs.Reader.{number, firstItem, otherItems, itemsFrom, itemsOf, nextItem, itemsFitFrom, itemsFit}
 
@@ -208,12 +208,6 @@ items-each none = refl
 items-each {kind} (more {d = d} {ds = ds} t i r) = and-both (isItem kind d) (all (isItem kind) ds) i (items-each r)
 
 -- one item after the other, by places
-drop-min : (k : ℕ) (s : List ℕ) → drop (min k (length s)) s ≡ drop k s
-drop-min k s = ⊎-elim
-    (λ (h : k ≤ length s). let e : min k (length s) ≡ k = omega arith in rw e)
-    (λ (h : length s < k). drop-of-length-le s {i = min k (length s)} (omega arith) ∙ sym (drop-of-length-le s {i = k} (omega arith)))
-    (le-or-lt k (length s))
-
 pub items-step : (s : List ℕ) (i : ℕ) → i < length s → itemsOf (drop i s) ≡ firstItem (drop i s) ∷ itemsOf (drop (nextItem s i) s)
 unfolding nextItem otherItems
 items-step s i h =

@@ -1,5 +1,5 @@
--- Bytes of a class as numbers, two classes apart, and two tests that agree at each of the 256 bytes, by computation. From the definitions of
--- Bytes and the laws of tests.
+-- Bytes of a class as numbers, a class by its own test, two classes apart, and two tests that agree at each of the 256 bytes, by computation.
+-- From the definitions of Bytes and Runs and the laws of tests.
 use Prim.Native.Nat.{ℕ, zero, suc, _≤_, _<_}
 use mathlib.Core.Path.{_≡_, refl, sym, ap, _∙_}
 use mathlib.Core.Bool.{Bool, true, false, cond, not, Bool·beq, _&&_}
@@ -8,7 +8,11 @@ use native.Mathlib.Omega.{arith}
 use lib.ListN.{length, List·getD-eq-default}
 use lib.Dec.{leb, ltb, eqb}
 use borrow.Author.Tests.{leb-true, leb-false, le-leb, lt-leb, le-ltb, lt-ltb, eqb-true, eqb-false, ne-eqb}
-use Rattle.text.specs.Bytes.{at, within, isUpper, isNotUpper}
+use Rattle.text.specs.Bytes.{at, within, isSpace, isNotSpace, isNotDot, isNotSlash, isUpper, isNotUpper, isAlpha, isDigit, isLengthByte, isAlphanumeric, isHexDigit, isVisible, isPrintable, isLabelByte, isNameByte, isToplabelByte, isMacroLiteral, isDelimiter}
+use Rattle.text.specs.Lists.{all}
+use Rattle.text.specs.Runs.{isIn}
+use Rattle.text.specs.declared.bytes.Class.{Class}
+use Rattle.text.specs.declared.bytes.Class.the-variants.{Space, NotSpace, NotDot, NotSlash, Upper, NotUpper, Alpha, Digit, LengthByte, Alphanumeric, HexDigit, Visible, Printable, LabelByte, NameByte, ToplabelByte, MacroLiteral, Delimiter}
 use Rattle.text.proofs.Laws.Tests.{cond-elim, and-left, and-right}
 
 -- a range of bytes, as numbers
@@ -19,6 +23,57 @@ within-range lo hi b h = (leb-true lo b (and-left (leb lo b) (leb b hi) h), leb-
 pub range-within : (lo hi b : ℕ) → lo ≤ b → b ≤ hi → within lo hi b ≡ true
 unfolding within
 range-within lo hi b p q = simp (le-leb lo b p, le-leb b hi q)
+
+-- a class's test by its own name, of a byte and of every byte of a list
+abbrev pub testOf : Class → ℕ → Bool
+testOf Space = isSpace
+testOf NotSpace = isNotSpace
+testOf NotDot = isNotDot
+testOf NotSlash = isNotSlash
+testOf Upper = isUpper
+testOf NotUpper = isNotUpper
+testOf Alpha = isAlpha
+testOf Digit = isDigit
+testOf LengthByte = isLengthByte
+testOf Alphanumeric = isAlphanumeric
+testOf HexDigit = isHexDigit
+testOf Visible = isVisible
+testOf Printable = isPrintable
+testOf LabelByte = isLabelByte
+testOf NameByte = isNameByte
+testOf ToplabelByte = isToplabelByte
+testOf MacroLiteral = isMacroLiteral
+testOf Delimiter = isDelimiter
+
+pub class-test : (c : Class) (b : ℕ) → isIn c b ≡ testOf c b
+unfolding isIn
+class-test Space b = refl
+class-test NotSpace b = refl
+class-test NotDot b = refl
+class-test NotSlash b = refl
+class-test Upper b = refl
+class-test NotUpper b = refl
+class-test Alpha b = refl
+class-test Digit b = refl
+class-test LengthByte b = refl
+class-test Alphanumeric b = refl
+class-test HexDigit b = refl
+class-test Visible b = refl
+class-test Printable b = refl
+class-test LabelByte b = refl
+class-test NameByte b = refl
+class-test ToplabelByte b = refl
+class-test MacroLiteral b = refl
+class-test Delimiter b = refl
+
+pub class-tests : (c : Class) (s : List ℕ) → all (isIn c) s ≡ all (testOf c) s
+unfolding all
+class-tests c [] = refl
+class-tests c (b ∷ s) = rw (class-test c b, class-tests c s)
+
+pub space-is : (b : ℕ) → isSpace b ≡ true → b ≡ 32
+unfolding isSpace
+space-is b h = eqb-true b 32 h
 
 -- a byte of a class isn't a byte outside it
 pub apart : (p : ℕ → Bool) (b k : ℕ) → p b ≡ true → p k ≡ false → eqb b k ≡ false

@@ -22,10 +22,10 @@ unfoldable pub readFrom : ℕ → ℕ → List ℕ → Number
 readFrom limit v s = cond (all isDigit s && leb (decimalFrom v s) limit) (Value (decimalFrom v s)) Refused
 
 -- more digits make no smaller number
-grows : (v : ℕ) (s : List ℕ) → v ≤ decimalFrom v s
+pub decimal-grows : (v : ℕ) (s : List ℕ) → v ≤ decimalFrom v s
 unfolding decimalFrom
-grows v [] = omega arith
-grows v (d ∷ s) = let h = grows (10 * v + (d - 48)) s in omega arith
+decimal-grows v [] = omega arith
+decimal-grows v (d ∷ s) = let h = decimal-grows (10 * v + (d - 48)) s in omega arith
 
 module _ (limit v : ℕ) where
   from-end : v ≤ limit → readFrom limit v [] ≡ Value v
@@ -52,7 +52,7 @@ module _ (limit v : ℕ) where
       by : (t l : Bool) → leb (10 * v + (b - 48)) limit ≡ l → cond (t && l) (Value (10 * v + (b - 48))) Refused ≡ Refused
           → cond ((t && all isDigit s) && leb (decimalFrom (10 * v + (b - 48)) s) limit) (Value (decimalFrom (10 * v + (b - 48)) s)) Refused ≡ Refused
       by true true q e = let z : _≡_ {A = ℕ} 0 1 = cc in cc
-      by true false q e = let h = leb-false (10 * v + (b - 48)) limit q in let g = grows (10 * v + (b - 48)) s in over (all isDigit s) (omega arith)
+      by true false q e = let h = leb-false (10 * v + (b - 48)) limit q in let g = decimal-grows (10 * v + (b - 48)) s in over (all isDigit s) (omega arith)
       by false l q e = refl
 
   -- what a pushed digit gives

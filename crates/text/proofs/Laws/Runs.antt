@@ -15,8 +15,9 @@ use borrow.Author.Tests.{eq-eqb, ne-eqb}
 use Rattle.text.specs.Bytes.{at}
 use Rattle.text.specs.Lists.{all}
 use Rattle.text.specs.Runs.{run, runEnd, trailingStart}
-use Rattle.text.proofs.Laws.Tests.{cond-elim, and-left, and-right, and-both}
+use Rattle.text.proofs.Laws.Tests.{cond-elim, and-both}
 use Rattle.text.proofs.Laws.Orders.{le-or-lt}
+use Rattle.text.proofs.Laws.Parts.{all-at}
 use Rattle.text.proofs.Laws.Spans.{Span, span-take}
 
 module _ (p : ℕ → Bool) where
@@ -81,6 +82,10 @@ module _ (p : ℕ → Bool) where
       by true e ih h = ih (omega arith)
       by false e ih h = e
 
+  pub run-end-stops : (s : List ℕ) (i : ℕ) → runEnd p s i < length s → p (at s (runEnd p s i)) ≡ false
+  unfolding runEnd
+  run-end-stops s i h = ap p (sym (getD-drop i s (run p (drop i s)) 0)) ∙ run-stops (drop i s) (omega (arith, length-drop i s))
+
   pub run-within : (s : List ℕ) (i : ℕ) → i < run p s → p (at s i) ≡ true
   unfolding run
   run-within [] i h = absurd (omega arith)
@@ -118,15 +123,15 @@ module _ (p : ℕ → Bool) where
   unfolding runEnd
   run-span-all s i = simp add-sub-cancel-left (run-all (drop i s))
 
-  pub span-run : {s : List ℕ} {i j : ℕ} {u : List ℕ} → Span s i j u → all p u ≡ true → p (at s j) ≡ false → runEnd p s i ≡ j
+  pub run-up-to : {s : List ℕ} {i j : ℕ} {u : List ℕ} → Span s i j u → all p u ≡ true → run p (drop j s) ≡ 0 → runEnd p s i ≡ j
   unfolding runEnd
-  span-run {s} {i} {j} {u} q m h =
-      simp (q .split, all-run u (drop j s) m (run-zero (drop j s) (simp (getD-drop, add-zero) h))) (sym (q .size))
+  run-up-to {s} {i} {j} {u} q m z = simp (q .split, all-run u (drop j s) m z) (sym (q .size))
+
+  pub span-run : {s : List ℕ} {i j : ℕ} {u : List ℕ} → Span s i j u → all p u ≡ true → p (at s j) ≡ false → runEnd p s i ≡ j
+  span-run {s} {i} {j} {u} q m h = run-up-to q m (run-zero (drop j s) (simp (getD-drop, add-zero) h))
 
   pub span-run-end : {s : List ℕ} {i : ℕ} {u : List ℕ} → Span s i (length s) u → all p u ≡ true → runEnd p s i ≡ length s
-  unfolding runEnd
-  span-run-end {s} {i} {u} q m =
-      simp (q .split, all-run u (drop (length s) s) m (ap (run p) (drop-length s) ∙ run-nil)) (sym (q .size))
+  span-run-end {s} {i} {u} q m = run-up-to q m (ap (run p) (drop-length s) ∙ run-nil)
 
   -- every byte is of the class exactly if the run is the whole list
   pub all-as-run : (s : List ℕ) → all p s ≡ eqb (run p s) (length s)
@@ -145,13 +150,6 @@ module _ (p : ℕ → Bool) where
   pub every-is : (s : List ℕ) (e : ℕ) → e ≡ runEnd p s 0 → eqb e (length s) ≡ all p s
   unfolding runEnd
   every-is s e h = rw (h, zero-add) (sym (all-as-run s))
-
-  -- a byte of a list of which all pass
-  pub all-at : (s : List ℕ) (i : ℕ) → i < length s → all p s ≡ true → p (at s i) ≡ true
-  unfolding all
-  all-at [] i h a = absurd (omega arith)
-  all-at (x ∷ xs) zero h a = and-left (p x) (all p xs) a
-  all-at (x ∷ xs) (suc i) h a = all-at xs i (omega arith) (and-right (p x) (all p xs) a)
 
   -- the trailing run: all from its start on pass, the byte before it doesn't
   pub trailing-all : (s : List ℕ) → all p (drop (trailingStart p s) s) ≡ true
@@ -196,7 +194,7 @@ module _ (p : ℕ → Bool) where
         never : (j : ℕ) → j < i → all p (drop j s) ≡ true → ⊥
         never j l a =
             let f : at s (i - 1) ≡ getD (drop j s) (i - 1 - j) 0 = sym (getD-drop j s (i - 1 - j) 0 ∙ ap (λ (n : ℕ). getD s n 0) (omega arith)) in
-            let t : p (getD (drop j s) (i - 1 - j) 0) ≡ true = all-at (drop j s) (i - 1 - j) (omega (arith, length-drop j s)) a in
+            let t : p (getD (drop j s) (i - 1 - j) 0) ≡ true = all-at p (drop j s) (i - 1 - j) (omega (arith, length-drop j s)) a in
             let z : _≡_ {A = ℕ} 0 1 = cc in
             omega arith
 

@@ -1,14 +1,16 @@
 -- A word that stands in a list from a place up to another: joined, cut, and as a part that code hands on. All of `take`, `drop` and `++` is
 -- argued here, once.
-use Prim.Native.Nat.{ℕ, zero, suc, _+_, _-_, _*_, _≤_, _<_}
+use Prim.Native.Nat.{ℕ, zero, suc, _+_, _-_, _*_, _≤_, _<_, min}
 use mathlib.Core.Path.{_≡_, refl, sym, ap, subst, _∙_}
+use mathlib.Core.Logic.{⊎-elim}
 use mathlib.Core.List.{List, [], _∷_, _++_, append-assoc, append-nil}
 use native.Mathlib.Omega.{arith}
 use native.Mathlib.Nat.{add-zero}
 use native.Mathlib.Numerals.{add-one}
 use lib.ListN.{length, getD, take, drop, length-append, take-append-drop, length-drop, drop-of-length-le}
-use lib.Seq.{drop-drop, drop-cons, drop-append-seam, length-take-le, drop-length, take-all, getD-drop, take-at, take-nil}
+use lib.Seq.{drop-drop, drop-cons, drop-append-seam, drop-append-add, length-take-le, drop-length, take-all, getD-drop, take-at, take-nil}
 use Rattle.text.specs.Bytes.{at, part}
+use Rattle.text.proofs.Laws.Orders.{le-or-lt}
 use Rattle.text.proofs.Laws.Classes.{nonzero-inside}
 
 pub record Span (s : List ℕ) (i j : ℕ) (w : List ℕ) : Type 0 where
@@ -36,6 +38,18 @@ span-byte s i b h = record {
   size = refl;
 }
 
+pub span-here : (s : List ℕ) (i : ℕ) → i < length s → Span s i (i + 1) (at s i ∷ [])
+span-here s i h = record { split = drop-cons s i 0 h ∙ simp add-one; size = refl }
+
+pub span-none : (s : List ℕ) (i : ℕ) → Span s i i []
+span-none s i = record { split = refl; size = omega arith }
+
+pub span-between : (u w rest : List ℕ) → Span (u ++ (w ++ rest)) (length u) (length u + length w) w
+span-between u w rest = record {
+  split = drop-append-seam u (w ++ rest) ∙ ap (λ (t : List ℕ). w ++ t) (sym (drop-append-add u (w ++ rest) (length w) ∙ drop-append-seam w rest));
+  size = refl;
+}
+
 -- of a word that begins with a byte
 pub span-at : {s : List ℕ} {i j b : ℕ} {w : List ℕ} → Span s i j (b ∷ w) → at s i ≡ b
 span-at {s} {i} {j} {b} {w} p = sym (simp add-zero at (getD-drop i s 0 0)) ∙ ap (λ (t : List ℕ). at t 0) (p .split)
@@ -50,6 +64,14 @@ span-take s i n h = record {
 pub span-word : {s : List ℕ} {i j : ℕ} {u : List ℕ} → Span s i j u → take (j - i) (drop i s) ≡ u
 span-word {s} {i} {j} {u} p = simp (p .split) (take-at u (drop j s) (j - i) (omega (arith, p .size)))
 
+pub span-part : (s : List ℕ) (i j : ℕ) → i ≤ j → j ≤ length s → Span s i j (part s i j)
+span-part s i j h k =
+    let e : i + (j - i) ≡ j = omega arith in
+    subst (λ (n : ℕ). Span s i n (part s i j)) e (span-take s i (j - i) (omega (arith, length-drop i s)))
+
+pub span-rest : (s : List ℕ) (i : ℕ) → i ≤ length s → Span s i (length s) (drop i s)
+span-rest s i k = record { split = simp (drop-length, append-nil); size = omega (arith, length-drop i s) }
+
 -- the whole list
 pub span-all : (s : List ℕ) → Span s 0 (length s) s
 span-all s = record { split = simp (drop-length, append-nil); size = omega arith }
@@ -57,12 +79,25 @@ span-all s = record { split = simp (drop-length, append-nil); size = omega arith
 pub span-whole : {s w : List ℕ} → Span s 0 (length s) w → s ≡ w
 span-whole {s} {w} p = p .split ∙ simp (drop-length, append-nil)
 
+pub span-to-end : {s w : List ℕ} (j : ℕ) → j ≡ length s → Span s 0 j w → s ≡ w
+span-to-end {s} {w} j e p = span-whole (subst (λ (n : ℕ). Span s 0 n w) e p)
+
+-- the part up to a place
+pub front-part : (s : List ℕ) (i : ℕ) → part s 0 i ≡ take i s
+front-part s i = let e : i - 0 ≡ i = omega arith in ap (λ (n : ℕ). take n s) e
+
 -- the part from a place on, as code hands it: `&s[i..]`
 pub rest-part : (s : List ℕ) (i : ℕ) → take (length s - i) (drop i s) ≡ drop i s
 rest-part s i = take-all (length s - i) (drop i s) (omega (arith, length-drop i s))
 
 pub drop-past : (s : List ℕ) (i : ℕ) → length s < i → drop i s ≡ []
 drop-past s i h = drop-of-length-le s {i = i} (omega arith)
+
+pub drop-min : (k : ℕ) (s : List ℕ) → drop (min k (length s)) s ≡ drop k s
+drop-min k s = ⊎-elim
+    (λ (h : k ≤ length s). let e : min k (length s) ≡ k = omega arith in rw e)
+    (λ (h : length s < k). drop-of-length-le s {i = min k (length s)} (omega arith) ∙ sym (drop-past s k h))
+    (le-or-lt k (length s))
 
 -- a byte that a test has found lies inside
 pub byte-inside : (r : ℕ) (s : List ℕ) (i b : ℕ) → r ≡ at s i → r ≡ suc b → i < length s

@@ -1,19 +1,24 @@
 -- Lists split at delimiters and joined by dots. From the definitions of Lists; `p` is the test of a delimiter.
 use Prim.Native.Nat.{ℕ, zero, suc, _+_, _-_, _≤_, _<_}
 use native.Mathlib.Omega.{arith}
-use mathlib.Core.Path.{_≡_, refl, sym, ap, _∙_}
+use mathlib.Core.Path.{_≡_, refl, sym, ap, subst, _∙_}
 use mathlib.Core.List.{List, [], _∷_, _++_, map, append-assoc, append-nil}
 use mathlib.Core.Bool.{Bool, true, false, cond, not}
-use lib.ListN.{length, take, drop}
+use lib.ListN.{length, take, drop, take-append-drop}
+use lib.Seq.{drop-cons, drop-length}
 use lib.Dec.{eqb}
 use borrow.Author.Tests.{eqb-true}
-use Rattle.text.specs.Bytes.{isDot}
+use Rattle.text.specs.Bytes.{at, isDot}
 use Rattle.text.specs.Lists.{split, grow, dotBefore, join}
 use Rattle.text.specs.Runs.{run}
 
 -- a list of parts with at least one
 pub data Some : List (List ℕ) → Type 0 where
   some : {x : List ℕ} {xs : List (List ℕ)} → Some (x ∷ xs)
+
+pub some-snoc : (xs : List (List ℕ)) (x : List ℕ) → Some (xs ++ (x ∷ []))
+some-snoc [] x = some
+some-snoc (y ∷ xs) x = some
 
 some-cond : (t : Bool) (b : ℕ) (xs : List (List ℕ)) → Some xs → Some (cond t ([] ∷ xs) (grow b xs))
 unfolding grow
@@ -105,6 +110,43 @@ module _ (p : ℕ → Bool) where
   pub count-out : (b : ℕ) (s : List ℕ) → p b ≡ false → length (split p (b ∷ s)) ≡ length (split p s)
   unfolding split
   count-out b s e = rw e (count-grow b (split p s) (split-some s))
+
+  -- at most one part more than bytes
+  pub count-le : (s : List ℕ) → length (split p s) ≤ length s + 1
+  unfolding split
+  count-le [] = omega arith
+  count-le (b ∷ s) = by (p b) refl (count-le s)
+    where
+      by : (t : Bool) → p b ≡ t → length (split p s) ≤ length s + 1 → length (split p (b ∷ s)) ≤ suc (length s) + 1
+      by true e ih = omega (arith, count-in b s e)
+      by false e ih = omega (arith, count-out b s e)
+
+-- as a loop finds the last part, from the right: from i on there is no delimiter
+module _ (p : ℕ → Bool) (s : List ℕ) where
+  pub record Undelimited (i : ℕ) : Type 0 where
+    pub within : i ≤ length s
+    pub one : split p (drop i s) ≡ drop i s ∷ []
+
+  pub undelimited-start : Undelimited (length s)
+  unfolding split
+  undelimited-start = record { within = omega arith; one = rw drop-length }
+
+  module _ (i : ℕ) (inv : Undelimited i) where
+    before : 0 < i → drop (i - 1) s ≡ at s (i - 1) ∷ drop i s
+    before h = let n : suc (i - 1) ≡ i = omega arith in drop-cons s (i - 1) 0 (omega (arith, inv .within)) ∙ ap (λ (k : ℕ). at s (i - 1) ∷ drop k s) n
+
+    pub undelimited-next : 0 < i → p (at s (i - 1)) ≡ false → Undelimited (i - 1)
+    unfolding split grow
+    undelimited-next h n = record { within = omega (arith, inv .within); one = rw (before h, n, inv .one) }
+
+    pub undelimited-last : 0 < i → p (at s (i - 1)) ≡ true → split p s ≡ split p (take (i - 1) s) ++ (drop i s ∷ [])
+    undelimited-last h n =
+        ap (split p) (sym (take-append-drop (i - 1) s) ∙ ap (λ (t : List ℕ). take (i - 1) s ++ t) (before h))
+        ∙ split-append p (take (i - 1) s) (at s (i - 1)) (drop i s) n
+        ∙ ap (λ (t : List (List ℕ)). split p (take (i - 1) s) ++ t) (inv .one)
+
+    pub undelimited-whole : i ≤ 0 → split p s ≡ s ∷ []
+    undelimited-whole h = let e : i ≡ 0 = omega arith in subst (λ (k : ℕ). split p (drop k s) ≡ drop k s ∷ []) e (inv .one)
 
 -- joined with more parts at the end
 dots-append : (xs ys : List (List ℕ)) → dotBefore (xs ++ ys) ≡ dotBefore xs ++ dotBefore ys

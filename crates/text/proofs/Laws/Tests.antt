@@ -3,6 +3,7 @@
 use Prim.Native.Nat.{ℕ, _≤_, _<_}
 use mathlib.Core.Path.{_≡_, refl, sym, ap, _∙_}
 use mathlib.Core.Bool.{Bool, true, false, cond, not, _&&_, _||_}
+use native.Mathlib.Omega.{arith}
 use lib.Dec.{leb, ltb, eqb}
 use borrow.Author.Tests.{lt-ltb, le-ltb, le-leb, lt-leb, eq-eqb, ne-eqb, not-true, not-false}
 
@@ -91,7 +92,39 @@ and-right false u h = let z : _≡_ {A = ℕ} 0 1 = cc in cc
 pub and-both : (t u : Bool) → t ≡ true → u ≡ true → (t && u) ≡ true
 and-both t u p q = simp (p, q)
 
--- a test that isn't true is false
+-- the parts of "or", where it holds
+pub or-elim {κ} : {P : Type κ} (t u : Bool) → (t || u) ≡ true → (t ≡ true → P) → (u ≡ true → P) → P
+or-elim true u h f g = f refl
+or-elim false u h f g = g h
+
+pub or-left : (t u : Bool) → t ≡ true → (t || u) ≡ true
+or-left t u h = simp h
+
+pub or-right : (t u : Bool) → u ≡ true → (t || u) ≡ true
+or-right true u h = refl
+or-right false u h = h
+
+-- and where it fails
+pub or-false-left : (t u : Bool) → (t || u) ≡ false → t ≡ false
+or-false-left true u h = h
+or-false-left false u h = refl
+
+pub or-false-right : (t u : Bool) → (t || u) ≡ false → u ≡ false
+or-false-right true u h = let z : _≡_ {A = ℕ} 0 1 = cc in cc
+or-false-right false u h = h
+
+pub or-false-both : (t u : Bool) → t ≡ false → u ≡ false → (t || u) ≡ false
+or-false-both t u p q = simp (p, q)
+
+-- a test that holds doesn't fail
+pub true-false : (t : Bool) → t ≡ true → t ≡ false → ⊥
+true-false t h k = let z : _≡_ {A = ℕ} 0 1 = cc in omega arith
+
+-- a test that isn't false is true, and one that isn't true is false
+pub test-holds : (t : Bool) → (t ≡ false → ⊥) → t ≡ true
+test-holds true h = refl
+test-holds false h = absurd (h refl)
+
 pub test-fails : (t : Bool) → (t ≡ true → ⊥) → t ≡ false
 test-fails true h = absurd (h refl)
 test-fails false h = refl

@@ -1,6 +1,6 @@
 -- How many parts the digits keep: a count that ends at the largest usize keeps the same parts, since no value has more. From the definitions of
 -- Decimal and Transform.
-use Prim.Native.Nat.{ℕ, suc, _+_, _-_, _*_, _≤_, _<_, min}
+use Prim.Native.Nat.{ℕ, _+_, _-_, _*_, _≤_, _<_, min}
 use native.Mathlib.Omega.{arith}
 use native.Mathlib.Numerals.{add-one}
 use mathlib.Core.Path.{_≡_, refl, sym, _∙_}
@@ -11,9 +11,8 @@ use lib.Seq.{drop-cons}
 use lib.Dec.{eqb}
 use borrow.Author.Tests.{eq-eqb, ne-eqb}
 use Rattle.text.specs.Decimal.{decimalFrom, decimal}
-use Rattle.text.specs.Lists.{split, rightmost}
+use Rattle.text.specs.Lists.{rightmost}
 use Rattle.text.proofs.Laws.Parts.{rightmost-all}
-use Rattle.text.proofs.Laws.Splitting.{count-in, count-out}
 use Rattle.transformers.specs.Transform.{kept}
 
 -- equal up to the largest usize, and so after more digits
@@ -62,13 +61,3 @@ kept-count digits n e xs h = by (eqb (length digits) 0) e
         → cond t xs (drop (length xs - decimal digits) xs) ≡ drop (length xs - n) xs
     by true q = sym (rightmost-all n xs (omega arith))
     by false q = let z : length xs - decimal digits ≡ length xs - n = omega arith in rw z
-
--- a value has at most one part more than bytes
-pub count-le : (p : ℕ → Bool) (s : List ℕ) → length (split p s) ≤ length s + 1
-unfolding split
-count-le p [] = omega arith
-count-le p (b ∷ s) = by (p b) refl (count-le p s)
-  where
-    by : (t : Bool) → p b ≡ t → length (split p s) ≤ length s + 1 → length (split p (b ∷ s)) ≤ suc (length s) + 1
-    by true e ih = omega (arith, count-in p b s e)
-    by false e ih = omega (arith, count-out p b s e)

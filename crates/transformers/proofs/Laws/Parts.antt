@@ -13,13 +13,13 @@ use Rattle.text.specs.Decimal.{decimal}
 use Rattle.text.specs.Lists.{split, join, dotBefore, rightmost}
 use Rattle.text.specs.Runs.{run}
 use Rattle.text.specs.Writing.{Wrote}
-use Rattle.text.proofs.Laws.Parts.{rightmost-all, rightmost-append, rightmost-reverse}
+use Rattle.text.proofs.Laws.Parts.{rightmost-none, rightmost-all, rightmost-append, rightmost-reverse}
 use Rattle.text.proofs.Laws.Spans.{rest-part}
-use Rattle.text.proofs.Laws.Splitting.{Some, some, split-some, split-append, join-split, split-none, split-first, split-before, count-in, count-out, join-snoc}
+use Rattle.text.proofs.Laws.Splitting.{Some, some, some-snoc, split-some, split-append, join-split, split-none, split-first, split-before, count-in, count-out, count-le, join-snoc}
 use Rattle.text.proofs.Laws.Writing.{wrote-none, wrote-then, length-wrote}
 use Rattle.transformers.specs.Transform.{isListed, reversedIf, kept, escapedByte, escaped, transformed}
 use Rattle.transformers.proofs.Laws.Escaping.{escaped-append, escaped-dot}
-use Rattle.transformers.proofs.Laws.Counts.{kept-count, count-le}
+use Rattle.transformers.proofs.Laws.Counts.{kept-count}
 
 -- `put_parts`
 module _ (s ds : List ℕ) (escape : Bool) (out : List ℕ) (at : ℕ) where
@@ -52,10 +52,6 @@ one-reversed : (n : ℕ) (x : List ℕ) → 0 < n → reverse (take n (x ∷ [])
 one-reversed zero x h = absurd (omega arith)
 one-reversed (suc zero) x h = refl
 one-reversed (suc (suc n)) x h = refl
-
-some-snoc : (xs : List (List ℕ)) (x : List ℕ) → Some (xs ++ (x ∷ []))
-some-snoc [] x = some
-some-snoc (y ∷ xs) x = some
 
 some-reversed : (n : ℕ) (xs : List (List ℕ)) → Some xs → Some (reverse (take (suc n) xs))
 some-reversed n (x ∷ xs) some = rw reverse-cons (some-snoc (reverse (take n xs)) x)
@@ -146,10 +142,6 @@ module _ (s ds : List ℕ) (n : ℕ) where
           }
 
 -- `transform`
-rightmost-none : (n : ℕ) → n ≡ 0 → (xs : List (List ℕ)) → rightmost n xs ≡ []
-unfolding rightmost
-rightmost-none n h xs = drop-of-length-le xs {i = length xs - n} (omega arith)
-
 module _ (s digits : List ℕ) (reversed : Bool) (ds : List ℕ) (escape : Bool) (out : List ℕ) (at n : ℕ)
     (e : n ≡ cond (eqb (length digits) 0) 18446744073709551615 (min (decimal digits) 18446744073709551615)) (small : length s * 1 < 2 ^ 63) where
   kept-parts : kept digits (split (isListed ds) s) ≡ rightmost n (split (isListed ds) s)
