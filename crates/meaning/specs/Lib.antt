@@ -25,3 +25,5 @@ pub mod Reached
 pub mod Demand3
 -- Examples: cases of 01 about evaluation, computed.
 pub mod Examples
+-- ScopeCases: 01's proved cases as a single statement.
+pub mod ScopeCases
