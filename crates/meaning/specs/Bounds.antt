@@ -276,7 +276,7 @@ module _ (c : Counts) where
   unfolding noneIsPermerror
   none-fine r b =
       cond-elim (ResultBounded c) (eqb (r .value) 0)
-      (λ _. plain 6 (r .counts) (permerror-report c (r .counts) (r .value) (b .reported)))
+      (λ e. plain _ (r .counts) (report c (r .counts) _ (no-third c (r .counts) (r .value) (b .reported) (λ s. omega (arith, s, eqb-true (r .value) 0 e)))))
       (λ _. b)
 
   pub afterStep-fine : (d : List ℕ) (ts : List Placed) (x : Said) (m : Match) (k : Counts) → StepBounded c m k → (rest : Counts → Check Result)
