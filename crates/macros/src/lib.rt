@@ -252,8 +252,8 @@ fn write_with_client(
     )
 }
 
-// The same with the sender and its local part.
-fn write_with_sender(
+// Measures the expansion of a text's pieces, and writes it if it fits; the values are not tested.
+pub fn write_expansion(
     form: Form,
     text: &[u8],
     sender: &[u8],
@@ -309,7 +309,7 @@ pub fn expand(
         if are_hosts(helo, receiver) {
             if are_short(domain, p) {
                 if read_macro_string(form, text) {
-                    return write_with_sender(
+                    return write_expansion(
                         form,
                         text,
                         sender,

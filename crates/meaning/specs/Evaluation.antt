@@ -44,10 +44,19 @@ Sub = Naming → Counts → Check Result
 unfoldable pub includeMatch : ℕ → Match
 includeMatch v = cond (eqb v 2) yes (cond (eqb v 5) (stop 5) (cond (eqb v 6) (stop 6) (cond (eqb v 0) (stop 6) no)))
 
+-- a check that a term begins: the term is counted, then its target is made and checked
+unfoldable pub checkTarget : Mail → Sub → List ℕ → List ℕ → Counts → Check Result
+checkTarget mail sub d spec c = bind (target mail d spec c) (λ t. sub t c)
+
+unfoldable pub another : Mail → Sub → List ℕ → List ℕ → Counts → Check Result
+another mail sub d spec c = counting (ended 6) (checkTarget mail sub d spec) c
+
+unfoldable pub includeOf : Result → Check Step
+includeOf r = step (includeMatch (r .value)) (r .counts)
+
 -- "include runs the whole check afresh on another domain, sharing the counts"
 unfoldable pub includeStep : Mail → Sub → List ℕ → List ℕ → Counts → Check Step
-includeStep mail sub d spec c =
-    counting (step (stop 6)) (λ c. bind (target mail d spec c) (λ t. bind (sub t c) (λ r. step (includeMatch (r .value)) (r .counts)))) c
+includeStep mail sub d spec c = bind (another mail sub d spec c) includeOf
 
 -- the part of a term that its mechanism has; a term of the grammar has it
 unfoldable pub bytesOr : Optional (List ℕ) → List ℕ
@@ -107,11 +116,13 @@ signed d all-terms v c = give (record { value = v; counts = c; failing = cond (e
 unfoldable pub noneIsPermerror : Result → Result
 noneIsPermerror r = cond (eqb (r .value) 0) (record { value = 6; counts = r .counts; failing = absent }) r
 
+unfoldable pub redirectOf : Result → Check Result
+redirectOf r = give (noneIsPermerror r)
+
 -- "No match: redirect ..; without it, neutral."
 unfoldable pub noMatch : Mail → Sub → List ℕ → Optional (List ℕ) → Counts → Check Result
 noMatch mail sub d absent c = ended 1 c
-noMatch mail sub d (present spec) c =
-    counting (ended 6) (λ c. bind (target mail d spec c) (λ t. bind (sub t c) (λ r. give (noneIsPermerror r)))) c
+noMatch mail sub d (present spec) c = bind (another mail sub d spec c) redirectOf
 
 -- what a step makes of the check
 unfoldable pub afterStep : List ℕ → List Placed → Said → Match → Counts → (Counts → Check Result) → Check Result
@@ -136,48 +147,60 @@ unfoldable pub termsFrom : ℕ → List ℕ → ℕ → List Placed
 termsFrom zero s i = []
 termsFrom (suc f) s i = termsAfter (termReport s (readTerm s i)) (termsFrom f s)
 
+-- all terms of a record from a place on
+unfoldable pub termsOf : List ℕ → ℕ → List Placed
+termsOf s i = termsFrom (suc (length s)) s i
+
 -- "The whole record is read before any term is tried; outside the grammar gives permerror."
 unfoldable pub readOutcome : Mail → Sub → List ℕ → List ℕ → RecordAnswer → Counts → Check Result
-readOutcome mail sub d s (RecordAnswer.Accepted next) c =
-    tryTerms mail sub d (termsFrom (suc (length s)) s next) (termsFrom (suc (length s)) s next) c
+readOutcome mail sub d s (RecordAnswer.Accepted next) c = tryTerms mail sub d (termsOf s next) (termsOf s next) c
 readOutcome mail sub d s (RecordAnswer.Refused number at) c = ended 6 c
-
-unfoldable pub evaluated : Mail → Sub → List ℕ → List ℕ → Counts → Check Result
-evaluated mail sub d s c = readOutcome mail sub d s (readRecord s) c
 
 -- "Of the texts with a version section"
 unfoldable pub versioned : List (List ℕ) → List (List ℕ)
 versioned [] = []
 versioned (s ∷ ss) = cond (hasVersion s) (s ∷ versioned ss) (versioned ss)
 
+-- what record lookup comes to: a result, or the record that is selected
+pub data Selection : Type 0 where
+  ends : ℕ → Selection
+  one : List ℕ → Selection
+
 -- "none gives none, several permerror, a single one is selected"
-unfoldable pub selected : Mail → Sub → List ℕ → List (List ℕ) → Counts → Check Result
-selected mail sub d [] c = ended 0 c
-selected mail sub d (s ∷ []) c = evaluated mail sub d s c
-selected mail sub d (s ∷ u ∷ r) c = ended 6 c
+unfoldable pub selection : List (List ℕ) → Selection
+selection [] = ends 0
+selection (s ∷ []) = one s
+selection (s ∷ u ∷ r) = ends 6
 
 -- "Failed gives temperror."
-unfoldable pub textReply : Mail → Sub → List ℕ → Counts → Reply → Check Result
-textReply mail sub d c failed = ended 5 c
-textReply mail sub d c (items ss) = selected mail sub d (versioned ss) c
+unfoldable pub textReply : Reply → Check Selection
+textReply failed = give (ends 5)
+textReply (items ss) = give (selection (versioned ss))
 
-unfoldable pub textLookup : Mail → Sub → List ℕ → Counts → Check Result
-textLookup mail sub d c = ask 16 d c (textReply mail sub d c)
+unfoldable pub textLookup : List ℕ → Counts → Check Selection
+textLookup d c = ask 16 d c textReply
 
 -- "if the table holds an answered SPF entry with items, those texts; otherwise the TXT question"
-unfoldable pub spfItems : Mail → Sub → List ℕ → Counts → List (List ℕ) → Check Result
-spfItems mail sub d c [] = textLookup mail sub d c
-spfItems mail sub d c (s ∷ ss) = selected mail sub d (versioned (s ∷ ss)) c
+unfoldable pub spfItems : List ℕ → Counts → List (List ℕ) → Check Selection
+spfItems d c [] = textLookup d c
+spfItems d c (s ∷ ss) = give (selection (versioned (s ∷ ss)))
 
-unfoldable pub spfReply : Mail → Sub → List ℕ → Counts → Optional Reply → Check Result
-spfReply mail sub d c absent = textLookup mail sub d c
-spfReply mail sub d c (present failed) = textLookup mail sub d c
-spfReply mail sub d c (present (items ss)) = spfItems mail sub d c ss
+unfoldable pub spfReply : List ℕ → Counts → Optional Reply → Check Selection
+spfReply d c absent = textLookup d c
+spfReply d c (present failed) = textLookup d c
+spfReply d c (present (items ss)) = spfItems d c ss
+
+unfoldable pub recordLookup : List ℕ → Counts → Check Selection
+recordLookup d c = peek d (spfReply d c)
+
+unfoldable pub afterLookup : Mail → Sub → List ℕ → Counts → Selection → Check Result
+afterLookup mail sub d c (ends v) = ended v c
+afterLookup mail sub d c (one s) = readOutcome mail sub d s (readRecord s) c
 
 -- "A malformed or single-label domain gives none."
 unfoldable pub checkName : Mail → Sub → Naming → Counts → Check Result
 checkName mail sub malformed c = ended 0 c
-checkName mail sub (name d) c = cond (leb (labelCount d) 1) (ended 0 c) (peek d (spfReply mail sub d c))
+checkName mail sub (name d) c = cond (leb (labelCount d) 1) (ended 0 c) (bind (recordLookup d c) (afterLookup mail sub d c))
 
 -- the check of a domain, with at most n checks below one another; each takes one of the ten lookups, so eleven are enough
 unfoldable pub check : ℕ → Mail → Sub
@@ -199,10 +222,13 @@ most-text = 500
 unfoldable pub shown : List ℕ → List ℕ
 shown s = cond (leb (length s) most-text && all isPrintable s) s []
 
+unfoldable pub givesShown : List ℕ → Check (List ℕ)
+givesShown s = give (shown s)
+
 -- "one TXT text, expanded. A failed, void, doubled or malformed case ..: empty text."
 unfoldable pub explained : Mail → List ℕ → Counts → List (List ℕ) → Check (List ℕ)
 explained mail d c [] = give []
-explained mail d c (s ∷ []) = cond (isMacroString Form.Explanation s) (bind (expanded mail d Form.Explanation s c) (λ x. give (shown x))) (give [])
+explained mail d c (s ∷ []) = cond (isMacroString Form.Explanation s) (bind (expanded mail d Form.Explanation s c) givesShown) (give [])
 explained mail d c (s ∷ u ∷ r) = give []
 
 unfoldable pub explainReply : Mail → List ℕ → Counts → Reply → Check (List ℕ)

@@ -7,22 +7,28 @@ pub mod Tables
 pub mod Mechanisms
 -- Evaluation: record lookup, terms, include, redirect, and the explanation.
 pub mod Evaluation
+-- Outcomes: what the code's answers say of what a table settles.
+pub mod Outcomes
+-- Inversions: what an answer of the code tells of what a table settles.
+pub mod Inversions
 -- Always: what holds of every way through a check.
 pub mod Always
+-- Runs: what a table settles of one check after another.
+pub mod Runs
+-- Kept: what each step keeps of the counts, a whole check keeps.
+pub mod Kept
 -- Bounds: lookups never exceed 10, voids never 3, and 2 unless the result is permerror.
 pub mod Bounds
--- Rising: lookups never fall in a check.
-pub mod Rising
 -- Enough: the depth bound never decides.
 pub mod Enough
 -- Agreement: what a check consults decides it.
 pub mod Agreement
 -- Growth: a settled result stays when the table only gains entries that answer no peek.
 pub mod Growth
+-- Steps: what a term comes to, and what it makes of the check.
+pub mod Steps
 -- Reached: which checks an evaluation reaches, and that a record outside the grammar is never evaluated.
 pub mod Reached
--- Demand3: reading a record, reading its terms and evaluating, as one theorem.
-pub mod Demand3
 -- Examples: cases of 01 about evaluation, computed.
 pub mod Examples
 -- ScopeCases: 01's proved cases as a single statement.

@@ -70,11 +70,14 @@ unfoldable pub includesClient : Address → Reply → Bool
 includesClient client failed = false
 includesClient client (items ds) = anyMatches client (width client) ds
 
--- p: "all of the first 10 names are asked in order"; those validated, in that order. "A failed address question skips its name."
-unfoldable pub validated : Mail → Counts → List (List ℕ) → List (List ℕ) → Check (List (List ℕ))
-validated mail c [] found = give found
-validated mail c (n ∷ ns) found =
-    ask (addressKind (mail .client)) n c (λ r. validated mail c ns (cond (includesClient (mail .client) r) (found ++ (n ∷ [])) found))
+-- the names validated so far, after another one's addresses; "a failed address question skips its name"
+unfoldable pub withValid : Address → List ℕ → List (List ℕ) → Reply → List (List ℕ)
+withValid client n found r = cond (includesClient client r) (found ++ (n ∷ [])) found
+
+-- p: "all of the first 10 names are asked in order"; those validated, in that order
+unfoldable pub validated : Address → Counts → List (List ℕ) → List (List ℕ) → Check (List (List ℕ))
+validated client c [] found = give found
+validated client c (n ∷ ns) found = ask (addressKind client) n c (λ r. validated client c ns (withValid client n found r))
 
 -- "the first 10 names"
 abbrev pub most-names : ℕ
@@ -102,23 +105,36 @@ firstOr (n ∷ ns) other = n
 unfoldable pub chosen : List ℕ → List (List ℕ) → List ℕ
 chosen d ns = cond (holdsName d ns) d (firstBelow d ns (firstOr ns (bytes "unknown")))
 
+unfoldable pub givesChosen : List ℕ → List (List ℕ) → Check (List ℕ)
+givesChosen d ns = give (chosen d ns)
+
+-- the value of p for a current domain, once its names are known
+unfoldable pub pReply : Address → List ℕ → Counts → Reply → Check (List ℕ)
+pReply client d c r = bind (validated client c (namesOf r) []) (givesChosen d)
+
 -- the value of p for a current domain
-unfoldable pub pValue : Mail → List ℕ → Counts → Check (List ℕ)
-pValue mail d c = ask 12 (reversedName (mail .client)) c (λ r. bind (validated mail c (namesOf r) []) (λ ns. give (chosen d ns)))
+unfoldable pub pValue : Address → List ℕ → Counts → Check (List ℕ)
+pValue client d c = ask 12 (reversedName client) c (pReply client d c)
 
 -- the expansion of a text of the grammar, with a value of p
 unfoldable pub expansion : Mail → List ℕ → Form → List ℕ → List ℕ → List ℕ
 expansion mail d form text p =
     textOf (lettersOf (given (mail .sender) (mail .helo) (mail .receiver) d p (mail .client) (mail .seconds))) (pieces form text .list)
 
+unfoldable pub givesExpansion : Mail → List ℕ → Form → List ℕ → List ℕ → Check (List ℕ)
+givesExpansion mail d form text p = give (expansion mail d form text p)
+
 -- p "is asked for only where the string uses p"; "p's questions come .. before all else"
 unfoldable pub expanded : Mail → List ℕ → Form → List ℕ → Counts → Check (List ℕ)
 expanded mail d form text c =
-    cond (usesP form text) (bind (pValue mail d c) (λ p. give (expansion mail d form text p))) (give (expansion mail d form text []))
+    cond (usesP form text) (bind (pValue (mail .client) d c) (givesExpansion mail d form text)) (givesExpansion mail d form text [])
+
+unfoldable pub givesName : List ℕ → Check Naming
+givesName s = give (questionName s)
 
 -- the question name that a domain-spec makes
 unfoldable pub target : Mail → List ℕ → List ℕ → Counts → Check Naming
-target mail d spec c = bind (expanded mail d Form.DomainSpec spec c) (λ s. give (questionName s))
+target mail d spec c = bind (expanded mail d Form.DomainSpec spec c) givesName
 
 -- the target of a, mx or ptr: the current domain where there is no domain-spec
 unfoldable pub targetOr : Mail → List ℕ → Optional (List ℕ) → Counts → Check Naming
@@ -143,38 +159,46 @@ unfoldable pub counting : {A : Type 0} → (Counts → Check A) → (Counts → 
 counting refused go c = cond (ltb (c .lookups) most-lookups) (go (begun c)) (refused c)
 
 -- "A malformed target of a, mx, ptr or exists doesn't match, counts its term and asks nothing of its own"
-unfoldable pub withName : Naming → Counts → (List ℕ → Check Step) → Check Step
-withName malformed c go = step no c
-withName (name n) c go = go n
+unfoldable pub withName : (List ℕ → Check Step) → Counts → Naming → Check Step
+withName go c malformed = step no c
+withName go c (name n) = go n
+
+-- a, mx, ptr or exists once it is counted: its target, "p's questions .. before all else", then its own questions
+unfoldable pub naming : Mail → List ℕ → Optional (List ℕ) → (Counts → List ℕ → Check Step) → Counts → Check Step
+naming mail d spec go c = bind (targetOr mail d spec c) (withName (go c) c)
+
+unfoldable pub named : Mail → List ℕ → Optional (List ℕ) → (Counts → List ℕ → Check Step) → Counts → Check Step
+named mail d spec go c = counting (step (stop 6)) (naming mail d spec go) c
 
 -- "each a, mx, ptr or exists counts the void answer to its own first question .., and the third gives permerror at once"
 unfoldable pub orVoid : Counts → List (List ℕ) → Check Step → Check Step
 orVoid c [] rest = cond (ltb (c .voids) most-voids) (step no (voided c)) (step (stop 6) (voided c))
 orVoid c (d ∷ ds) rest = rest
 
--- "A failed question gives temperror."
-unfoldable pub orFailed : Counts → Reply → (List (List ℕ) → Check Step) → Check Step
-orFailed c failed go = step (stop 5) c
-orFailed c (items ds) go = go ds
-
 abbrev pub matched : Bool → Counts → Check Step
 matched t c = cond t (step yes c) (step no c)
 
--- a: "the address question of the client's family"
+-- a: "the address question of the client's family"; "a failed question gives temperror"
+unfoldable pub aReply : Address → ℕ → Counts → Reply → Check Step
+aReply client n c failed = step (stop 5) c
+aReply client n c (items ds) = orVoid c ds (matched (anyMatches client n ds) c)
+
+unfoldable pub askA : Address → ℕ → Counts → List ℕ → Check Step
+askA client n c m = ask (addressKind client) m c (aReply client n c)
+
 unfoldable pub aStep : Mail → List ℕ → Optional (List ℕ) → ℕ → Counts → Check Step
-aStep mail d spec n c =
-    counting (step (stop 6))
-    (λ c. bind (targetOr mail d spec c)
-    (λ t. withName t c
-    (λ m. ask (addressKind (mail .client)) m c (λ r. orFailed c r (λ ds. orVoid c ds (matched (anyMatches (mail .client) n ds) c))))))
-    c
+aStep mail d spec n c = named mail d spec (askA (mail .client) n) c
 
 -- exists: "always A, matched by any item"
+unfoldable pub existsReply : Counts → Reply → Check Step
+existsReply c failed = step (stop 5) c
+existsReply c (items ds) = orVoid c ds (step yes c)
+
+unfoldable pub askExists : Counts → List ℕ → Check Step
+askExists c m = ask 1 m c (existsReply c)
+
 unfoldable pub existsStep : Mail → List ℕ → List ℕ → Counts → Check Step
-existsStep mail d spec c =
-    counting (step (stop 6))
-    (λ c. bind (target mail d spec c) (λ t. withName t c (λ m. ask 1 m c (λ r. orFailed c r (λ ds. orVoid c ds (step yes c))))))
-    c
+existsStep mail d spec c = named mail d (present spec) askExists c
 
 -- mx: the hosts "by preference .., ties in item order": an item before the first of a greater preference
 unfoldable pub insertHost : List ℕ → List (List ℕ) → List (List ℕ)
@@ -185,42 +209,52 @@ unfoldable pub byPreference : List (List ℕ) → List (List ℕ)
 byPreference [] = []
 byPreference (d ∷ ds) = insertHost d (byPreference ds)
 
+-- a host's addresses, with the hosts after it
+unfoldable pub hostReply : Address → ℕ → Counts → Check Step → Reply → Check Step
+hostReply client n c rest failed = step (stop 5) c
+hostReply client n c rest (items ds) = cond (anyMatches client n ds) (step yes c) rest
+
 -- "addresses are asked by preference until one matches ..; a nameless item asks nothing"
-unfoldable pub askHosts : Mail → ℕ → Counts → List (List ℕ) → Check Step
-askHosts mail n c [] = step no c
-askHosts mail n c (d ∷ ds) =
-    cond (eqb (length d) 2) (askHosts mail n c ds)
-    (ask (addressKind (mail .client)) (drop 2 d) c
-    (λ r. orFailed c r (λ addresses. cond (anyMatches (mail .client) n addresses) (step yes c) (askHosts mail n c ds))))
+unfoldable pub askHosts : Address → ℕ → Counts → List (List ℕ) → Check Step
+askHosts client n c [] = step no c
+askHosts client n c (d ∷ ds) =
+    cond (eqb (length d) 2) (askHosts client n c ds) (ask (addressKind client) (drop 2 d) c (hostReply client n c (askHosts client n c ds)))
 
 -- "over 10 items gives permerror"
 abbrev pub most-hosts : ℕ
 most-hosts = 10
 
-unfoldable pub mxStep : Mail → List ℕ → Optional (List ℕ) → ℕ → Counts → Check Step
-mxStep mail d spec n c =
-    counting (step (stop 6))
-    (λ c. bind (targetOr mail d spec c)
-    (λ t. withName t c
-    (λ m. ask 15 m c
-    (λ r. orFailed c r (λ ds. orVoid c ds (cond (leb (length ds) most-hosts) (askHosts mail n c (byPreference ds)) (step (stop 6) c)))))))
-    c
+unfoldable pub mxItems : Address → ℕ → Counts → List (List ℕ) → Check Step
+mxItems client n c ds = cond (leb (length ds) most-hosts) (askHosts client n c (byPreference ds)) (step (stop 6) c)
 
--- ptr: "the first 10 names, asked in order until one matches; one is validated if its addresses include the client, and a validated name matches if
--- it is the target or below it"; "a failed address question skips its name"
-unfoldable pub askNames : Mail → List ℕ → Counts → List (List ℕ) → Check Step
-askNames mail m c [] = step no c
-askNames mail m c (n ∷ ns) =
-    ask (addressKind (mail .client)) n c
-    (λ r. cond (includesClient (mail .client) r && atOrBelow n m) (step yes c) (askNames mail m c ns))
+unfoldable pub mxReply : Address → ℕ → Counts → Reply → Check Step
+mxReply client n c failed = step (stop 5) c
+mxReply client n c (items ds) = orVoid c ds (mxItems client n c ds)
+
+unfoldable pub askMx : Address → ℕ → Counts → List ℕ → Check Step
+askMx client n c m = ask 15 m c (mxReply client n c)
+
+unfoldable pub mxStep : Mail → List ℕ → Optional (List ℕ) → ℕ → Counts → Check Step
+mxStep mail d spec n c = named mail d spec (askMx (mail .client) n) c
+
+-- ptr: "one is validated if its addresses include the client, and a validated name matches if it is the target or below it"; "a failed address
+-- question skips its name". The name n, the target m, and the names after n.
+unfoldable pub nameReply : Address → List ℕ → Counts → List ℕ → Check Step → Reply → Check Step
+nameReply client m c n rest r = cond (includesClient client r && atOrBelow n m) (step yes c) rest
+
+-- "the first 10 names, asked in order until one matches"
+unfoldable pub askNames : Address → List ℕ → Counts → List (List ℕ) → Check Step
+askNames client m c [] = step no c
+askNames client m c (n ∷ ns) = ask (addressKind client) n c (nameReply client m c n (askNames client m c ns))
 
 -- "A failed PTR question yields no names"; it is no void answer
-unfoldable pub ptrReply : Mail → List ℕ → Counts → Reply → Check Step
-ptrReply mail m c failed = step no c
-ptrReply mail m c (items ds) = orVoid c ds (askNames mail m c (take most-names ds))
+unfoldable pub ptrReply : Address → List ℕ → Counts → Reply → Check Step
+ptrReply client m c failed = step no c
+ptrReply client m c (items ds) = orVoid c ds (askNames client m c (take most-names ds))
+
+-- "the reversed name in `in-addr.arpa` or `ip6.arpa`"
+unfoldable pub askPtr : Address → Counts → List ℕ → Check Step
+askPtr client c m = ask 12 (reversedName client) c (ptrReply client m c)
 
 unfoldable pub ptrStep : Mail → List ℕ → Optional (List ℕ) → Counts → Check Step
-ptrStep mail d spec c =
-    counting (step (stop 6))
-    (λ c. bind (targetOr mail d spec c) (λ t. withName t c (λ m. ask 12 (reversedName (mail .client)) c (ptrReply mail m c))))
-    c
+ptrStep mail d spec c = named mail d spec (askPtr (mail .client)) c

@@ -2,7 +2,7 @@
 -- the counts of that moment. By induction on how the check is reached, from the productions, records' claim and the tree of questions.
 use Prim.Native.Nat.{ℕ, zero, suc, _≤_, _<_}
 use mathlib.Core.Path.{_≡_, refl, ap, _∙_}
-use mathlib.Core.Logic.{⊎-elim}
+use mathlib.Core.Logic.{_↔_, ⊎-elim}
 use mathlib.Core.List.{List, [], _∷_, _++_}
 use native.Mathlib.Omega.{arith}
 use lib.ListN.{length, length-append}
@@ -18,9 +18,11 @@ use Rattle.records.specs.Reader.{readRecord, Reads, stop as reads-stop, step as
 use Rattle.records.specs.declared.RecordAnswer.{RecordAnswer}
 use Rattle.records.proofs.Laws.Records.{record-complete, record-sound}
 use Rattle.meaning.specs.declared.Counts.{Counts}
-use Rattle.meaning.specs.Tree.{Reply, failed, items, Table, Check, peek, Settled, settled, bind, then, answered, run, run-bind}
-use Rattle.meaning.specs.Mechanisms.{Mail, Match, no, stop, Step, target, most-lookups, begun, counting}
-use Rattle.meaning.specs.Evaluation.{Result, Sub, includeMatch, includeStep, bytesOr, mechanismStep, termStep, modifierOf, noneIsPermerror, noMatch, afterStep, tryTerms, termsAfter, termsFrom, readOutcome, evaluated, versioned, selected, textReply, textLookup, spfItems, spfReply, checkName, check, noCounts, evaluation, explanation, verdict}
+use Rattle.meaning.specs.Tree.{Reply, failed, items, Table, Check, Settled, settled, wanting, bind, answered, run}
+use Rattle.meaning.specs.Runs.{bind-is}
+use Rattle.meaning.specs.Mechanisms.{Mail, no, stop, Step, target, most-lookups, begun, counting}
+use Rattle.meaning.specs.Evaluation.{Result, Sub, includeMatch, checkTarget, another, includeOf, includeStep, bytesOr, mechanismStep, termStep, modifierOf, noneIsPermerror, redirectOf, noMatch, afterStep, tryTerms, termsAfter, termsFrom, termsOf, readOutcome, versioned, one, selection, textReply, textLookup, spfItems, spfReply, recordLookup, afterLookup, checkName, check, noCounts, evaluation, explanation, verdict}
+use Rattle.meaning.specs.Steps.{term-then}
 
 -- what a table has for the SPF question of a name is no "answered SPF entry with items"
 pub data NoSpfItems : Optional Reply → Type 0 where
@@ -64,33 +66,54 @@ pub data Reaches (t : Table) (mail : Mail) : ℕ → Naming → Counts → ℕ �
 abbrev pub permerror : Counts → Settled Result
 permerror c = settled (record { value = 6; counts = c; failing = absent })
 
+-- what record lookup comes to, by the texts of a domain
+module _ (t : Table) (d : List ℕ) (c : Counts) where
+  text-is : (ss : List (List ℕ)) → t 16 d ≡ present (items ss) → run t (textLookup d c) ≡ settled (selection (versioned ss))
+  unfolding textLookup run answered textReply
+  text-is ss e = rw e
+
+  texts-are : {ss : List (List ℕ)} → Texts t d ss → run t (recordLookup d c) ≡ settled (selection (versioned ss))
+  unfolding recordLookup spfReply spfItems run
+  texts-are (of-spf p) = ap (λ (r : Optional Reply). run t (spfReply d c r)) p
+  texts-are (of-txt p not-there q) = ap (λ (r : Optional Reply). run t (spfReply d c r)) p ∙ text-is _ q
+  texts-are (of-txt p not-answered q) = ap (λ (r : Optional Reply). run t (spfReply d c r)) p ∙ text-is _ q
+  texts-are (of-txt p void q) = ap (λ (r : Optional Reply). run t (spfReply d c r)) p ∙ text-is _ q
+
+  pub selects-one : (s : List ℕ) → Selects t d s → run t (recordLookup d c) ≡ settled (one s)
+  unfolding selection
+  selects-one s (only h x v) = texts-are x ∙ rw v
+
+  one-selects : (s : List ℕ) → 1 < labelCount d → run t (recordLookup d c) ≡ settled (one s) → Selects t d s
+  unfolding recordLookup textLookup textReply spfReply spfItems selection answered run
+  one-selects s h e = spf (t 99 d) refl e
+    where
+      single : (ss : List (List ℕ)) → settled (selection ss) ≡ settled (one s) → ss ≡ s ∷ []
+      single [] q = let z : _≡_ {A = ℕ} 0 1 = cc in absurd (omega arith)
+      single (u ∷ []) q = let z : u ≡ s = cc in rw z
+      single (u ∷ v ∷ r) q = let z : _≡_ {A = ℕ} 0 1 = cc in absurd (omega arith)
+
+      txt : (r : Optional Reply) → t 99 d ≡ r → NoSpfItems r → (x : Optional Reply) → t 16 d ≡ x
+          → answered x (wanting 16 d c) (λ y. run t (textReply y)) ≡ settled (one s) → Selects t d s
+      txt r p n absent g q = let z : _≡_ {A = ℕ} 0 1 = cc in absurd (omega arith)
+      txt r p n (present failed) g q = let z : _≡_ {A = ℕ} 0 1 = cc in absurd (omega arith)
+      txt r p n (present (items ss)) g q = only h (of-txt p n g) (single (versioned ss) q)
+
+      spf : (r : Optional Reply) → t 99 d ≡ r → run t (spfReply d c r) ≡ settled (one s) → Selects t d s
+      spf absent p q = txt absent p not-there (t 16 d) refl q
+      spf (present failed) p q = txt (present failed) p not-answered (t 16 d) refl q
+      spf (present (items [])) p q = txt (present (items [])) p void (t 16 d) refl q
+      spf (present (items (u ∷ us))) p q = only h (of-spf p) (single (versioned (u ∷ us)) q)
+
+-- a domain of more than one label selects a record exactly if record lookup comes to it
+pub selects-is : (t : Table) (d s : List ℕ) (c : Counts) → 1 < labelCount d → Selects t d s ↔ (run t (recordLookup d c) ≡ settled (one s))
+selects-is t d s c h = (selects-one t d c s, one-selects t d c s h)
+
 -- a check by the record that it selects
-text-is : (t : Table) (mail : Mail) (sub : Sub) (d : List ℕ) (c : Counts) (ss : List (List ℕ)) → t 16 d ≡ present (items ss)
-    → run t (textLookup mail sub d c) ≡ run t (selected mail sub d (versioned ss) c)
-unfolding textLookup run answered textReply
-text-is t mail sub d c ss e = rw e
-
-peeked : (t : Table) (d : List ℕ) (g : Optional Reply → Check Result) → run t (peek d g) ≡ run t (g (t 99 d))
-unfolding run
-peeked t d g = refl
-
-peek-is : (t : Table) (mail : Mail) (n : ℕ) (d : List ℕ) (c : Counts) → 1 < labelCount d
-    → run t (check (suc n) mail (name d) c) ≡ run t (spfReply mail (check n mail) d c (t 99 d))
-unfolding check checkName
-peek-is t mail n d c h = rw (lt-leb _ _ h) (peeked t d (spfReply mail (check n mail) d c))
-
-texts-are : (t : Table) (mail : Mail) (sub : Sub) (d : List ℕ) (c : Counts) {ss : List (List ℕ)} → Texts t d ss
-    → run t (spfReply mail sub d c (t 99 d)) ≡ run t (selected mail sub d (versioned ss) c)
-unfolding spfReply spfItems
-texts-are t mail sub d c (of-spf p) = rw p
-texts-are t mail sub d c (of-txt p not-there q) = rw p (text-is t mail sub d c _ q)
-texts-are t mail sub d c (of-txt p not-answered q) = rw p (text-is t mail sub d c _ q)
-texts-are t mail sub d c (of-txt p void q) = rw p (text-is t mail sub d c _ q)
-
 select-is : (t : Table) (mail : Mail) (n : ℕ) (d s : List ℕ) (c : Counts) → Selects t d s
     → run t (check (suc n) mail (name d) c) ≡ run t (readOutcome mail (check n mail) d s (readRecord s) c)
-unfolding selected evaluated
-select-is t mail n d s c (only h x v) = peek-is t mail n d c h ∙ texts-are t mail (check n mail) d c x ∙ rw v
+unfolding check checkName afterLookup
+select-is t mail n d s c (only h x v) =
+    rw (lt-leb _ _ h) (bind-is t (recordLookup d c) (afterLookup mail (check n mail) d c) (one s) (selects-one t d c s (only h x v)))
 
 -- the terms that are tried are those of the reading that the productions make
 terms-length : {p : ℕ} {w : List ℕ} {ts : List Placed} → Terms p w ts → length ts ≤ length w
@@ -108,35 +131,22 @@ reads-terms (suc f) h (reads-step {t = t} p r) = rw p (ap (λ (us : List Placed)
 
 read-is : (t : Table) (mail : Mail) (sub : Sub) (d s : List ℕ) (c : Counts) {ts : List Placed} → length s ≤ 4096 → Record s ts
     → run t (readOutcome mail sub d s (readRecord s) c) ≡ run t (tryTerms mail sub d ts ts c)
-unfolding readOutcome
+unfolding readOutcome termsOf
 read-is t mail sub d s c {ts} h r =
     let a = record-complete r h in
     rw (a .accepted, reads-terms (length s) (record-length r) (a .walk))
 
--- a lookup that is begun
-counting-is : {A : Type 0} (refuse go : Counts → Check A) (c : Counts) → c .lookups < most-lookups → counting refuse go c ≡ go (begun c)
-unfolding counting
-counting-is refuse go c h = rw (lt-ltb _ _ h)
-
--- the first of two checks by what it settles at
-bind-is : {A B : Type 0} (t : Table) (m : Check A) (f : A → Check B) (a : A) → run t m ≡ settled a → run t (bind m f) ≡ run t (f a)
-unfolding then
-bind-is t m f a e = run-bind t m f ∙ rw e
-
--- one term by what it settles at
-term-is : (t : Table) (mail : Mail) (sub : Sub) (d : List ℕ) (all-terms : List Placed) (x : Placed) (ts : List Placed) (c l : Counts) (m : Match)
-    → run t (termStep mail sub d (x .said) (x .said .sign) c) ≡ settled (record { match = m; counts = l })
-    → run t (tryTerms mail sub d all-terms (x ∷ ts) c) ≡ run t (afterStep d all-terms (x .said) m l (tryTerms mail sub d all-terms ts))
-unfolding tryTerms
-term-is t mail sub d all-terms x ts c l m e = bind-is t (termStep mail sub d (x .said) (x .said .sign) c) _ _ e
+-- a check that is begun, by its target
+another-is : (t : Table) (mail : Mail) (sub : Sub) (d spec e : List ℕ) (c : Counts) → c .lookups < most-lookups
+    → run t (target mail d spec (begun c)) ≡ settled (name e) → run t (another mail sub d spec c) ≡ run t (sub (name e) (begun c))
+unfolding another counting checkTarget
+another-is t mail sub d spec e c h g = rw (lt-ltb _ _ h) (bind-is t (target mail d spec (begun c)) _ (name e) g)
 
 -- an include's permerror stops the check
-include-error : (t : Table) (mail : Mail) (sub : Sub) (d spec e : List ℕ) (c z : Counts) → c .lookups < most-lookups
-    → run t (target mail d spec (begun c)) ≡ settled (name e) → run t (sub (name e) (begun c)) ≡ permerror z
+include-error : (t : Table) (mail : Mail) (sub : Sub) (d spec : List ℕ) (c z : Counts) → run t (another mail sub d spec c) ≡ permerror z
     → run t (includeStep mail sub d spec c) ≡ settled (record { match = stop 6; counts = z })
-unfolding includeStep run includeMatch
-include-error t mail sub d spec e c z h g p =
-    ap (λ (m : Check Step). run t m) (counting-is _ _ c h) ∙ bind-is t (target mail d spec (begun c)) _ (name e) g ∙ bind-is t (sub (name e) (begun c)) _ _ p
+unfolding includeStep includeOf includeMatch run
+include-error t mail sub d spec c z p = bind-is t (another mail sub d spec c) includeOf _ p
 
 include-is : (t : Table) (mail : Mail) (sub : Sub) (d : List ℕ) (x : Said) (spec : List ℕ) (sign : ℕ) (c : Counts)
     → x .name ≡ bytes "include" → x .sign ≡ present sign → x .argument ≡ present spec
@@ -145,24 +155,22 @@ unfolding termStep mechanismStep bytesOr same
 include-is t mail sub d x spec sign c n g a = rw (g, n, a)
 
 -- a redirect's permerror is the check's
-redirect-error : (t : Table) (mail : Mail) (sub : Sub) (d spec e : List ℕ) (c z : Counts) → c .lookups < most-lookups
-    → run t (target mail d spec (begun c)) ≡ settled (name e) → run t (sub (name e) (begun c)) ≡ permerror z
+redirect-error : (t : Table) (mail : Mail) (sub : Sub) (d spec : List ℕ) (c z : Counts) → run t (another mail sub d spec c) ≡ permerror z
     → run t (noMatch mail sub d (present spec) c) ≡ permerror z
-unfolding noMatch run noneIsPermerror
-redirect-error t mail sub d spec e c z h g p =
-    ap (λ (m : Check Result). run t m) (counting-is _ _ c h) ∙ bind-is t (target mail d spec (begun c)) _ (name e) g ∙ bind-is t (sub (name e) (begun c)) _ _ p
+unfolding noMatch redirectOf noneIsPermerror run
+redirect-error t mail sub d spec c z p = bind-is t (another mail sub d spec c) redirectOf _ p
 
 -- a permerror of the check that is begun is one of the terms
 terms-error : (t : Table) (mail : Mail) (sub : Sub) (d : List ℕ) (all-terms : List Placed) {ts : List Placed} {c k : Counts} {e : List ℕ} (z : Counts)
     → Begins t mail sub d all-terms ts c e k → run t (sub (name e) k) ≡ permerror z → run t (tryTerms mail sub d all-terms ts c) ≡ permerror z
 unfolding tryTerms afterStep run
 terms-error t mail sub d all-terms z (past-term {x = x} {ts = ts} {c = c} {l = l} m b) p =
-    term-is t mail sub d all-terms x ts c l no m ∙ terms-error t mail sub d all-terms z b p
+    term-then t mail sub d all-terms x ts c l no m ∙ terms-error t mail sub d all-terms z b p
 terms-error t mail sub d all-terms z (by-include {x = x} {ts = ts} {c = c} {e = e} {spec = spec} {sign = sign} n g a h q) p =
-    term-is t mail sub d all-terms x ts c z (stop 6)
-    (ap (λ (m : Check Step). run t m) (include-is t mail sub d (x .said) spec sign c n g a) ∙ include-error t mail sub d spec e c z h q p)
+    term-then t mail sub d all-terms x ts c z (stop 6)
+    (ap (λ (m : Check Step). run t m) (include-is t mail sub d (x .said) spec sign c n g a) ∙ include-error t mail sub d spec c z (another-is t mail sub d spec e c h q ∙ p))
 terms-error t mail sub d all-terms z (by-redirect {c = c} {e = e} {spec = spec} r h q) p =
-    rw r (redirect-error t mail sub d spec e c z h q p)
+    rw r (redirect-error t mail sub d spec c z (another-is t mail sub d spec e c h q ∙ p))
 
 -- A text is outside the grammar: it is over 4,096 bytes, or the productions make no reading of it.
 pub data Outside (s : List ℕ) : Type 0 where

@@ -1,6 +1,6 @@
 -- An answer table as what it has for each question.
 use Prim.Native.Nat.{ℕ}
-use mathlib.Core.List.{List, []}
+use mathlib.Core.List.{List}
 use mathlib.Core.Bool.{cond}
 use lib.Dec.{eqb}
 use Rattle.table.specs.Layout.{Entry}
@@ -10,9 +10,12 @@ use Rattle.records.specs.Readings.{Optional, absent, present}
 use Rattle.meaning.specs.Tree.{Reply, failed, items, Table}
 
 -- "status (0 answered, 2 failed, 3 no such name)"; the last has no items
+unfoldable pub replyBy : ℕ → List (List ℕ) → Reply
+replyBy status ds = cond (eqb status 2) failed (items ds)
+
 unfoldable pub replyOf : Lookup → Optional Reply
 replyOf Lookup.absent = absent
-replyOf (Lookup.present e) = present (cond (eqb (e .status) 2) failed (items (e .items)))
+replyOf (Lookup.present e) = present (replyBy (e .status) (e .items))
 
 -- the table that bytes encode
 unfoldable pub asks : List ℕ → Table

@@ -5,3 +5,74 @@ pub struct Counts {
     pub lookups: u8,
     pub voids: u8,
 }
+
+// How a check ends: 01's result by its number, or a question without an entry, its kind and its name's length.
+pub enum Ending {
+    Result(u8),
+    Wanting { kind: u16, length: usize },
+}
+
+// Whether a term matches.
+pub enum Matched {
+    Yes,
+    No,
+    Stop(Ending),
+}
+
+// What a term comes to, with the counts after it.
+pub struct Stepped {
+    pub matched: Matched,
+    pub counts: Counts,
+}
+
+// What a domain-spec names: a name that was written, with its length; nothing; or a question of p without an entry.
+pub enum Target {
+    Name(usize),
+    Malformed,
+    Wanting { kind: u16, length: usize },
+}
+
+// The value of p: the current domain, a name that stands in the table, `unknown`, or a question without an entry.
+pub enum PValue {
+    Current,
+    Listed { from: usize, to: usize },
+    Unknown,
+    Wanting { kind: u16, length: usize },
+}
+
+// A part of the table, by its places.
+pub struct Span {
+    pub from: usize,
+    pub to: usize,
+}
+
+// What record lookup comes to: a result; the record that is selected, where its domain's name and its text stand in the table; or a question without
+// an entry.
+pub enum Lookup {
+    Ends(u8),
+    One { domain: Span, text: Span },
+    Wanting { kind: u16, length: usize },
+}
+
+// Where a fail's explanation is: nowhere; or in the record whose domain's name and text stand in the table, with its terms from a place on.
+pub enum Failing {
+    Nowhere,
+    In {
+        domain: Span,
+        text: Span,
+        terms: usize,
+    },
+}
+
+// What a check comes to, with the counts after it, and for a fail where its explanation is.
+pub struct Checked {
+    pub ending: Ending,
+    pub counts: Counts,
+    pub failing: Failing,
+}
+
+// What fetching an explanation comes to: the length of its text, or a question without an entry.
+pub enum Explained {
+    Text(usize),
+    Wanting { kind: u16, length: usize },
+}

@@ -167,7 +167,7 @@ pub fn argument(s: &[u8], at: usize, next: usize, term: Term) -> &[u8]
 }
 
 // Whether the version section stands at the front.
-fn has_version(s: &[u8]) -> bool
+pub fn has_version(s: &[u8]) -> bool
     ensures { λ r. ⌜ r ≡ hasVersion (now (s .entry)) ⌝ }
 {
     if words::equal_word(bytes::part(s, 0, 6), b"v=spf1") {

@@ -12,3 +12,5 @@ pub mod Finding
 pub mod Checks
 -- Rules: one for each way out of the functions on the whole table.
 pub mod Rules
+-- Places: an entry's name and its items' bytes as parts of the table.
+pub mod Places

@@ -106,7 +106,7 @@ module _ (a : Address) (k : ℕ)
       let t = value-taken (inDecimal k) z₄ v₄ n₄ w₄ (decimal-fits k z₄ size₄) in
       rw (← i, ← f, ← c, ← t) w
 
--- `write_with_sender`
+-- `write_expansion`
 module _ (sender : List ℕ) (bound : length sender ≤ 320)
     (z₁ v₁ : List ℕ) (n₁ : ℕ) (w₁ : Wrote (localPart sender ++ (64 ∷ senderDomain sender)) z₁ 0 v₁ n₁) (size₁ : length z₁ ≡ 331)
     (z₂ v₂ : List ℕ) (n₂ : ℕ) (w₂ : Wrote (localPart sender) z₂ 0 v₂ n₂) (size₂ : length z₂ ≡ 320)

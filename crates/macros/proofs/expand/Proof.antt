@@ -18,8 +18,8 @@ are-short-requires c κs = search needs
 read-macro-string-requires : tie.Need-read-macro-string-requires
 read-macro-string-requires c κs = search needs
 
-write-with-sender-requires : tie.Need-write-with-sender-requires
-write-with-sender-requires c κs = search sender-bound
+write-expansion-requires : tie.Need-write-expansion-requires
+write-expansion-requires c κs = search sender-bound
 
 same-length : tie.Need-same-length
 same-length c = search needs
@@ -47,7 +47,7 @@ expand-spec =
     are-hosts-requires
     are-short-requires
     read-macro-string-requires
-    write-with-sender-requires
+    write-expansion-requires
     same-length
     returns
     returns-2

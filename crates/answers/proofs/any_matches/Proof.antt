@@ -1,0 +1,71 @@
+use Prim.Native.Nat.{_-_}
+use lib.ListN.{length as size}
+use Rattle.table.proofs.Laws.Items.{next-less}
+use Rattle.answers.proofs.Laws.Addresses.{Unmatched, unmatched-start, any-found, any-next, any-end}
+use borrow.Author.Needs.{needs}
+use Rattle.answers.proofs.any_matches.Statement.{statement}
+use Rattle.answers.proofs.any_matches.Tie as tie
+use Rattle.answers.proofs.any_matches.Reads as reads
+use Rattle.answers.proofs.any_matches.Lts as lts
+use Rattle.address.proofs.from_octets.Reads as from-octets-reads
+use Rattle.answers.proofs.item_matches.Reads as item-matches-reads
+use Rattle.table.proofs.items.item.Reads as item-reads
+use Rattle.table.proofs.items.next_item.Reads as next-item-reads
+
+abbrev Inv-loop : tie.InvT-loop
+Inv-loop client length items at₀ at = Unmatched client length items at
+
+abbrev μ-loop : tie.MeasureT-loop
+μ-loop client length items at₀ at = size items - at
+
+-- src/lib.rt:47:5
+loop-holds : tie.Need-loop-holds Inv-loop μ-loop
+loop-holds c = search unmatched-start
+
+-- src/lib.rt:48:62
+item-requires : tie.Need-item-requires Inv-loop μ-loop
+item-requires c κs = search needs
+
+-- src/lib.rt:48:41
+from-octets-requires : tie.Need-from-octets-requires Inv-loop μ-loop
+from-octets-requires c κs = search needs
+
+-- src/lib.rt:48:12
+item-matches-requires : tie.Need-item-matches-requires Inv-loop μ-loop
+item-matches-requires c κs = search needs
+
+-- src/lib.rt:49:13
+returns : tie.Need-returns Inv-loop μ-loop
+returns c = search any-found
+
+-- src/lib.rt:51:9
+next-item-requires : tie.Need-next-item-requires Inv-loop μ-loop
+next-item-requires c κs = search needs
+
+-- src/lib.rt:47:5
+loop-less : tie.Need-loop-less Inv-loop μ-loop
+loop-less c = search next-less
+
+-- src/lib.rt:47:5
+loop-again : tie.Need-loop-again Inv-loop μ-loop
+loop-again c = search any-next
+
+-- src/lib.rt:43:1
+returns-2 : tie.Need-returns-2 Inv-loop μ-loop
+returns-2 c = search any-end
+
+pub any-matches-spec : {M : Type 1} → statement M
+any-matches-spec =
+    tie.close
+    (tie.spec
+    Inv-loop
+    μ-loop
+    loop-holds
+    item-requires
+    from-octets-requires
+    item-matches-requires
+    returns
+    next-item-requires
+    loop-less
+    loop-again
+    returns-2)

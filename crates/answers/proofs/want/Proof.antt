@@ -1,0 +1,22 @@
+use Rattle.text.proofs.Laws.Writing.{wrote-over}
+use borrow.Author.Needs.{needs}
+use Rattle.answers.proofs.want.Statement.{statement}
+use Rattle.answers.proofs.want.Tie as tie
+use Rattle.answers.proofs.want.Reads as reads
+use Rattle.answers.proofs.want.Lts as lts
+use Rattle.text.proofs.writing.put_all.Reads as put-all-reads
+
+-- src/lib.rt:70:5
+put-all-requires : tie.Need-put-all-requires
+put-all-requires c κs = search needs
+
+-- src/lib.rt:67:1
+same-length : tie.Need-same-length
+same-length c = search needs
+
+-- src/lib.rt:67:1
+returns : tie.Need-returns
+returns c = search wrote-over
+
+pub want-spec : {M : Type 1} → statement M
+want-spec = tie.close (tie.spec put-all-requires same-length returns)

@@ -1,0 +1,1 @@
+-- This crate's contracts are said in the definitions of the crates below.

@@ -1,0 +1,6 @@
+-- Beginning: a lookup that is begun, and the check of a domain up to its record.
+pub mod Beginning
+-- Deciding: the check of a given domain, its explanation, and the refusals before it.
+pub mod Deciding
+-- Walking: the terms of a record, one after the other.
+pub mod Walking

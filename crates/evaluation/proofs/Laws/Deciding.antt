@@ -1,0 +1,244 @@
+-- The check of a domain as it was given, the explanation after it, and the refusals before it: one rule for each way out of their functions; and what
+-- the definition says, by the table's list of entries. From the definitions of the evaluation and the inversions of the answers below.
+use Prim.Native.Nat.{ℕ, zero, suc, _+_, _≤_, _<_}
+use mathlib.Core.Path.{_≡_, refl, sym, ap, subst, _∙_}
+use mathlib.Core.List.{List, [], map}
+use mathlib.Core.Bool.{Bool, true, false, cond, _&&_}
+use native.Mathlib.Omega.{arith}
+use lib.Dec.{eqb, leb}
+use lib.ListN.{length, take, length-take}
+use borrow.Author.Tests.{le-leb, lt-leb, leb-true, eq-eqb, ne-eqb}
+use Rattle.text.specs.Bytes.{part, lower, within, isPrintable}
+use Rattle.text.specs.Lists.{all}
+use Rattle.text.specs.Writing.{overwritten}
+use Rattle.text.proofs.Laws.Spans.{front-part}
+use Rattle.text.proofs.Laws.Tests.{cond-elim, and-left, and-right}
+use Rattle.address.specs.declared.Address.{Address}
+use Rattle.address.specs.Octets.{asClient}
+use Rattle.domain.specs.Names.{isName}
+use Rattle.domain.specs.Normal.{Naming, name, malformed, withoutDot, lowered, normal, nameAnswer, nameBuffer}
+use Rattle.domain.specs.declared.Name.{Name}
+use Rattle.table.specs.declared.TableAnswer.{TableAnswer}
+use Rattle.table.specs.declared.TableAnswer.the-variants.{Accepted, TooLong, Malformed, Repeated}
+use Rattle.table.specs.Numbers.{Report, Place, accepted, refused as table-refused, reported as table-reported}
+use Rattle.table.specs.Checked.{Checked, Encoded, whole}
+use Rattle.table.specs.Reader.{entriesOf, checkTable}
+use Rattle.table.proofs.Laws.Checks.{checked}
+use Rattle.table.proofs.Laws.Entries.{entries-complete}
+use Rattle.macros.specs.Expansion.{isSender, isHost, isShort}
+use Rattle.meaning.specs.declared.Counts.{Counts}
+use Rattle.meaning.specs.declared.Ending.{Ending}
+use Rattle.meaning.specs.declared.Explained.{Explained}
+use Rattle.meaning.specs.declared.Target.{Target}
+use Rattle.meaning.specs.declared.Checked.{Checked as CheckAnswer}
+use Rattle.meaning.specs.Tree.{Table, Check, give, Settled, settled, wanting, bind, then, run, run-bind}
+use Rattle.meaning.specs.Tables.{asks}
+use Rattle.meaning.specs.Mechanisms.{Mail}
+use Rattle.meaning.specs.Evaluation.{Result, ended, checkName, check, noCounts, evaluation, explanation, Verdict, verdict}
+use Rattle.meaning.specs.Outcomes.{mailOf, wantedBuffer, TargetIs, failingOf, CheckedIs, Says as CheckSays, SaysText}
+use Rattle.meaning.specs.Inversions.{Gives, Wants, gives-bind, wants-bind, target-name, checked-result, checked-wants, text-written, text-wants}
+use Rattle.targets.proofs.Laws.Naming.{Short, name-short, naming-written, naming-malformed}
+use Rattle.evaluation.specs.declared.Answer.{Answer}
+use Rattle.evaluation.specs.Checks.{endedOf}
+use Rattle.evaluation.specs.Numbers.{Outcome, refused, refused-at, settles, answerOf, nameAfter, textAfter, Says}
+use Rattle.evaluation.specs.Evaluating.{mailFor, hasRoom, refusalOf, afterTable, evaluated}
+use Rattle.evaluation.specs.Answers.{tableOf, Fit, refusedBy, Answers, no-sender, no-host, long-domain, no-room, bad-table, decides, Answered}
+
+-- a given domain's name has at most 253 bytes
+normal-short : (s : List ℕ) → Short (normal s)
+unfolding normal lowered Short
+normal-short s = cond-elim Short (isName (map lower (withoutDot s))) (λ e. name-short (map lower (withoutDot s)) e) (λ _. tt)
+
+-- check_given
+module _ (domain : List ℕ) (r : Name) (p : r ≡ nameAnswer (normal domain)) where
+  malformed-is : (x : Naming) → r ≡ nameAnswer x → r ≡ Name.Malformed → x ≡ malformed
+  malformed-is (name s) q e = let z : _≡_ {A = ℕ} 0 1 = cc in absurd (omega arith)
+  malformed-is malformed q e = refl
+
+  module _ (n : ℕ) (e : r ≡ Name.Written n) (z to : List ℕ) (w : to ≡ nameBuffer (normal domain) z) (room : 253 ≤ length z) where
+    written : (normal domain ≡ name (take n to)) × (n ≤ 253)
+    unfolding wantedBuffer
+    written =
+        let g = target-name noCounts (settled (normal domain)) (Target.Name n) to [] []
+        (record { target = naming-written (normal domain) (normal-short domain) z to room r p w n e noCounts; buffer = refl }) n refl in
+        (settled-same (g .0 .is), g .1)
+      where
+        inner : Settled Naming → Naming
+        inner (settled x) = x
+        inner (wanting kind m c) = malformed
+
+        settled-same : settled (normal domain) ≡ settled (name (take n to)) → normal domain ≡ name (take n to)
+        settled-same q = ap inner q
+
+    pub given-small : (d : List ℕ) → d ≡ part to 0 n → length d ≤ 253
+    given-small d i = let k = written .1 in rw (i, front-part to n) (simp length-take (omega arith))
+
+    pub given-checked : (t : List ℕ) (mail : Mail) (b : List ℕ) (o : CheckAnswer) (d a : List ℕ) → d ≡ part to 0 n
+        → ((k : ℕ) → 10 ≤ k + 0 → CheckSays t (run (asks t) (check (suc k) mail (name d) noCounts)) o b a)
+        → CheckSays t (run (asks t) (evaluation mail domain)) o b a
+    unfolding evaluation
+    given-checked t mail b o d a i f =
+        let j : d ≡ take n to = i ∙ front-part to n in
+        rw (written .0, ← j) (f 10 (omega arith))
+
+  pub given-malformed : (t : List ℕ) (mail : Mail) (b : List ℕ) (o : CheckAnswer) → r ≡ Name.Malformed → o ≡ endedOf 0 noCounts → CheckSays t (run (asks t) (evaluation mail domain)) o b b
+  unfolding evaluation check checkName run CheckedIs failingOf wantedBuffer
+  given-malformed t mail b o e h = rw (malformed-is (normal domain) p e, h) (record { checked = (refl, refl, refl); buffer = refl })
+
+-- decide
+explaining : Mail → Result → Check Verdict
+explaining mail r = bind (explanation mail (r .failing) (r .counts)) (λ x. give (record { value = r .value; counts = r .counts; text = x }))
+
+module _ (t : List ℕ) (mail : Mail) (domain : List ℕ) (b a : List ℕ) (o : CheckAnswer) (s : CheckSays t (run (asks t) (evaluation mail domain)) o b a) where
+  wants-answer : (x : Settled Verdict) (kind n : ℕ) (c : Counts) (b z u v : List ℕ) → Wants x kind n c b z → v ≡ u → Says (settles x) (Answer.Wanting kind n c) b z u v
+  unfolding answerOf nameAfter textAfter
+  wants-answer x kind n c b z u v w e = rw (w .is) (record { answer = ap (λ (m : ℕ). Answer.Wanting kind m c) (w .size-is); name-buffer = w .buffer; text-buffer = e })
+
+  pub decide-wants : (kind n : ℕ) → o .ending ≡ Ending.Wanting kind n → (u : List ℕ) → Says (settles (run (asks t) (verdict mail domain))) (Answer.Wanting kind n (o .counts)) b a u u
+  unfolding verdict
+  decide-wants kind n e u = wants-answer _ kind n (o .counts) b a u u (wants-bind (asks t) (evaluation mail domain) _ kind n (o .counts) b a (checked-wants t _ o b a s kind n e)) refl
+
+  module _ (v : ℕ) (e : o .ending ≡ Ending.Result v) (x : Explained) (u u′ z : List ℕ)
+      (w : SaysText (o .counts) (run (asks t) (explanation mail (failingOf t (o .failing)) (o .counts))) x u u′ a z) where
+    explained-is : run (asks t) (verdict mail domain)
+        ≡ run (asks t) (bind (explanation mail (failingOf t (o .failing)) (o .counts)) (λ x. give (record { value = v; counts = o .counts; text = x })))
+    unfolding verdict
+    explained-is = gives-bind (asks t) (evaluation mail domain) _ (record { value = v; counts = o .counts; failing = failingOf t (o .failing) }) (checked-result t _ o b a s v e .is)
+
+    kept : a ≡ b
+    kept = checked-result t _ o b a s v e .kept
+
+    pub decide-explained : (n : ℕ) → x ≡ Explained.Text n → Says (settles (run (asks t) (verdict mail domain))) (Answer.Decided v (o .counts) n) b z u u′
+    unfolding run answerOf nameAfter textAfter
+    decide-explained n f =
+        let g = text-written (o .counts) _ x u u′ a z w n f in
+        let f : List ℕ → Check Verdict = λ x. give (record { value = v; counts = o .counts; text = x }) in
+        rw (explained-is, gives-bind (asks t) (explanation mail (failingOf t (o .failing)) (o .counts)) f (g .0) (g .1))
+        (record { answer = ap (Answer.Decided v (o .counts)) (g .2); name-buffer = g .4 ∙ kept; text-buffer = g .3 })
+
+    pub decide-asks : (kind n : ℕ) → x ≡ Explained.Wanting kind n → Says (settles (run (asks t) (verdict mail domain))) (Answer.Wanting kind n (o .counts)) b z u u′
+    decide-asks kind n f =
+        let g = text-wants (o .counts) _ x u u′ a z w kind n f in
+        rw (explained-is, ← kept)
+        (wants-answer _ kind n (o .counts) a z u u′
+        (wants-bind (asks t) (explanation mail (failingOf t (o .failing)) (o .counts)) (λ x. give (record { value = v; counts = o .counts; text = x })) kind n (o .counts) a z (g .0)) (g .1))
+
+-- what the definition says, by the table's list of entries
+table-is : (t : List ℕ) → asks t ≡ tableOf (entriesOf t)
+unfolding asks tableOf
+table-is t = refl
+
+-- the tests of 20 to 23
+first-refused : (x : Outcome) (n : ℕ) (s h d a b : Bool) → n ≡ cond s (cond h (cond d (cond a (cond b 0 23) 23) 22) 21) 20 → (n ≡ 0 → ⊥)
+    → cond s (cond h (cond d (cond (a && b) x (refused 23)) (refused 22)) (refused 21)) (refused 20) ≡ refused n
+first-refused x n true true true true true e k = absurd (k e)
+first-refused x n true true true true false e k = rw e
+first-refused x n true true true false b e k = rw e
+first-refused x n true true false a b e k = rw e
+first-refused x n true false d a b e k = rw e
+first-refused x n false h d a b e k = rw e
+
+none-refused : (s h d a b : Bool) → _≡_ {A = ℕ} 0 (cond s (cond h (cond d (cond a (cond b 0 23) 23) 22) 21) 20) → (s ≡ true) × (h ≡ true) × (d ≡ true) × ((a && b) ≡ true)
+none-refused true true true true true e = (refl, refl, refl, refl)
+none-refused true true true true false e = absurd (omega arith)
+none-refused true true true false b e = absurd (omega arith)
+none-refused true true false a b e = absurd (omega arith)
+none-refused true false d a b e = absurd (omega arith)
+none-refused false h d a b e = absurd (omega arith)
+
+module _ (client : Address) (domain sender helo receiver : List ℕ) (seconds : ℕ) (table name text : List ℕ) where
+  by-entries : Fit domain sender helo receiver name text → {n : ℕ} → Checked table (accepted n)
+      → Answers client domain sender helo receiver seconds table name text (settles (run (asks table) (verdict (mailFor client sender helo receiver seconds) domain)))
+  by-entries f (whole {es = es} h e) =
+      rw (table-is table, entries-complete (e .entries)) (decides f h e)
+
+  by-table : Fit domain sender helo receiver name text → (a : TableAnswer) → Checked table (table-reported a)
+      → Answers client domain sender helo receiver seconds table name text (afterTable a (run (asks table) (verdict (mailFor client sender helo receiver seconds) domain)))
+  unfolding afterTable
+  by-table f TooLong c = bad-table f c
+  by-table f (Malformed p) c = bad-table f c
+  by-table f (Repeated p) c = bad-table f c
+  by-table f (Accepted n) c = by-entries f c
+
+  pub evaluated-answers : Answers client domain sender helo receiver seconds table name text (evaluated client domain sender helo receiver seconds table name text)
+  unfolding evaluated
+  evaluated-answers =
+      cond-elim A (isSender sender)
+      (λ s. cond-elim A (isHost helo && isHost receiver)
+      (λ h. cond-elim A (isShort domain)
+      (λ d. cond-elim A (hasRoom name text)
+      (λ r. by-table (record { sender-fits = s; hosts-fit = h; domain-fits = d; room = r }) (checkTable table) (checked table))
+      (λ r. no-room s h d r))
+      (λ d. long-domain s h d))
+      (λ h. no-host s h))
+      (λ s. no-sender s)
+    where
+      A : Outcome → Type 0
+      A o = Answers client domain sender helo receiver seconds table name text o
+
+  module _ (r : Answer) (name′ text′ : List ℕ) where
+    both : Says (evaluated client domain sender helo receiver seconds table name text) r name name′ text text′
+        → Says (evaluated client domain sender helo receiver seconds table name text) r name name′ text text′
+        × Answered client domain sender helo receiver seconds table r name name′ text text′
+    both s = (s, record { outcome = _; answers = evaluated-answers; says = s })
+
+    refused-says : (n : ℕ) → evaluated client domain sender helo receiver seconds table name text ≡ refused n → r ≡ Answer.Refused n → name′ ≡ name → text′ ≡ text
+        → Says (evaluated client domain sender helo receiver seconds table name text) r name name′ text text′
+    unfolding answerOf nameAfter textAfter
+    refused-says n e h i j = rw e (record { answer = h; name-buffer = i; text-buffer = j })
+
+  pub evaluated-refused : (n : ℕ) → n ≡ refusalOf domain sender helo receiver (length name) (length text) → (n ≡ 0 → ⊥)
+      → Says (evaluated client domain sender helo receiver seconds table name text) (Answer.Refused n) name name text text
+      × Answered client domain sender helo receiver seconds table (Answer.Refused n) name name text text
+  unfolding refusalOf evaluated hasRoom
+  evaluated-refused n e h =
+      both (Answer.Refused n) name text
+      (refused-says (Answer.Refused n) name text n
+      (first-refused _ n (isSender sender) (isHost helo && isHost receiver) (isShort domain) (leb 253 (length name)) (leb 500 (length text)) e h) refl refl refl)
+
+  module _ (n : ℕ) (e : n ≡ refusalOf domain sender helo receiver (length name) (length text)) (h : n ≡ 0) where
+    fits : Fit domain sender helo receiver name text
+    unfolding refusalOf hasRoom
+    fits =
+        let f = none-refused (isSender sender) (isHost helo && isHost receiver) (isShort domain) (leb 253 (length name)) (leb 500 (length text)) (sym h ∙ e) in
+        record { sender-fits = f .0; hosts-fit = f .1; domain-fits = f .2; room = f .3 }
+
+    pub sender-small : length sender ≤ 320
+    unfolding isSender within
+    sender-small =
+        let w : (leb 1 (length sender) && leb (length sender) 320) ≡ true = and-left (leb 1 (length sender) && leb (length sender) 320) (all isPrintable sender) (fits .sender-fits) in
+        leb-true (length sender) 320 (and-right (leb 1 (length sender)) (leb (length sender) 320) w)
+
+    module _ (a : TableAnswer) (q : a ≡ checkTable table) where
+      after-table : evaluated client domain sender helo receiver seconds table name text ≡ afterTable a (run (asks table) (verdict (mailFor client sender helo receiver seconds) domain))
+      unfolding evaluated
+      after-table = let f = fits in rw (f .sender-fits, f .hosts-fit, f .domain-fits, f .room, ← q)
+
+      pub evaluated-long : a ≡ TooLong → Says (evaluated client domain sender helo receiver seconds table name text) (Answer.Refused 24) name name text text
+          × Answered client domain sender helo receiver seconds table (Answer.Refused 24) name name text text
+      unfolding afterTable
+      evaluated-long k = both (Answer.Refused 24) name text (refused-says (Answer.Refused 24) name text 24 (after-table ∙ rw k) refl refl refl)
+
+      at-says : (number p : ℕ) → evaluated client domain sender helo receiver seconds table name text ≡ refused-at number p
+          → Says (evaluated client domain sender helo receiver seconds table name text) (Answer.RefusedAt number p) name name text text
+      unfolding answerOf nameAfter textAfter
+      at-says number p i = rw i (record { answer = refl; name-buffer = refl; text-buffer = refl })
+
+      pub evaluated-malformed : (p : ℕ) → a ≡ Malformed p → Says (evaluated client domain sender helo receiver seconds table name text) (Answer.RefusedAt 25 p) name name text text
+          × Answered client domain sender helo receiver seconds table (Answer.RefusedAt 25 p) name name text text
+      unfolding afterTable
+      evaluated-malformed p k = both (Answer.RefusedAt 25 p) name text (at-says 25 p (after-table ∙ rw k))
+
+      pub evaluated-repeated : (p : ℕ) → a ≡ Repeated p → Says (evaluated client domain sender helo receiver seconds table name text) (Answer.RefusedAt 26 p) name name text text
+          × Answered client domain sender helo receiver seconds table (Answer.RefusedAt 26 p) name name text text
+      unfolding afterTable
+      evaluated-repeated p k = both (Answer.RefusedAt 26 p) name text (at-says 26 p (after-table ∙ rw k))
+
+      pub evaluated-decided : (m : ℕ) → a ≡ Accepted m → (c : Address) → c ≡ asClient client → (r : Answer) (name′ text′ : List ℕ)
+          → Says (settles (run (asks table) (verdict (mailOf c sender helo receiver seconds) domain))) r name name′ text text′
+          → Says (evaluated client domain sender helo receiver seconds table name text) r name name′ text text′
+          × Answered client domain sender helo receiver seconds table r name name′ text text′
+      unfolding afterTable
+      evaluated-decided m k c i r name′ text′ s =
+          let f : evaluated client domain sender helo receiver seconds table name text ≡ settles (run (asks table) (verdict (mailFor client sender helo receiver seconds) domain)) = after-table ∙ rw k in
+          both r name′ text′ (rw (f, ← i) s)

@@ -1,0 +1,1616 @@
+use mathlib.Core.Path.{refl}
+use borrow.Author.Needs.{needs}
+use native.Mathlib.Omega.{arith}
+use lib.ListN.{length}
+use Rattle.meaning.specs.Outcomes.{mailOf, spanOf}
+use Rattle.evaluation.proofs.Laws.Beginning.{begin-eleventh, begin-malformed, begin-wants, begin-checked, target-small, span-small, domain-single, domain-ends, domain-wants, domain-one, place-small, record-refused, record-tried, include-done, tried-step, tried-include, nothing-left, redirected}
+use Rattle.evaluation.proofs.Laws.Walking.{Walk, walk-start, walk-past, walk-ended, walk-yes, walk-stop, walk-no, walk-less, walk-room, walk-small, walk-few}
+use Prim.Native.Nat.{ℕ, _<_, _+_, _-_, _*_}
+use Rattle.evaluation.proofs.check.sign_of.Reads as sign-of-reads
+use borrow.Fn.Kinds.{In}
+use borrow.Fn.PlainCycle.{Measures, is, falls, and}
+use Rattle.evaluation.proofs.check.begin_check.Reads as begin-check
+use Rattle.evaluation.proofs.check.begin_check.Kinds as begin-check-kinds
+use Rattle.evaluation.proofs.check.+begin_check+check_domain+evaluate_record+include+no_match+try_term+try_terms.Lts-begin_check as begin-check-lts
+use Rattle.evaluation.proofs.check.check_domain.Reads as check-domain
+use Rattle.evaluation.proofs.check.check_domain.Kinds as check-domain-kinds
+use Rattle.evaluation.proofs.check.+begin_check+check_domain+evaluate_record+include+no_match+try_term+try_terms.Lts-check_domain as check-domain-lts
+use Rattle.evaluation.proofs.check.evaluate_record.Reads as evaluate-record
+use Rattle.evaluation.proofs.check.evaluate_record.Kinds as evaluate-record-kinds
+use Rattle.evaluation.proofs.check.+begin_check+check_domain+evaluate_record+include+no_match+try_term+try_terms.Lts-evaluate_record as evaluate-record-lts
+use Rattle.evaluation.proofs.check.include.Reads as include
+use Rattle.evaluation.proofs.check.include.Kinds as include-kinds
+use Rattle.evaluation.proofs.check.+begin_check+check_domain+evaluate_record+include+no_match+try_term+try_terms.Lts-include as include-lts
+use Rattle.evaluation.proofs.check.no_match.Reads as no-match
+use Rattle.evaluation.proofs.check.no_match.Kinds as no-match-kinds
+use Rattle.evaluation.proofs.check.+begin_check+check_domain+evaluate_record+include+no_match+try_term+try_terms.Lts-no_match as no-match-lts
+use Rattle.evaluation.proofs.check.try_term.Reads as try-term
+use Rattle.evaluation.proofs.check.try_term.Kinds as try-term-kinds
+use Rattle.evaluation.proofs.check.+begin_check+check_domain+evaluate_record+include+no_match+try_term+try_terms.Lts-try_term as try-term-lts
+use Rattle.evaluation.proofs.check.try_terms.Reads as try-terms
+use Rattle.evaluation.proofs.check.try_terms.Kinds as try-terms-kinds
+use Rattle.evaluation.proofs.check.+begin_check+check_domain+evaluate_record+include+no_match+try_term+try_terms.Lts-try_terms as try-terms-lts
+use Rattle.domain.proofs.count_labels.Reads as count-labels-reads
+use Rattle.evaluation.proofs.check.ended.Reads as ended-reads
+use Rattle.evaluation.proofs.check.include_of.Reads as include-of-reads
+use Rattle.evaluation.proofs.check.none_is_permerror.Reads as none-is-permerror-reads
+use Rattle.evaluation.proofs.check.signed.Reads as signed-reads
+use Rattle.evaluation.proofs.check.wanting.Reads as wanting-reads
+use Rattle.selection.proofs.modifiers.find_redirect.Reads as find-redirect-reads
+use Rattle.targets.proofs.make_target.Reads as make-target-reads
+use Rattle.selection.proofs.select_record.Reads as select-record-reads
+use Rattle.mechanisms.proofs.try_plain.Reads as try-plain-reads
+use Rattle.records.proofs.read_record.Reads as read-record-reads
+use Rattle.records.proofs.read_term.Reads as read-term-reads
+use Rattle.text.proofs.bytes.part.Reads as part-reads
+use Rattle.evaluation.proofs.check.+begin_check+check_domain+evaluate_record+include+no_match+try_term+try_terms.{
+  statement,
+}
+use Rattle.evaluation.proofs.check.+begin_check+check_domain+evaluate_record+include+no_match+try_term+try_terms.Tie.{
+  close,
+}
+
+abbrev μ-begin-check : Measures 6 begin-check-kinds.ps ℕ
+μ-begin-check κs a = 7 * (10 - a .1 .1 .1 .1 .1 .1 .1 .1 .0 .lookups) + 1
+
+abbrev μ-check-domain : Measures 6 check-domain-kinds.ps ℕ
+μ-check-domain κs a = 7 * (10 - a .1 .1 .1 .1 .1 .1 .1 .0 .lookups) + 6
+
+abbrev μ-evaluate-record : Measures 5 evaluate-record-kinds.ps ℕ
+μ-evaluate-record κs a = 7 * (10 - a .1 .1 .1 .1 .1 .1 .1 .1 .0 .lookups) + 5
+
+abbrev μ-include : Measures 6 include-kinds.ps ℕ
+μ-include κs a = 7 * (10 - a .1 .1 .1 .1 .1 .1 .1 .1 .0 .lookups) + 2
+
+abbrev μ-no-match : Measures 6 no-match-kinds.ps ℕ
+μ-no-match κs a = 7 * (10 - a .1 .1 .1 .1 .1 .1 .1 .1 .1 .0 .lookups) + 2
+
+abbrev μ-try-term : Measures 6 try-term-kinds.ps ℕ
+μ-try-term κs a = 7 * (10 - a .1 .1 .1 .1 .1 .1 .1 .1 .1 .0 .lookups) + 3
+
+abbrev μ-try-terms : Measures 5 try-terms-kinds.ps ℕ
+μ-try-terms κs a = 7 * (10 - a .1 .1 .1 .1 .1 .1 .1 .1 .1 .0 .lookups) + 4
+
+abbrev begin-check-at : ℕ → In 6 begin-check-kinds.ps
+begin-check-at t =
+    and 6 begin-check-kinds.ps (is 6 begin-check-kinds.ps μ-begin-check t) begin-check.Pre
+
+abbrev begin-check-below : ℕ → In 6 begin-check-kinds.ps
+begin-check-below t =
+    and 6 begin-check-kinds.ps (falls 6 begin-check-kinds.ps _<_ μ-begin-check t) begin-check.Pre
+
+abbrev check-domain-at : ℕ → In 6 check-domain-kinds.ps
+check-domain-at t =
+    and 6 check-domain-kinds.ps (is 6 check-domain-kinds.ps μ-check-domain t) check-domain.Pre
+
+abbrev check-domain-below : ℕ → In 6 check-domain-kinds.ps
+check-domain-below t =
+    and
+    6
+    check-domain-kinds.ps
+    (falls 6 check-domain-kinds.ps _<_ μ-check-domain t)
+    check-domain.Pre
+
+abbrev evaluate-record-at : ℕ → In 5 evaluate-record-kinds.ps
+evaluate-record-at t =
+    and
+    5
+    evaluate-record-kinds.ps
+    (is 5 evaluate-record-kinds.ps μ-evaluate-record t)
+    evaluate-record.Pre
+
+abbrev evaluate-record-below : ℕ → In 5 evaluate-record-kinds.ps
+evaluate-record-below t =
+    and
+    5
+    evaluate-record-kinds.ps
+    (falls 5 evaluate-record-kinds.ps _<_ μ-evaluate-record t)
+    evaluate-record.Pre
+
+abbrev include-at : ℕ → In 6 include-kinds.ps
+include-at t = and 6 include-kinds.ps (is 6 include-kinds.ps μ-include t) include.Pre
+
+abbrev include-below : ℕ → In 6 include-kinds.ps
+include-below t = and 6 include-kinds.ps (falls 6 include-kinds.ps _<_ μ-include t) include.Pre
+
+abbrev no-match-at : ℕ → In 6 no-match-kinds.ps
+no-match-at t = and 6 no-match-kinds.ps (is 6 no-match-kinds.ps μ-no-match t) no-match.Pre
+
+abbrev no-match-below : ℕ → In 6 no-match-kinds.ps
+no-match-below t =
+    and 6 no-match-kinds.ps (falls 6 no-match-kinds.ps _<_ μ-no-match t) no-match.Pre
+
+abbrev try-term-at : ℕ → In 6 try-term-kinds.ps
+try-term-at t = and 6 try-term-kinds.ps (is 6 try-term-kinds.ps μ-try-term t) try-term.Pre
+
+abbrev try-term-below : ℕ → In 6 try-term-kinds.ps
+try-term-below t =
+    and 6 try-term-kinds.ps (falls 6 try-term-kinds.ps _<_ μ-try-term t) try-term.Pre
+
+abbrev try-terms-at : ℕ → In 5 try-terms-kinds.ps
+try-terms-at t = and 5 try-terms-kinds.ps (is 5 try-terms-kinds.ps μ-try-terms t) try-terms.Pre
+
+abbrev try-terms-below : ℕ → In 5 try-terms-kinds.ps
+try-terms-below t =
+    and 5 try-terms-kinds.ps (falls 5 try-terms-kinds.ps _<_ μ-try-terms t) try-terms.Pre
+
+-- src/check.rt:301:9
+begin-check-ended-requires : (t : ℕ) → begin-check-lts.Need-ended-requires (
+  ended-reads.Asked,
+  ended-reads.Learnt,
+  part-reads.Asked,
+  part-reads.Learnt,
+  make-target-reads.Asked,
+  make-target-reads.Learnt,
+  wanting-reads.Asked,
+  wanting-reads.Learnt,
+  check-domain-below t,
+  check-domain.Post,
+) (begin-check-at t) begin-check.Post
+begin-check-ended-requires t c κs = search needs
+
+-- src/check.rt:301:9
+begin-check-returns : (t : ℕ) → begin-check-lts.Need-returns (
+  ended-reads.Asked,
+  ended-reads.Learnt,
+  part-reads.Asked,
+  part-reads.Learnt,
+  make-target-reads.Asked,
+  make-target-reads.Learnt,
+  wanting-reads.Asked,
+  wanting-reads.Learnt,
+  check-domain-below t,
+  check-domain.Post,
+) (begin-check-at t) begin-check.Post
+begin-check-returns t c = search begin-eleventh
+
+-- src/check.rt:304:18
+begin-check-add-t18 : (t : ℕ) → begin-check-lts.Need-add-t18 (
+  ended-reads.Asked,
+  ended-reads.Learnt,
+  part-reads.Asked,
+  part-reads.Learnt,
+  make-target-reads.Asked,
+  make-target-reads.Learnt,
+  wanting-reads.Asked,
+  wanting-reads.Learnt,
+  check-domain-below t,
+  check-domain.Post,
+) (begin-check-at t) begin-check.Post
+begin-check-add-t18 t c = search needs
+
+-- src/check.rt:309:57
+begin-check-part-requires : (t : ℕ) → begin-check-lts.Need-part-requires (
+  ended-reads.Asked,
+  ended-reads.Learnt,
+  part-reads.Asked,
+  part-reads.Learnt,
+  make-target-reads.Asked,
+  make-target-reads.Learnt,
+  wanting-reads.Asked,
+  wanting-reads.Learnt,
+  check-domain-below t,
+  check-domain.Post,
+) (begin-check-at t) begin-check.Post
+begin-check-part-requires t c κs = search needs
+
+-- src/check.rt:309:114
+begin-check-slice-aggregate-make-target :
+    (t : ℕ) → begin-check-lts.Need-slice-aggregate-make-target (
+      ended-reads.Asked,
+      ended-reads.Learnt,
+      part-reads.Asked,
+      part-reads.Learnt,
+      make-target-reads.Asked,
+      make-target-reads.Learnt,
+      wanting-reads.Asked,
+      wanting-reads.Learnt,
+      check-domain-below t,
+      check-domain.Post,
+    ) (begin-check-at t) begin-check.Post
+begin-check-slice-aggregate-make-target t c = search needs
+
+-- src/check.rt:308:11
+begin-check-make-target-requires : (t : ℕ) → begin-check-lts.Need-make-target-requires (
+  ended-reads.Asked,
+  ended-reads.Learnt,
+  part-reads.Asked,
+  part-reads.Learnt,
+  make-target-reads.Asked,
+  make-target-reads.Learnt,
+  wanting-reads.Asked,
+  wanting-reads.Learnt,
+  check-domain-below t,
+  check-domain.Post,
+) (begin-check-at t) begin-check.Post
+begin-check-make-target-requires t c κs = search needs
+
+-- src/check.rt:311:30
+begin-check-enum-told : (t : ℕ) → begin-check-lts.Need-enum-told (
+  ended-reads.Asked,
+  ended-reads.Learnt,
+  part-reads.Asked,
+  part-reads.Learnt,
+  make-target-reads.Asked,
+  make-target-reads.Learnt,
+  wanting-reads.Asked,
+  wanting-reads.Learnt,
+  check-domain-below t,
+  check-domain.Post,
+) (begin-check-at t) begin-check.Post
+begin-check-enum-told t c = search needs
+
+-- src/check.rt:311:30
+begin-check-ended-requires-2 : (t : ℕ) → begin-check-lts.Need-ended-requires-2 (
+  ended-reads.Asked,
+  ended-reads.Learnt,
+  part-reads.Asked,
+  part-reads.Learnt,
+  make-target-reads.Asked,
+  make-target-reads.Learnt,
+  wanting-reads.Asked,
+  wanting-reads.Learnt,
+  check-domain-below t,
+  check-domain.Post,
+) (begin-check-at t) begin-check.Post
+begin-check-ended-requires-2 t c κs = search needs
+
+-- src/check.rt:312:27
+begin-check-enum-known-kind : (t : ℕ) → begin-check-lts.Need-enum-known-kind (
+  ended-reads.Asked,
+  ended-reads.Learnt,
+  part-reads.Asked,
+  part-reads.Learnt,
+  make-target-reads.Asked,
+  make-target-reads.Learnt,
+  wanting-reads.Asked,
+  wanting-reads.Learnt,
+  check-domain-below t,
+  check-domain.Post,
+) (begin-check-at t) begin-check.Post
+begin-check-enum-known-kind t c = search needs
+
+-- src/check.rt:312:48
+begin-check-wanting-requires : (t : ℕ) → begin-check-lts.Need-wanting-requires (
+  ended-reads.Asked,
+  ended-reads.Learnt,
+  part-reads.Asked,
+  part-reads.Learnt,
+  make-target-reads.Asked,
+  make-target-reads.Learnt,
+  wanting-reads.Asked,
+  wanting-reads.Learnt,
+  check-domain-below t,
+  check-domain.Post,
+) (begin-check-at t) begin-check.Post
+begin-check-wanting-requires t c κs = search needs
+
+-- src/check.rt:313:22
+begin-check-enum-known-n : (t : ℕ) → begin-check-lts.Need-enum-known-n (
+  ended-reads.Asked,
+  ended-reads.Learnt,
+  part-reads.Asked,
+  part-reads.Learnt,
+  make-target-reads.Asked,
+  make-target-reads.Learnt,
+  wanting-reads.Asked,
+  wanting-reads.Learnt,
+  check-domain-below t,
+  check-domain.Post,
+) (begin-check-at t) begin-check.Post
+begin-check-enum-known-n t c = search needs
+
+-- src/check.rt:313:101
+begin-check-slice-aggregate-part : (t : ℕ) → begin-check-lts.Need-slice-aggregate-part (
+  ended-reads.Asked,
+  ended-reads.Learnt,
+  part-reads.Asked,
+  part-reads.Learnt,
+  make-target-reads.Asked,
+  make-target-reads.Learnt,
+  wanting-reads.Asked,
+  wanting-reads.Learnt,
+  check-domain-below t,
+  check-domain.Post,
+) (begin-check-at t) begin-check.Post
+begin-check-slice-aggregate-part t c = search needs
+
+-- src/check.rt:313:89
+begin-check-part-requires-2 : (t : ℕ) → begin-check-lts.Need-part-requires-2 (
+  ended-reads.Asked,
+  ended-reads.Learnt,
+  part-reads.Asked,
+  part-reads.Learnt,
+  make-target-reads.Asked,
+  make-target-reads.Learnt,
+  wanting-reads.Asked,
+  wanting-reads.Learnt,
+  check-domain-below t,
+  check-domain.Post,
+) (begin-check-at t) begin-check.Post
+begin-check-part-requires-2 t c κs = search needs
+
+-- src/check.rt:313:28
+begin-check-check-domain-requires : (t : ℕ) → begin-check-lts.Need-check-domain-requires (
+  ended-reads.Asked,
+  ended-reads.Learnt,
+  part-reads.Asked,
+  part-reads.Learnt,
+  make-target-reads.Asked,
+  make-target-reads.Learnt,
+  wanting-reads.Asked,
+  wanting-reads.Learnt,
+  check-domain-below t,
+  check-domain.Post,
+) (begin-check-at t) begin-check.Post
+begin-check-check-domain-requires t c κs = (omega arith, search (target-small, needs))
+
+-- src/check.rt:283:1
+begin-check-same-length : (t : ℕ) → begin-check-lts.Need-same-length (
+  ended-reads.Asked,
+  ended-reads.Learnt,
+  part-reads.Asked,
+  part-reads.Learnt,
+  make-target-reads.Asked,
+  make-target-reads.Learnt,
+  wanting-reads.Asked,
+  wanting-reads.Learnt,
+  check-domain-below t,
+  check-domain.Post,
+) (begin-check-at t) begin-check.Post
+begin-check-same-length t c = cc
+
+-- src/check.rt:283:1
+begin-check-returns-2 : (t : ℕ) → begin-check-lts.Need-returns-2 (
+  ended-reads.Asked,
+  ended-reads.Learnt,
+  part-reads.Asked,
+  part-reads.Learnt,
+  make-target-reads.Asked,
+  make-target-reads.Learnt,
+  wanting-reads.Asked,
+  wanting-reads.Learnt,
+  check-domain-below t,
+  check-domain.Post,
+) (begin-check-at t) begin-check.Post
+begin-check-returns-2 t c = search begin-malformed
+
+-- src/check.rt:283:1
+begin-check-same-length-2 : (t : ℕ) → begin-check-lts.Need-same-length-2 (
+  ended-reads.Asked,
+  ended-reads.Learnt,
+  part-reads.Asked,
+  part-reads.Learnt,
+  make-target-reads.Asked,
+  make-target-reads.Learnt,
+  wanting-reads.Asked,
+  wanting-reads.Learnt,
+  check-domain-below t,
+  check-domain.Post,
+) (begin-check-at t) begin-check.Post
+begin-check-same-length-2 t c = cc
+
+-- src/check.rt:283:1
+begin-check-returns-3 : (t : ℕ) → begin-check-lts.Need-returns-3 (
+  ended-reads.Asked,
+  ended-reads.Learnt,
+  part-reads.Asked,
+  part-reads.Learnt,
+  make-target-reads.Asked,
+  make-target-reads.Learnt,
+  wanting-reads.Asked,
+  wanting-reads.Learnt,
+  check-domain-below t,
+  check-domain.Post,
+) (begin-check-at t) begin-check.Post
+begin-check-returns-3 t c = search begin-wants
+
+-- src/check.rt:283:1
+begin-check-same-length-3 : (t : ℕ) → begin-check-lts.Need-same-length-3 (
+  ended-reads.Asked,
+  ended-reads.Learnt,
+  part-reads.Asked,
+  part-reads.Learnt,
+  make-target-reads.Asked,
+  make-target-reads.Learnt,
+  wanting-reads.Asked,
+  wanting-reads.Learnt,
+  check-domain-below t,
+  check-domain.Post,
+) (begin-check-at t) begin-check.Post
+begin-check-same-length-3 t c = cc
+
+-- src/check.rt:283:1
+begin-check-returns-4 : (t : ℕ) → begin-check-lts.Need-returns-4 (
+  ended-reads.Asked,
+  ended-reads.Learnt,
+  part-reads.Asked,
+  part-reads.Learnt,
+  make-target-reads.Asked,
+  make-target-reads.Learnt,
+  wanting-reads.Asked,
+  wanting-reads.Learnt,
+  check-domain-below t,
+  check-domain.Post,
+) (begin-check-at t) begin-check.Post
+begin-check-returns-4 t c = search begin-checked
+
+-- src/check.rt:119:8
+check-domain-count-labels-requires : (t : ℕ) → check-domain-lts.Need-count-labels-requires (
+  count-labels-reads.Asked,
+  count-labels-reads.Learnt,
+  ended-reads.Asked,
+  ended-reads.Learnt,
+  select-record-reads.Asked,
+  select-record-reads.Learnt,
+  wanting-reads.Asked,
+  wanting-reads.Learnt,
+  evaluate-record-below t,
+  evaluate-record.Post,
+) (check-domain-at t) check-domain.Post
+check-domain-count-labels-requires t c κs = search needs
+
+-- src/check.rt:120:9
+check-domain-ended-requires : (t : ℕ) → check-domain-lts.Need-ended-requires (
+  count-labels-reads.Asked,
+  count-labels-reads.Learnt,
+  ended-reads.Asked,
+  ended-reads.Learnt,
+  select-record-reads.Asked,
+  select-record-reads.Learnt,
+  wanting-reads.Asked,
+  wanting-reads.Learnt,
+  evaluate-record-below t,
+  evaluate-record.Post,
+) (check-domain-at t) check-domain.Post
+check-domain-ended-requires t c κs = search needs
+
+-- src/check.rt:120:9
+check-domain-returns : (t : ℕ) → check-domain-lts.Need-returns (
+  count-labels-reads.Asked,
+  count-labels-reads.Learnt,
+  ended-reads.Asked,
+  ended-reads.Learnt,
+  select-record-reads.Asked,
+  select-record-reads.Learnt,
+  wanting-reads.Asked,
+  wanting-reads.Learnt,
+  evaluate-record-below t,
+  evaluate-record.Post,
+) (check-domain-at t) check-domain.Post
+check-domain-returns t c = search domain-single
+
+-- src/check.rt:122:11
+check-domain-select-record-requires : (t : ℕ) → check-domain-lts.Need-select-record-requires (
+  count-labels-reads.Asked,
+  count-labels-reads.Learnt,
+  ended-reads.Asked,
+  ended-reads.Learnt,
+  select-record-reads.Asked,
+  select-record-reads.Learnt,
+  wanting-reads.Asked,
+  wanting-reads.Learnt,
+  evaluate-record-below t,
+  evaluate-record.Post,
+) (check-domain-at t) check-domain.Post
+check-domain-select-record-requires t c κs = search needs
+
+-- src/check.rt:123:22
+check-domain-enum-known-value : (t : ℕ) → check-domain-lts.Need-enum-known-value (
+  count-labels-reads.Asked,
+  count-labels-reads.Learnt,
+  ended-reads.Asked,
+  ended-reads.Learnt,
+  select-record-reads.Asked,
+  select-record-reads.Learnt,
+  wanting-reads.Asked,
+  wanting-reads.Learnt,
+  evaluate-record-below t,
+  evaluate-record.Post,
+) (check-domain-at t) check-domain.Post
+check-domain-enum-known-value t c = search needs
+
+-- src/check.rt:123:32
+check-domain-ended-requires-2 : (t : ℕ) → check-domain-lts.Need-ended-requires-2 (
+  count-labels-reads.Asked,
+  count-labels-reads.Learnt,
+  ended-reads.Asked,
+  ended-reads.Learnt,
+  select-record-reads.Asked,
+  select-record-reads.Learnt,
+  wanting-reads.Asked,
+  wanting-reads.Learnt,
+  evaluate-record-below t,
+  evaluate-record.Post,
+) (check-domain-at t) check-domain.Post
+check-domain-ended-requires-2 t c κs = search needs
+
+-- src/check.rt:124:27
+check-domain-enum-known-kind : (t : ℕ) → check-domain-lts.Need-enum-known-kind (
+  count-labels-reads.Asked,
+  count-labels-reads.Learnt,
+  ended-reads.Asked,
+  ended-reads.Learnt,
+  select-record-reads.Asked,
+  select-record-reads.Learnt,
+  wanting-reads.Asked,
+  wanting-reads.Learnt,
+  evaluate-record-below t,
+  evaluate-record.Post,
+) (check-domain-at t) check-domain.Post
+check-domain-enum-known-kind t c = search needs
+
+-- src/check.rt:124:48
+check-domain-wanting-requires : (t : ℕ) → check-domain-lts.Need-wanting-requires (
+  count-labels-reads.Asked,
+  count-labels-reads.Learnt,
+  ended-reads.Asked,
+  ended-reads.Learnt,
+  select-record-reads.Asked,
+  select-record-reads.Learnt,
+  wanting-reads.Asked,
+  wanting-reads.Learnt,
+  evaluate-record-below t,
+  evaluate-record.Post,
+) (check-domain-at t) check-domain.Post
+check-domain-wanting-requires t c κs = search needs
+
+-- src/check.rt:125:31
+check-domain-enum-known-place : (t : ℕ) → check-domain-lts.Need-enum-known-place (
+  count-labels-reads.Asked,
+  count-labels-reads.Learnt,
+  ended-reads.Asked,
+  ended-reads.Learnt,
+  select-record-reads.Asked,
+  select-record-reads.Learnt,
+  wanting-reads.Asked,
+  wanting-reads.Learnt,
+  evaluate-record-below t,
+  evaluate-record.Post,
+) (check-domain-at t) check-domain.Post
+check-domain-enum-known-place t c = search needs
+
+-- src/check.rt:125:48
+check-domain-evaluate-record-requires : (t : ℕ) → check-domain-lts.Need-evaluate-record-requires (
+  count-labels-reads.Asked,
+  count-labels-reads.Learnt,
+  ended-reads.Asked,
+  ended-reads.Learnt,
+  select-record-reads.Asked,
+  select-record-reads.Learnt,
+  wanting-reads.Asked,
+  wanting-reads.Learnt,
+  evaluate-record-below t,
+  evaluate-record.Post,
+) (check-domain-at t) check-domain.Post
+check-domain-evaluate-record-requires t c κs = (omega arith, search (place-small, needs))
+
+-- src/check.rt:104:1
+check-domain-same-length : (t : ℕ) → check-domain-lts.Need-same-length (
+  count-labels-reads.Asked,
+  count-labels-reads.Learnt,
+  ended-reads.Asked,
+  ended-reads.Learnt,
+  select-record-reads.Asked,
+  select-record-reads.Learnt,
+  wanting-reads.Asked,
+  wanting-reads.Learnt,
+  evaluate-record-below t,
+  evaluate-record.Post,
+) (check-domain-at t) check-domain.Post
+check-domain-same-length t c = cc
+
+-- src/check.rt:104:1
+check-domain-returns-2 : (t : ℕ) → check-domain-lts.Need-returns-2 (
+  count-labels-reads.Asked,
+  count-labels-reads.Learnt,
+  ended-reads.Asked,
+  ended-reads.Learnt,
+  select-record-reads.Asked,
+  select-record-reads.Learnt,
+  wanting-reads.Asked,
+  wanting-reads.Learnt,
+  evaluate-record-below t,
+  evaluate-record.Post,
+) (check-domain-at t) check-domain.Post
+check-domain-returns-2 t c = search domain-ends
+
+-- src/check.rt:104:1
+check-domain-same-length-2 : (t : ℕ) → check-domain-lts.Need-same-length-2 (
+  count-labels-reads.Asked,
+  count-labels-reads.Learnt,
+  ended-reads.Asked,
+  ended-reads.Learnt,
+  select-record-reads.Asked,
+  select-record-reads.Learnt,
+  wanting-reads.Asked,
+  wanting-reads.Learnt,
+  evaluate-record-below t,
+  evaluate-record.Post,
+) (check-domain-at t) check-domain.Post
+check-domain-same-length-2 t c = cc
+
+-- src/check.rt:104:1
+check-domain-returns-3 : (t : ℕ) → check-domain-lts.Need-returns-3 (
+  count-labels-reads.Asked,
+  count-labels-reads.Learnt,
+  ended-reads.Asked,
+  ended-reads.Learnt,
+  select-record-reads.Asked,
+  select-record-reads.Learnt,
+  wanting-reads.Asked,
+  wanting-reads.Learnt,
+  evaluate-record-below t,
+  evaluate-record.Post,
+) (check-domain-at t) check-domain.Post
+check-domain-returns-3 t c = search domain-wants
+
+-- src/check.rt:104:1
+check-domain-same-length-3 : (t : ℕ) → check-domain-lts.Need-same-length-3 (
+  count-labels-reads.Asked,
+  count-labels-reads.Learnt,
+  ended-reads.Asked,
+  ended-reads.Learnt,
+  select-record-reads.Asked,
+  select-record-reads.Learnt,
+  wanting-reads.Asked,
+  wanting-reads.Learnt,
+  evaluate-record-below t,
+  evaluate-record.Post,
+) (check-domain-at t) check-domain.Post
+check-domain-same-length-3 t c = cc
+
+-- src/check.rt:104:1
+check-domain-returns-4 : (t : ℕ) → check-domain-lts.Need-returns-4 (
+  count-labels-reads.Asked,
+  count-labels-reads.Learnt,
+  ended-reads.Asked,
+  ended-reads.Learnt,
+  select-record-reads.Asked,
+  select-record-reads.Learnt,
+  wanting-reads.Asked,
+  wanting-reads.Learnt,
+  evaluate-record-below t,
+  evaluate-record.Post,
+) (check-domain-at t) check-domain.Post
+check-domain-returns-4 t c = search domain-one
+
+-- src/check.rt:148:32
+evaluate-record-part-requires : (t : ℕ) → evaluate-record-lts.Need-part-requires (
+  part-reads.Asked,
+  part-reads.Learnt,
+  read-record-reads.Asked,
+  read-record-reads.Learnt,
+  ended-reads.Asked,
+  ended-reads.Learnt,
+  try-terms-below t,
+  try-terms.Post,
+) (evaluate-record-at t) evaluate-record.Post
+evaluate-record-part-requires t c κs = search needs
+
+-- src/check.rt:148:11
+evaluate-record-read-record-requires : (t : ℕ) → evaluate-record-lts.Need-read-record-requires (
+  part-reads.Asked,
+  part-reads.Learnt,
+  read-record-reads.Asked,
+  read-record-reads.Learnt,
+  ended-reads.Asked,
+  ended-reads.Learnt,
+  try-terms-below t,
+  try-terms.Post,
+) (evaluate-record-at t) evaluate-record.Post
+evaluate-record-read-record-requires t c κs = search needs
+
+-- src/check.rt:149:55
+evaluate-record-enum-told : (t : ℕ) → evaluate-record-lts.Need-enum-told (
+  part-reads.Asked,
+  part-reads.Learnt,
+  read-record-reads.Asked,
+  read-record-reads.Learnt,
+  ended-reads.Asked,
+  ended-reads.Learnt,
+  try-terms-below t,
+  try-terms.Post,
+) (evaluate-record-at t) evaluate-record.Post
+evaluate-record-enum-told t c = search needs
+
+-- src/check.rt:149:55
+evaluate-record-ended-requires : (t : ℕ) → evaluate-record-lts.Need-ended-requires (
+  part-reads.Asked,
+  part-reads.Learnt,
+  read-record-reads.Asked,
+  read-record-reads.Learnt,
+  ended-reads.Asked,
+  ended-reads.Learnt,
+  try-terms-below t,
+  try-terms.Post,
+) (evaluate-record-at t) evaluate-record.Post
+evaluate-record-ended-requires t c κs = search needs
+
+-- src/check.rt:150:32
+evaluate-record-enum-known-first : (t : ℕ) → evaluate-record-lts.Need-enum-known-first (
+  part-reads.Asked,
+  part-reads.Learnt,
+  read-record-reads.Asked,
+  read-record-reads.Learnt,
+  ended-reads.Asked,
+  ended-reads.Learnt,
+  try-terms-below t,
+  try-terms.Post,
+) (evaluate-record-at t) evaluate-record.Post
+evaluate-record-enum-known-first t c = search needs
+
+-- src/check.rt:150:42
+evaluate-record-try-terms-requires : (t : ℕ) → evaluate-record-lts.Need-try-terms-requires (
+  part-reads.Asked,
+  part-reads.Learnt,
+  read-record-reads.Asked,
+  read-record-reads.Learnt,
+  ended-reads.Asked,
+  ended-reads.Learnt,
+  try-terms-below t,
+  try-terms.Post,
+) (evaluate-record-at t) evaluate-record.Post
+evaluate-record-try-terms-requires t c κs = (omega arith, search needs)
+
+-- src/check.rt:132:1
+evaluate-record-returns : (t : ℕ) → evaluate-record-lts.Need-returns (
+  part-reads.Asked,
+  part-reads.Learnt,
+  read-record-reads.Asked,
+  read-record-reads.Learnt,
+  ended-reads.Asked,
+  ended-reads.Learnt,
+  try-terms-below t,
+  try-terms.Post,
+) (evaluate-record-at t) evaluate-record.Post
+evaluate-record-returns t c = search record-refused
+
+-- src/check.rt:132:1
+evaluate-record-same-length : (t : ℕ) → evaluate-record-lts.Need-same-length (
+  part-reads.Asked,
+  part-reads.Learnt,
+  read-record-reads.Asked,
+  read-record-reads.Learnt,
+  ended-reads.Asked,
+  ended-reads.Learnt,
+  try-terms-below t,
+  try-terms.Post,
+) (evaluate-record-at t) evaluate-record.Post
+evaluate-record-same-length t c = cc
+
+-- src/check.rt:132:1
+evaluate-record-returns-2 : (t : ℕ) → evaluate-record-lts.Need-returns-2 (
+  part-reads.Asked,
+  part-reads.Learnt,
+  read-record-reads.Asked,
+  read-record-reads.Learnt,
+  ended-reads.Asked,
+  ended-reads.Learnt,
+  try-terms-below t,
+  try-terms.Post,
+) (evaluate-record-at t) evaluate-record.Post
+evaluate-record-returns-2 t c = search record-tried
+
+-- src/check.rt:278:9
+include-begin-check-requires : (t : ℕ) → include-lts.Need-begin-check-requires (
+  begin-check-below t,
+  begin-check.Post,
+  include-of-reads.Asked,
+  include-of-reads.Learnt,
+) (include-at t) include.Post
+include-begin-check-requires t c κs = (omega arith, search needs)
+
+-- src/check.rt:279:5
+include-include-of-requires : (t : ℕ) → include-lts.Need-include-of-requires (
+  begin-check-below t,
+  begin-check.Post,
+  include-of-reads.Asked,
+  include-of-reads.Learnt,
+) (include-at t) include.Post
+include-include-of-requires t c κs = search needs
+
+-- src/check.rt:262:1
+include-same-length : (t : ℕ) → include-lts.Need-same-length (
+  begin-check-below t,
+  begin-check.Post,
+  include-of-reads.Asked,
+  include-of-reads.Learnt,
+) (include-at t) include.Post
+include-same-length t c = cc
+
+-- src/check.rt:262:1
+include-returns : (t : ℕ) → include-lts.Need-returns (
+  begin-check-below t,
+  begin-check.Post,
+  include-of-reads.Asked,
+  include-of-reads.Learnt,
+) (include-at t) include.Post
+include-returns t c = search include-done
+
+-- src/check.rt:224:39
+no-match-find-redirect-requires : (t : ℕ) → no-match-lts.Need-find-redirect-requires (
+  find-redirect-reads.Asked,
+  find-redirect-reads.Learnt,
+  ended-reads.Asked,
+  ended-reads.Learnt,
+  part-reads.Asked,
+  part-reads.Learnt,
+  begin-check-below t,
+  begin-check.Post,
+  none-is-permerror-reads.Asked,
+  none-is-permerror-reads.Learnt,
+) (no-match-at t) no-match.Post
+no-match-find-redirect-requires t c κs = search needs
+
+-- src/check.rt:224:26
+no-match-enum-known-from : (t : ℕ) → no-match-lts.Need-enum-known-from (
+  find-redirect-reads.Asked,
+  find-redirect-reads.Learnt,
+  ended-reads.Asked,
+  ended-reads.Learnt,
+  part-reads.Asked,
+  part-reads.Learnt,
+  begin-check-below t,
+  begin-check.Post,
+  none-is-permerror-reads.Asked,
+  none-is-permerror-reads.Learnt,
+) (no-match-at t) no-match.Post
+no-match-enum-known-from t c = search needs
+
+-- src/check.rt:225:9
+no-match-enum-told : (t : ℕ) → no-match-lts.Need-enum-told (
+  find-redirect-reads.Asked,
+  find-redirect-reads.Learnt,
+  ended-reads.Asked,
+  ended-reads.Learnt,
+  part-reads.Asked,
+  part-reads.Learnt,
+  begin-check-below t,
+  begin-check.Post,
+  none-is-permerror-reads.Asked,
+  none-is-permerror-reads.Learnt,
+) (no-match-at t) no-match.Post
+no-match-enum-told t c = search needs
+
+-- src/check.rt:225:9
+no-match-ended-requires : (t : ℕ) → no-match-lts.Need-ended-requires (
+  find-redirect-reads.Asked,
+  find-redirect-reads.Learnt,
+  ended-reads.Asked,
+  ended-reads.Learnt,
+  part-reads.Asked,
+  part-reads.Learnt,
+  begin-check-below t,
+  begin-check.Post,
+  none-is-permerror-reads.Asked,
+  none-is-permerror-reads.Learnt,
+) (no-match-at t) no-match.Post
+no-match-ended-requires t c κs = search needs
+
+-- src/check.rt:225:9
+no-match-returns : (t : ℕ) → no-match-lts.Need-returns (
+  find-redirect-reads.Asked,
+  find-redirect-reads.Learnt,
+  ended-reads.Asked,
+  ended-reads.Learnt,
+  part-reads.Asked,
+  part-reads.Learnt,
+  begin-check-below t,
+  begin-check.Post,
+  none-is-permerror-reads.Asked,
+  none-is-permerror-reads.Learnt,
+) (no-match-at t) no-match.Post
+no-match-returns t c = search nothing-left
+
+-- src/check.rt:228:65
+no-match-part-requires : (t : ℕ) → no-match-lts.Need-part-requires (
+  find-redirect-reads.Asked,
+  find-redirect-reads.Learnt,
+  ended-reads.Asked,
+  ended-reads.Learnt,
+  part-reads.Asked,
+  part-reads.Learnt,
+  begin-check-below t,
+  begin-check.Post,
+  none-is-permerror-reads.Asked,
+  none-is-permerror-reads.Learnt,
+) (no-match-at t) no-match.Post
+no-match-part-requires t c κs = search needs
+
+-- src/check.rt:227:9
+no-match-begin-check-requires : (t : ℕ) → no-match-lts.Need-begin-check-requires (
+  find-redirect-reads.Asked,
+  find-redirect-reads.Learnt,
+  ended-reads.Asked,
+  ended-reads.Learnt,
+  part-reads.Asked,
+  part-reads.Learnt,
+  begin-check-below t,
+  begin-check.Post,
+  none-is-permerror-reads.Asked,
+  none-is-permerror-reads.Learnt,
+) (no-match-at t) no-match.Post
+no-match-begin-check-requires t c κs = (omega arith, search needs)
+
+-- src/check.rt:230:5
+no-match-none-is-permerror-requires : (t : ℕ) → no-match-lts.Need-none-is-permerror-requires (
+  find-redirect-reads.Asked,
+  find-redirect-reads.Learnt,
+  ended-reads.Asked,
+  ended-reads.Learnt,
+  part-reads.Asked,
+  part-reads.Learnt,
+  begin-check-below t,
+  begin-check.Post,
+  none-is-permerror-reads.Asked,
+  none-is-permerror-reads.Learnt,
+) (no-match-at t) no-match.Post
+no-match-none-is-permerror-requires t c κs = search needs
+
+-- src/check.rt:207:1
+no-match-same-length : (t : ℕ) → no-match-lts.Need-same-length (
+  find-redirect-reads.Asked,
+  find-redirect-reads.Learnt,
+  ended-reads.Asked,
+  ended-reads.Learnt,
+  part-reads.Asked,
+  part-reads.Learnt,
+  begin-check-below t,
+  begin-check.Post,
+  none-is-permerror-reads.Asked,
+  none-is-permerror-reads.Learnt,
+) (no-match-at t) no-match.Post
+no-match-same-length t c = cc
+
+-- src/check.rt:207:1
+no-match-returns-2 : (t : ℕ) → no-match-lts.Need-returns-2 (
+  find-redirect-reads.Asked,
+  find-redirect-reads.Learnt,
+  ended-reads.Asked,
+  ended-reads.Learnt,
+  part-reads.Asked,
+  part-reads.Learnt,
+  begin-check-below t,
+  begin-check.Post,
+  none-is-permerror-reads.Asked,
+  none-is-permerror-reads.Learnt,
+) (no-match-at t) no-match.Post
+no-match-returns-2 t c = search redirected
+
+-- src/check.rt:252:57
+try-term-part-requires : (t : ℕ) → try-term-lts.Need-part-requires (
+  part-reads.Asked,
+  part-reads.Learnt,
+  try-plain-reads.Asked,
+  try-plain-reads.Learnt,
+  include-below t,
+  include.Post,
+) (try-term-at t) try-term.Post
+try-term-part-requires t c κs = search needs
+
+-- src/check.rt:251:11
+try-term-try-plain-requires : (t : ℕ) → try-term-lts.Need-try-plain-requires (
+  part-reads.Asked,
+  part-reads.Learnt,
+  try-plain-reads.Asked,
+  try-plain-reads.Learnt,
+  include-below t,
+  include.Post,
+) (try-term-at t) try-term.Post
+try-term-try-plain-requires t c κs = search (span-small, needs)
+
+-- src/check.rt:254:21
+try-term-enum-known-step : (t : ℕ) → try-term-lts.Need-enum-known-step (
+  part-reads.Asked,
+  part-reads.Learnt,
+  try-plain-reads.Asked,
+  try-plain-reads.Learnt,
+  include-below t,
+  include.Post,
+) (try-term-at t) try-term.Post
+try-term-enum-known-step t c = search needs
+
+-- src/check.rt:255:26
+try-term-enum-known-from : (t : ℕ) → try-term-lts.Need-enum-known-from (
+  part-reads.Asked,
+  part-reads.Learnt,
+  try-plain-reads.Asked,
+  try-plain-reads.Learnt,
+  include-below t,
+  include.Post,
+) (try-term-at t) try-term.Post
+try-term-enum-known-from t c = search needs
+
+-- src/check.rt:256:69
+try-term-part-requires-2 : (t : ℕ) → try-term-lts.Need-part-requires-2 (
+  part-reads.Asked,
+  part-reads.Learnt,
+  try-plain-reads.Asked,
+  try-plain-reads.Learnt,
+  include-below t,
+  include.Post,
+) (try-term-at t) try-term.Post
+try-term-part-requires-2 t c κs = search needs
+
+-- src/check.rt:255:40
+try-term-include-requires : (t : ℕ) → try-term-lts.Need-include-requires (
+  part-reads.Asked,
+  part-reads.Learnt,
+  try-plain-reads.Asked,
+  try-plain-reads.Learnt,
+  include-below t,
+  include.Post,
+) (try-term-at t) try-term.Post
+try-term-include-requires t c κs = (omega arith, search needs)
+
+-- src/check.rt:234:1
+try-term-same-length : (t : ℕ) → try-term-lts.Need-same-length (
+  part-reads.Asked,
+  part-reads.Learnt,
+  try-plain-reads.Asked,
+  try-plain-reads.Learnt,
+  include-below t,
+  include.Post,
+) (try-term-at t) try-term.Post
+try-term-same-length t c = cc
+
+-- src/check.rt:234:1
+try-term-returns : (t : ℕ) → try-term-lts.Need-returns (
+  part-reads.Asked,
+  part-reads.Learnt,
+  try-plain-reads.Asked,
+  try-plain-reads.Learnt,
+  include-below t,
+  include.Post,
+) (try-term-at t) try-term.Post
+try-term-returns t c = search tried-step
+
+-- src/check.rt:234:1
+try-term-same-length-2 : (t : ℕ) → try-term-lts.Need-same-length-2 (
+  part-reads.Asked,
+  part-reads.Learnt,
+  try-plain-reads.Asked,
+  try-plain-reads.Learnt,
+  include-below t,
+  include.Post,
+) (try-term-at t) try-term.Post
+try-term-same-length-2 t c = cc
+
+-- src/check.rt:234:1
+try-term-returns-2 : (t : ℕ) → try-term-lts.Need-returns-2 (
+  part-reads.Asked,
+  part-reads.Learnt,
+  try-plain-reads.Asked,
+  try-plain-reads.Learnt,
+  include-below t,
+  include.Post,
+) (try-term-at t) try-term.Post
+try-term-returns-2 t c = search tried-include
+
+abbrev try-terms-Inv-loop : try-terms-lts.InvT-loop
+try-terms-Inv-loop client sender helo receiver seconds table domain text first out₀ s at₀ so-far₀ out at so-far = Walk table (mailOf client sender helo receiver seconds) (spanOf table domain) s first out₀ so-far₀ out at so-far
+
+abbrev try-terms-μ-loop : try-terms-lts.MeasureT-loop
+try-terms-μ-loop client sender helo receiver seconds table domain text first out₀ s at₀ so-far₀ out at so-far = length s + 1 - at
+
+-- src/check.rt:174:9
+try-terms-part-requires : (t : ℕ) → try-terms-lts.Need-part-requires (
+  part-reads.Asked,
+  part-reads.Learnt,
+  read-term-reads.Asked,
+  read-term-reads.Learnt,
+  no-match-below t,
+  no-match.Post,
+  try-term-below t,
+  try-term.Post,
+  signed-reads.Asked,
+  signed-reads.Learnt,
+) (try-terms-at t) try-terms.Post try-terms-Inv-loop try-terms-μ-loop
+try-terms-part-requires t c κs = search needs
+
+-- src/check.rt:177:5
+try-terms-loop-holds : (t : ℕ) → try-terms-lts.Need-loop-holds (
+  part-reads.Asked,
+  part-reads.Learnt,
+  read-term-reads.Asked,
+  read-term-reads.Learnt,
+  no-match-below t,
+  no-match.Post,
+  try-term-below t,
+  try-term.Post,
+  signed-reads.Asked,
+  signed-reads.Learnt,
+) (try-terms-at t) try-terms.Post try-terms-Inv-loop try-terms-μ-loop
+try-terms-loop-holds t c = search walk-start
+
+-- src/check.rt:178:56
+try-terms-read-term-requires : (t : ℕ) → try-terms-lts.Need-read-term-requires (
+  part-reads.Asked,
+  part-reads.Learnt,
+  read-term-reads.Asked,
+  read-term-reads.Learnt,
+  no-match-below t,
+  no-match.Post,
+  try-term-below t,
+  try-term.Post,
+  signed-reads.Asked,
+  signed-reads.Learnt,
+) (try-terms-at t) try-terms.Post try-terms-Inv-loop try-terms-μ-loop
+try-terms-read-term-requires t c κs = search needs
+
+-- src/check.rt:178:34
+try-terms-enum-known-place : (t : ℕ) → try-terms-lts.Need-enum-known-place (
+  part-reads.Asked,
+  part-reads.Learnt,
+  read-term-reads.Asked,
+  read-term-reads.Learnt,
+  no-match-below t,
+  no-match.Post,
+  try-term-below t,
+  try-term.Post,
+  signed-reads.Asked,
+  signed-reads.Learnt,
+) (try-terms-at t) try-terms.Post try-terms-Inv-loop try-terms-μ-loop
+try-terms-enum-known-place t c = search needs
+
+-- src/check.rt:179:13
+try-terms-no-match-requires : (t : ℕ) → try-terms-lts.Need-no-match-requires (
+  part-reads.Asked,
+  part-reads.Learnt,
+  read-term-reads.Asked,
+  read-term-reads.Learnt,
+  no-match-below t,
+  no-match.Post,
+  try-term-below t,
+  try-term.Post,
+  signed-reads.Asked,
+  signed-reads.Learnt,
+) (try-terms-at t) try-terms.Post try-terms-Inv-loop try-terms-μ-loop
+try-terms-no-match-requires t c κs = (omega arith, search (walk-small, walk-few, needs))
+
+-- src/check.rt:179:13
+try-terms-same-length : (t : ℕ) → try-terms-lts.Need-same-length (
+  part-reads.Asked,
+  part-reads.Learnt,
+  read-term-reads.Asked,
+  read-term-reads.Learnt,
+  no-match-below t,
+  no-match.Post,
+  try-term-below t,
+  try-term.Post,
+  signed-reads.Asked,
+  signed-reads.Learnt,
+) (try-terms-at t) try-terms.Post try-terms-Inv-loop try-terms-μ-loop
+try-terms-same-length t c = cc
+
+-- src/check.rt:179:13
+try-terms-returns : (t : ℕ) → try-terms-lts.Need-returns (
+  part-reads.Asked,
+  part-reads.Learnt,
+  read-term-reads.Asked,
+  read-term-reads.Learnt,
+  no-match-below t,
+  no-match.Post,
+  try-term-below t,
+  try-term.Post,
+  signed-reads.Asked,
+  signed-reads.Learnt,
+) (try-terms-at t) try-terms.Post try-terms-Inv-loop try-terms-μ-loop
+try-terms-returns t c = search walk-ended
+
+-- src/check.rt:182:69
+try-terms-part-requires-2 : (t : ℕ) → try-terms-lts.Need-part-requires-2 (
+  part-reads.Asked,
+  part-reads.Learnt,
+  read-term-reads.Asked,
+  read-term-reads.Learnt,
+  no-match-below t,
+  no-match.Post,
+  try-term-below t,
+  try-term.Post,
+  signed-reads.Asked,
+  signed-reads.Learnt,
+) (try-terms-at t) try-terms.Post try-terms-Inv-loop try-terms-μ-loop
+try-terms-part-requires-2 t c κs = search needs
+
+-- src/check.rt:181:13
+try-terms-try-term-requires : (t : ℕ) → try-terms-lts.Need-try-term-requires (
+  part-reads.Asked,
+  part-reads.Learnt,
+  read-term-reads.Asked,
+  read-term-reads.Learnt,
+  no-match-below t,
+  no-match.Post,
+  try-term-below t,
+  try-term.Post,
+  signed-reads.Asked,
+  signed-reads.Learnt,
+) (try-terms-at t) try-terms.Post try-terms-Inv-loop try-terms-μ-loop
+try-terms-try-term-requires t c κs = (omega arith, search (walk-small, walk-few, needs))
+
+-- src/check.rt:188:17
+try-terms-enum-told : (t : ℕ) → try-terms-lts.Need-enum-told (
+  part-reads.Asked,
+  part-reads.Learnt,
+  read-term-reads.Asked,
+  read-term-reads.Learnt,
+  no-match-below t,
+  no-match.Post,
+  try-term-below t,
+  try-term.Post,
+  signed-reads.Asked,
+  signed-reads.Learnt,
+) (try-terms-at t) try-terms.Post try-terms-Inv-loop try-terms-μ-loop
+try-terms-enum-told t c = search needs
+
+-- src/check.rt:188:17
+try-terms-signed-requires : (t : ℕ) → try-terms-lts.Need-signed-requires (
+  part-reads.Asked,
+  part-reads.Learnt,
+  read-term-reads.Asked,
+  read-term-reads.Learnt,
+  no-match-below t,
+  no-match.Post,
+  try-term-below t,
+  try-term.Post,
+  signed-reads.Asked,
+  signed-reads.Learnt,
+) (try-terms-at t) try-terms.Post try-terms-Inv-loop try-terms-μ-loop
+try-terms-signed-requires t c κs = search needs
+
+-- src/check.rt:188:17
+try-terms-same-length-2 : (t : ℕ) → try-terms-lts.Need-same-length-2 (
+  part-reads.Asked,
+  part-reads.Learnt,
+  read-term-reads.Asked,
+  read-term-reads.Learnt,
+  no-match-below t,
+  no-match.Post,
+  try-term-below t,
+  try-term.Post,
+  signed-reads.Asked,
+  signed-reads.Learnt,
+) (try-terms-at t) try-terms.Post try-terms-Inv-loop try-terms-μ-loop
+try-terms-same-length-2 t c = walk-room _ _ _ _ _ _ _ _ _ _ (c .before .before .before .before .before .before .before .before .before .before .before .before .before .before .loop .inv) _ _ _ _ (c .before .before .before .before .before .before .try-term .ensures) (c .before .enum-told .given .1)
+
+-- src/check.rt:188:17
+try-terms-returns-2 : (t : ℕ) → try-terms-lts.Need-returns-2 (
+  part-reads.Asked,
+  part-reads.Learnt,
+  read-term-reads.Asked,
+  read-term-reads.Learnt,
+  no-match-below t,
+  no-match.Post,
+  try-term-below t,
+  try-term.Post,
+  signed-reads.Asked,
+  signed-reads.Learnt,
+) (try-terms-at t) try-terms.Post try-terms-Inv-loop try-terms-μ-loop
+try-terms-returns-2 t c = walk-yes _ _ _ _ _ _ _ _ _ _ _ _ _ (c .signed .ensures) refl refl _ _ _ _ (c .before .before .before .before .before .before .before .before .before .before .before .before .before .before .loop .inv) (c .before .before .before .before .before .before .before .before .before .before .before .before .before .before .before .part .ensures) _ (c .before .before .before .before .before .before .before .before .before .before .before .before .read-term .ensures .0) _ _ (c .before .before .before .before .before .before .before .before .before .before .place .given .1) (c .before .before .before .before .before .before .before .before .before .before .before .before .before .loop-test .taken) _ (c .before .before .before .before .before .before .before .before .part2 .ensures) (c .before .before .before .before .before .before .try-term .ensures) (c .before .enum-told .given .1)
+
+-- src/check.rt:190:27
+try-terms-enum-known-matched : (t : ℕ) → try-terms-lts.Need-enum-known-matched (
+  part-reads.Asked,
+  part-reads.Learnt,
+  read-term-reads.Asked,
+  read-term-reads.Learnt,
+  no-match-below t,
+  no-match.Post,
+  try-term-below t,
+  try-term.Post,
+  signed-reads.Asked,
+  signed-reads.Learnt,
+) (try-terms-at t) try-terms.Post try-terms-Inv-loop try-terms-μ-loop
+try-terms-enum-known-matched t c = search needs
+
+-- src/check.rt:191:17
+try-terms-same-length-3 : (t : ℕ) → try-terms-lts.Need-same-length-3 (
+  part-reads.Asked,
+  part-reads.Learnt,
+  read-term-reads.Asked,
+  read-term-reads.Learnt,
+  no-match-below t,
+  no-match.Post,
+  try-term-below t,
+  try-term.Post,
+  signed-reads.Asked,
+  signed-reads.Learnt,
+) (try-terms-at t) try-terms.Post try-terms-Inv-loop try-terms-μ-loop
+try-terms-same-length-3 t c = cc
+
+-- src/check.rt:191:17
+try-terms-returns-3 : (t : ℕ) → try-terms-lts.Need-returns-3 (
+  part-reads.Asked,
+  part-reads.Learnt,
+  read-term-reads.Asked,
+  read-term-reads.Learnt,
+  no-match-below t,
+  no-match.Post,
+  try-term-below t,
+  try-term.Post,
+  signed-reads.Asked,
+  signed-reads.Learnt,
+) (try-terms-at t) try-terms.Post try-terms-Inv-loop try-terms-μ-loop
+try-terms-returns-3 t c = search walk-stop
+
+-- src/check.rt:198:17
+try-terms-enum-told-2 : (t : ℕ) → try-terms-lts.Need-enum-told-2 (
+  part-reads.Asked,
+  part-reads.Learnt,
+  read-term-reads.Asked,
+  read-term-reads.Learnt,
+  no-match-below t,
+  no-match.Post,
+  try-term-below t,
+  try-term.Post,
+  signed-reads.Asked,
+  signed-reads.Learnt,
+) (try-terms-at t) try-terms.Post try-terms-Inv-loop try-terms-μ-loop
+try-terms-enum-told-2 t c = search needs
+
+-- src/check.rt:177:5
+try-terms-loop-less : (t : ℕ) → try-terms-lts.Need-loop-less (
+  part-reads.Asked,
+  part-reads.Learnt,
+  read-term-reads.Asked,
+  read-term-reads.Learnt,
+  no-match-below t,
+  no-match.Post,
+  try-term-below t,
+  try-term.Post,
+  signed-reads.Asked,
+  signed-reads.Learnt,
+) (try-terms-at t) try-terms.Post try-terms-Inv-loop try-terms-μ-loop
+try-terms-loop-less t c = search walk-less
+
+-- src/check.rt:177:5
+try-terms-loop-again : (t : ℕ) → try-terms-lts.Need-loop-again (
+  part-reads.Asked,
+  part-reads.Learnt,
+  read-term-reads.Asked,
+  read-term-reads.Learnt,
+  no-match-below t,
+  no-match.Post,
+  try-term-below t,
+  try-term.Post,
+  signed-reads.Asked,
+  signed-reads.Learnt,
+) (try-terms-at t) try-terms.Post try-terms-Inv-loop try-terms-μ-loop
+try-terms-loop-again t c = search walk-no
+
+-- src/check.rt:203:5
+try-terms-no-match-requires-2 : (t : ℕ) → try-terms-lts.Need-no-match-requires-2 (
+  part-reads.Asked,
+  part-reads.Learnt,
+  read-term-reads.Asked,
+  read-term-reads.Learnt,
+  no-match-below t,
+  no-match.Post,
+  try-term-below t,
+  try-term.Post,
+  signed-reads.Asked,
+  signed-reads.Learnt,
+) (try-terms-at t) try-terms.Post try-terms-Inv-loop try-terms-μ-loop
+try-terms-no-match-requires-2 t c κs = (omega arith, search (walk-small, walk-few, needs))
+
+-- src/check.rt:157:1
+try-terms-same-length-4 : (t : ℕ) → try-terms-lts.Need-same-length-4 (
+  part-reads.Asked,
+  part-reads.Learnt,
+  read-term-reads.Asked,
+  read-term-reads.Learnt,
+  no-match-below t,
+  no-match.Post,
+  try-term-below t,
+  try-term.Post,
+  signed-reads.Asked,
+  signed-reads.Learnt,
+) (try-terms-at t) try-terms.Post try-terms-Inv-loop try-terms-μ-loop
+try-terms-same-length-4 t c = cc
+
+-- src/check.rt:157:1
+try-terms-returns-4 : (t : ℕ) → try-terms-lts.Need-returns-4 (
+  part-reads.Asked,
+  part-reads.Learnt,
+  read-term-reads.Asked,
+  read-term-reads.Learnt,
+  no-match-below t,
+  no-match.Post,
+  try-term-below t,
+  try-term.Post,
+  signed-reads.Asked,
+  signed-reads.Learnt,
+) (try-terms-at t) try-terms.Post try-terms-Inv-loop try-terms-μ-loop
+try-terms-returns-4 t c = search walk-past
+
+pub +begin-check+check-domain+evaluate-record+include+no-match+try-term+try-terms-spec :
+    {M : Type 1} → statement M
++begin-check+check-domain+evaluate-record+include+no-match+try-term+try-terms-spec =
+    close
+    μ-begin-check
+    μ-check-domain
+    μ-evaluate-record
+    μ-include
+    μ-no-match
+    μ-try-term
+    μ-try-terms
+    (λ t. begin-check-lts.spec (
+      ended-reads.Asked,
+      ended-reads.Learnt,
+      part-reads.Asked,
+      part-reads.Learnt,
+      make-target-reads.Asked,
+      make-target-reads.Learnt,
+      wanting-reads.Asked,
+      wanting-reads.Learnt,
+      check-domain-below t,
+      check-domain.Post,
+    )
+    (begin-check-at t)
+    begin-check.Post
+    (begin-check-ended-requires t)
+    (begin-check-returns t)
+    (begin-check-add-t18 t)
+    (begin-check-part-requires t)
+    (begin-check-slice-aggregate-make-target t)
+    (begin-check-make-target-requires t)
+    (begin-check-enum-told t)
+    (begin-check-ended-requires-2 t)
+    (begin-check-enum-known-kind t)
+    (begin-check-wanting-requires t)
+    (begin-check-enum-known-n t)
+    (begin-check-slice-aggregate-part t)
+    (begin-check-part-requires-2 t)
+    (begin-check-check-domain-requires t)
+    (begin-check-same-length t)
+    (begin-check-returns-2 t)
+    (begin-check-same-length-2 t)
+    (begin-check-returns-3 t)
+    (begin-check-same-length-3 t)
+    (begin-check-returns-4 t))
+    (λ t. check-domain-lts.spec (
+      count-labels-reads.Asked,
+      count-labels-reads.Learnt,
+      ended-reads.Asked,
+      ended-reads.Learnt,
+      select-record-reads.Asked,
+      select-record-reads.Learnt,
+      wanting-reads.Asked,
+      wanting-reads.Learnt,
+      evaluate-record-below t,
+      evaluate-record.Post,
+    )
+    (check-domain-at t)
+    check-domain.Post
+    (check-domain-count-labels-requires t)
+    (check-domain-ended-requires t)
+    (check-domain-returns t)
+    (check-domain-select-record-requires t)
+    (check-domain-enum-known-value t)
+    (check-domain-ended-requires-2 t)
+    (check-domain-enum-known-kind t)
+    (check-domain-wanting-requires t)
+    (check-domain-enum-known-place t)
+    (check-domain-evaluate-record-requires t)
+    (check-domain-same-length t)
+    (check-domain-returns-2 t)
+    (check-domain-same-length-2 t)
+    (check-domain-returns-3 t)
+    (check-domain-same-length-3 t)
+    (check-domain-returns-4 t))
+    (λ t. evaluate-record-lts.spec (
+      part-reads.Asked,
+      part-reads.Learnt,
+      read-record-reads.Asked,
+      read-record-reads.Learnt,
+      ended-reads.Asked,
+      ended-reads.Learnt,
+      try-terms-below t,
+      try-terms.Post,
+    )
+    (evaluate-record-at t)
+    evaluate-record.Post
+    (evaluate-record-part-requires t)
+    (evaluate-record-read-record-requires t)
+    (evaluate-record-enum-told t)
+    (evaluate-record-ended-requires t)
+    (evaluate-record-enum-known-first t)
+    (evaluate-record-try-terms-requires t)
+    (evaluate-record-returns t)
+    (evaluate-record-same-length t)
+    (evaluate-record-returns-2 t))
+    (λ t. include-lts.spec (
+      begin-check-below t,
+      begin-check.Post,
+      include-of-reads.Asked,
+      include-of-reads.Learnt,
+    )
+    (include-at t)
+    include.Post
+    (include-begin-check-requires t)
+    (include-include-of-requires t)
+    (include-same-length t)
+    (include-returns t))
+    (λ t. no-match-lts.spec (
+      find-redirect-reads.Asked,
+      find-redirect-reads.Learnt,
+      ended-reads.Asked,
+      ended-reads.Learnt,
+      part-reads.Asked,
+      part-reads.Learnt,
+      begin-check-below t,
+      begin-check.Post,
+      none-is-permerror-reads.Asked,
+      none-is-permerror-reads.Learnt,
+    )
+    (no-match-at t)
+    no-match.Post
+    (no-match-find-redirect-requires t)
+    (no-match-enum-known-from t)
+    (no-match-enum-told t)
+    (no-match-ended-requires t)
+    (no-match-returns t)
+    (no-match-part-requires t)
+    (no-match-begin-check-requires t)
+    (no-match-none-is-permerror-requires t)
+    (no-match-same-length t)
+    (no-match-returns-2 t))
+    (λ t. try-term-lts.spec (
+      part-reads.Asked,
+      part-reads.Learnt,
+      try-plain-reads.Asked,
+      try-plain-reads.Learnt,
+      include-below t,
+      include.Post,
+    )
+    (try-term-at t)
+    try-term.Post
+    (try-term-part-requires t)
+    (try-term-try-plain-requires t)
+    (try-term-enum-known-step t)
+    (try-term-enum-known-from t)
+    (try-term-part-requires-2 t)
+    (try-term-include-requires t)
+    (try-term-same-length t)
+    (try-term-returns t)
+    (try-term-same-length-2 t)
+    (try-term-returns-2 t))
+    λ t. try-terms-lts.spec (
+      part-reads.Asked,
+      part-reads.Learnt,
+      read-term-reads.Asked,
+      read-term-reads.Learnt,
+      no-match-below t,
+      no-match.Post,
+      try-term-below t,
+      try-term.Post,
+      signed-reads.Asked,
+      signed-reads.Learnt,
+    )
+    (try-terms-at t)
+    try-terms.Post
+    try-terms-Inv-loop
+    try-terms-μ-loop
+    (try-terms-part-requires t)
+    (try-terms-loop-holds t)
+    (try-terms-read-term-requires t)
+    (try-terms-enum-known-place t)
+    (try-terms-no-match-requires t)
+    (try-terms-same-length t)
+    (try-terms-returns t)
+    (try-terms-part-requires-2 t)
+    (try-terms-try-term-requires t)
+    (try-terms-enum-told t)
+    (try-terms-signed-requires t)
+    (try-terms-same-length-2 t)
+    (try-terms-returns-2 t)
+    (try-terms-enum-known-matched t)
+    (try-terms-same-length-3 t)
+    (try-terms-returns-3 t)
+    (try-terms-enum-told-2 t)
+    (try-terms-loop-less t)
+    (try-terms-loop-again t)
+    (try-terms-no-match-requires-2 t)
+    (try-terms-same-length-4 t)
+    (try-terms-returns-4 t)

@@ -1,0 +1,11 @@
+-- What the contracts of this crate are said in, and demand 3.
+-- Checks: what the parts of a check answer.
+pub mod Checks
+-- Numbers: 01's number and values for each answer, and the lent buffers afterwards.
+pub mod Numbers
+-- Evaluating: an evaluation for any arguments, refusals first.
+pub mod Evaluating
+-- Answers: what an evaluation answers, by the table's list of entries.
+pub mod Answers
+-- Demand3: reading a record, reading its terms and evaluating, as one theorem.
+pub mod Demand3

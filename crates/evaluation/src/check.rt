@@ -1,0 +1,518 @@
+// The check of a domain: its record, the record's terms, include and redirect. These functions call each other; the remaining lookups fall.
+ghost use Prim.Native.Nat.{ℕ, suc, _+_, _≤_};
+ghost use mathlib.Core.Path.{_≡_};
+ghost use lib.ListN.{length};
+ghost use Rattle.domain.specs.Normal.{name};
+ghost use Rattle.records.specs.Numbers.{saidOf};
+ghost use Rattle.records.specs.Reader.{readRecord};
+ghost use Rattle.meaning.specs.Tree.{run};
+ghost use Rattle.meaning.specs.Tables.{asks};
+ghost use Rattle.meaning.specs.Evaluation.{another, includeStep, termStep, modifierOf, noMatch, tryTerms, termsOf, readOutcome, check};
+ghost use Rattle.meaning.specs.Outcomes.{mailOf, spanOf, SaysStep, Says};
+ghost use Rattle.evaluation.specs.Checks.{endedOf, wantingOf, signOf, signedOf, redirectedOf, includedNow, includedOf};
+ghost use Rattle.text.specs.Texts.{bytes};
+use address::Address;
+use meaning::Checked;
+use meaning::Counts;
+use meaning::Ending;
+use meaning::Failing;
+use meaning::Lookup;
+use meaning::Matched;
+use meaning::Span;
+use meaning::Stepped;
+use meaning::Target;
+use mechanisms::Tried;
+use records::RecordAnswer;
+use records::Term;
+use records::TermAnswer;
+use selection::modifiers;
+use selection::modifiers::Modifier;
+use text::bytes;
+
+// A result without an explanation.
+pub fn ended(value: u8, counts: Counts) -> Checked
+    ensures { λ r. ⌜ r ≡ endedOf value counts ⌝ }
+{
+    Checked {
+        ending: Ending::Result(value),
+        counts,
+        failing: Failing::Nowhere,
+    }
+}
+
+// A question without an entry.
+fn wanting(kind: u16, size: usize, counts: Counts) -> Checked
+    ensures { λ r. ⌜ r ≡ wantingOf kind size counts ⌝ }
+{
+    Checked {
+        ending: Ending::Wanting { kind, length: size },
+        counts,
+        failing: Failing::Nowhere,
+    }
+}
+
+// The sign of a term; a modifier has none.
+fn sign_of(term: Term) -> u8
+    ensures { λ r. ⌜ r ≡ signOf term ⌝ }
+{
+    match term {
+        Term::All { sign } => sign,
+        Term::Include {
+            sign,
+            from: _,
+            to: _,
+        } => sign,
+        Term::A {
+            sign,
+            from: _,
+            to: _,
+            four: _,
+            six: _,
+        } => sign,
+        Term::Mx {
+            sign,
+            from: _,
+            to: _,
+            four: _,
+            six: _,
+        } => sign,
+        Term::Ptr {
+            sign,
+            from: _,
+            to: _,
+        } => sign,
+        Term::Network {
+            sign,
+            from: _,
+            to: _,
+            address: _,
+            length: _,
+        } => sign,
+        Term::Exists {
+            sign,
+            from: _,
+            to: _,
+        } => sign,
+        Term::Redirect { from: _, to: _ } => 0,
+        Term::Explanation { from: _, to: _ } => 0,
+        Term::Unknown { name: _, to: _ } => 0,
+    }
+}
+
+// The result of a sign, and for a fail where its explanation is.
+fn sign_result(sign: u8, domain: Span, text: Span, first: usize, counts: Counts) -> Checked
+    ensures { λ r. ⌜ r ≡ signedOf sign domain text first counts ⌝ }
+{
+    if sign == 43 {
+        return ended(2, counts);
+    }
+    if sign == 45 {
+        return Checked {
+            ending: Ending::Result(3),
+            counts,
+            failing: Failing::In {
+                domain,
+                text,
+                terms: first,
+            },
+        };
+    }
+    if sign == 126 {
+        return ended(4, counts);
+    }
+    ended(1, counts)
+}
+
+// A matching term gives its sign's result.
+fn signed(term: Term, domain: Span, text: Span, first: usize, counts: Counts) -> Checked
+    ensures { λ r. ⌜ r ≡ signedOf (signOf term) domain text first counts ⌝ }
+{
+    sign_result(sign_of(term), domain, text, first, counts)
+}
+
+// The check of a domain: "A malformed or single-label domain gives none"; its record is looked up.
+pub fn check_domain(
+    client: Address,
+    sender: &[u8],
+    helo: &[u8],
+    receiver: &[u8],
+    seconds: u64,
+    table: &[u8],
+    domain: &[u8],
+    counts: Counts,
+    out: &mut [u8],
+) -> Checked
+    requires { ⌜ (length (now sender) ≤ 320) × (length (now domain) ≤ 253) × (counts .lookups ≤ 10) × (counts .voids ≤ 2) ⌝ }
+    ensures { λ r. ⌜ ((n : ℕ) → 10 ≤ n + counts .lookups →
+        Says (now (table .entry)) (run (asks (now (table .entry))) (check (suc n) (mailOf client (now (sender .entry)) (now (helo .entry)) (now (receiver .entry)) seconds) (name (now (domain .entry))) counts)) r (now (out .entry)) (now (out .exit))) ⌝ }
+{
+    if domain::count_labels(domain) <= 1 {
+        return ended(0, counts);
+    }
+    match selection::select_record(table, domain, counts, out) {
+        Lookup::Ends(value) => ended(value, counts),
+        Lookup::Wanting { kind, length: n } => wanting(kind, n, counts),
+        Lookup::One {
+            domain: place,
+            text,
+        } => evaluate_record(
+            client,
+            sender,
+            helo,
+            receiver,
+            seconds,
+            table,
+            place,
+            text,
+            counts,
+            out,
+        ),
+    }
+}
+
+// The record that a check selected: the whole record is read before any term is tried.
+fn evaluate_record(
+    client: Address,
+    sender: &[u8],
+    helo: &[u8],
+    receiver: &[u8],
+    seconds: u64,
+    table: &[u8],
+    domain: Span,
+    text: Span,
+    counts: Counts,
+    out: &mut [u8],
+) -> Checked
+    requires { ⌜ (length (now sender) ≤ 320) × (length (spanOf (now table) domain) ≤ 253) × (counts .lookups ≤ 10) × (counts .voids ≤ 2) ⌝ }
+    ensures { λ r. ⌜ ((n : ℕ) → 10 ≤ n + counts .lookups →
+        Says (now (table .entry)) (run (asks (now (table .entry))) (readOutcome (mailOf client (now (sender .entry)) (now (helo .entry)) (now (receiver .entry)) seconds) (check n (mailOf client (now (sender .entry)) (now (helo .entry)) (now (receiver .entry)) seconds)) (spanOf (now (table .entry)) domain) (spanOf (now (table .entry)) text) (readRecord (spanOf (now (table .entry)) text)) counts)) r (now (out .entry)) (now (out .exit))) ⌝ }
+{
+    match records::read_record(bytes::part(table, text.from, text.to)) {
+        RecordAnswer::Refused { number: _, at: _ } => ended(6, counts),
+        RecordAnswer::Accepted(first) => try_terms(
+            client,
+            sender,
+            helo,
+            receiver,
+            seconds,
+            table,
+            domain,
+            text,
+            first,
+            counts,
+            out,
+        ),
+    }
+}
+
+// The terms of a record from a place on, from left to right.
+fn try_terms(
+    client: Address,
+    sender: &[u8],
+    helo: &[u8],
+    receiver: &[u8],
+    seconds: u64,
+    table: &[u8],
+    domain: Span,
+    text: Span,
+    first: usize,
+    counts: Counts,
+    out: &mut [u8],
+) -> Checked
+    requires { ⌜ (length (now sender) ≤ 320) × (length (spanOf (now table) domain) ≤ 253) × (counts .lookups ≤ 10) × (counts .voids ≤ 2) ⌝ }
+    ensures { λ r. ⌜ ((n : ℕ) → 10 ≤ n + counts .lookups →
+        Says (now (table .entry)) (run (asks (now (table .entry))) (tryTerms (mailOf client (now (sender .entry)) (now (helo .entry)) (now (receiver .entry)) seconds) (check n (mailOf client (now (sender .entry)) (now (helo .entry)) (now (receiver .entry)) seconds)) (spanOf (now (table .entry)) domain) (termsOf (spanOf (now (table .entry)) text) first) (termsOf (spanOf (now (table .entry)) text) first) counts)) r (now (out .entry)) (now (out .exit))) ⌝ }
+{
+    let s = bytes::part(table, text.from, text.to);
+    let mut at = first;
+    let mut so_far = counts;
+    while at <= s.len() {
+        let TermAnswer::Is {
+            at: place,
+            next,
+            term,
+        } = records::read_term(s, at)
+        else {
+            return no_match(
+                client,
+                sender,
+                helo,
+                receiver,
+                seconds,
+                table,
+                domain,
+                s,
+                first,
+                so_far,
+                out,
+            );
+        };
+        let step = try_term(
+            client,
+            sender,
+            helo,
+            receiver,
+            seconds,
+            table,
+            domain,
+            bytes::part(s, place, next),
+            term,
+            so_far,
+            out,
+        );
+        let c = step.counts;
+        let matched = step.matched;
+        match matched {
+            Matched::Yes => {
+                return signed(term, domain, text, first, c);
+            }
+            Matched::Stop(ending) => {
+                return Checked {
+                    ending,
+                    counts: c,
+                    failing: Failing::Nowhere,
+                };
+            }
+            Matched::No => {
+                so_far = c;
+                at = next;
+            }
+        }
+    }
+    no_match(
+        client,
+        sender,
+        helo,
+        receiver,
+        seconds,
+        table,
+        domain,
+        s,
+        first,
+        so_far,
+        out,
+    )
+}
+
+// No term matches: the redirect, or neutral. `s` is the record.
+fn no_match(
+    client: Address,
+    sender: &[u8],
+    helo: &[u8],
+    receiver: &[u8],
+    seconds: u64,
+    table: &[u8],
+    domain: Span,
+    s: &[u8],
+    first: usize,
+    counts: Counts,
+    out: &mut [u8],
+) -> Checked
+    requires { ⌜ (length (now sender) ≤ 320) × (length (spanOf (now table) domain) ≤ 253) × (counts .lookups ≤ 10) × (counts .voids ≤ 2) ⌝ }
+    ensures { λ r. ⌜ ((n : ℕ) → 10 ≤ n + counts .lookups →
+        Says (now (table .entry)) (run (asks (now (table .entry))) (noMatch (mailOf client (now (sender .entry)) (now (helo .entry)) (now (receiver .entry)) seconds) (check n (mailOf client (now (sender .entry)) (now (helo .entry)) (now (receiver .entry)) seconds)) (spanOf (now (table .entry)) domain) (modifierOf (bytes "redirect") (termsOf (now (s .entry)) first)) counts)) r (now (out .entry)) (now (out .exit))) ⌝ }
+{
+    let Modifier::Part { from, to } = modifiers::find_redirect(s, first) else {
+        return ended(1, counts);
+    };
+    let o = begin_check(
+        client,
+        sender,
+        helo,
+        receiver,
+        seconds,
+        table,
+        domain,
+        bytes::part(s, from, to),
+        counts,
+        out,
+    );
+    none_is_permerror(o)
+}
+
+// A term: include, or any other.
+fn try_term(
+    client: Address,
+    sender: &[u8],
+    helo: &[u8],
+    receiver: &[u8],
+    seconds: u64,
+    table: &[u8],
+    domain: Span,
+    w: &[u8],
+    term: Term,
+    counts: Counts,
+    out: &mut [u8],
+) -> Stepped
+    requires { ⌜ (length (now sender) ≤ 320) × (length (spanOf (now table) domain) ≤ 253) × (counts .lookups ≤ 10) × (counts .voids ≤ 2) ⌝ }
+    ensures { λ r. ⌜ ((n : ℕ) → 10 ≤ n + counts .lookups →
+        SaysStep (run (asks (now (table .entry))) (termStep (mailOf client (now (sender .entry)) (now (helo .entry)) (now (receiver .entry)) seconds) (check n (mailOf client (now (sender .entry)) (now (helo .entry)) (now (receiver .entry)) seconds)) (spanOf (now (table .entry)) domain) (saidOf (now (w .entry)) term) (saidOf (now (w .entry)) term .sign) counts)) r (now (out .entry)) (now (out .exit))) ⌝ }
+{
+    match mechanisms::try_plain(
+        client,
+        sender,
+        helo,
+        receiver,
+        seconds,
+        table,
+        bytes::part(table, domain.from, domain.to),
+        w,
+        term,
+        counts,
+        out,
+    ) {
+        Tried::Step(step) => step,
+        Tried::Include { from, to } => include(
+            client,
+            sender,
+            helo,
+            receiver,
+            seconds,
+            table,
+            domain,
+            bytes::part(w, from, to),
+            counts,
+            out,
+        ),
+    }
+}
+
+// An include: the check of its domain, and what its result says of the record that includes.
+fn include(
+    client: Address,
+    sender: &[u8],
+    helo: &[u8],
+    receiver: &[u8],
+    seconds: u64,
+    table: &[u8],
+    domain: Span,
+    spec: &[u8],
+    counts: Counts,
+    out: &mut [u8],
+) -> Stepped
+    requires { ⌜ (length (now sender) ≤ 320) × (length (spanOf (now table) domain) ≤ 253) × (counts .lookups ≤ 10) × (counts .voids ≤ 2) ⌝ }
+    ensures { λ r. ⌜ ((n : ℕ) → 10 ≤ n + counts .lookups →
+        SaysStep (run (asks (now (table .entry))) (includeStep (mailOf client (now (sender .entry)) (now (helo .entry)) (now (receiver .entry)) seconds) (check n (mailOf client (now (sender .entry)) (now (helo .entry)) (now (receiver .entry)) seconds)) (spanOf (now (table .entry)) domain) (now (spec .entry)) counts)) r (now (out .entry)) (now (out .exit))) ⌝ }
+{
+    let o = begin_check(
+        client,
+        sender,
+        helo,
+        receiver,
+        seconds,
+        table,
+        domain,
+        spec,
+        counts,
+        out,
+    );
+    include_of(o)
+}
+
+// Counts a lookup, makes the target and checks it.
+fn begin_check(
+    client: Address,
+    sender: &[u8],
+    helo: &[u8],
+    receiver: &[u8],
+    seconds: u64,
+    table: &[u8],
+    domain: Span,
+    spec: &[u8],
+    counts: Counts,
+    out: &mut [u8],
+) -> Checked
+    requires { ⌜ (length (now sender) ≤ 320) × (length (spanOf (now table) domain) ≤ 253) × (counts .lookups ≤ 10) × (counts .voids ≤ 2) ⌝ }
+    ensures { λ r. ⌜ ((n : ℕ) → 10 ≤ n + counts .lookups →
+        Says (now (table .entry)) (run (asks (now (table .entry))) (another (mailOf client (now (sender .entry)) (now (helo .entry)) (now (receiver .entry)) seconds) (check n (mailOf client (now (sender .entry)) (now (helo .entry)) (now (receiver .entry)) seconds)) (spanOf (now (table .entry)) domain) (now (spec .entry)) counts)) r (now (out .entry)) (now (out .exit))) ⌝ }
+{
+    let used = counts.lookups;
+    if 10 <= used {
+        return ended(6, counts);
+    }
+    let begun = Counts {
+        lookups: used + 1,
+        voids: counts.voids,
+    };
+    let mut to = [0u8; 253];
+    match targets::make_target(
+        client,
+        sender,
+        helo,
+        receiver,
+        seconds,
+        table,
+        bytes::part(table, domain.from, domain.to),
+        spec,
+        begun,
+        &mut to,
+        out,
+    ) {
+        Target::Malformed => ended(0, begun),
+        Target::Wanting { kind, length: n } => wanting(kind, n, begun),
+        Target::Name(n) => check_domain(
+            client,
+            sender,
+            helo,
+            receiver,
+            seconds,
+            table,
+            bytes::part(&to, 0, n),
+            begun,
+            out,
+        ),
+    }
+}
+
+// A redirect's result: none becomes permerror.
+fn none_is_permerror(o: Checked) -> Checked
+    ensures { λ r. ⌜ r ≡ redirectedOf o ⌝ }
+{
+    let counts = o.counts;
+    let ending = o.ending;
+    match ending {
+        Ending::Wanting { kind: _, length: _ } => o,
+        Ending::Result(value) => {
+            if value == 0 {
+                return ended(6, counts);
+            }
+            o
+        }
+    }
+}
+
+// What an included check's result says: pass matches; fail, softfail and neutral don't; temperror stays; permerror and none give permerror.
+fn include_of(o: Checked) -> Stepped
+    ensures { λ r. ⌜ r ≡ includedOf o ⌝ }
+{
+    let counts = o.counts;
+    let ending = o.ending;
+    match ending {
+        Ending::Result(value) => Stepped {
+            matched: included(value),
+            counts,
+        },
+        Ending::Wanting { kind, length } => Stepped {
+            matched: Matched::Stop(Ending::Wanting { kind, length }),
+            counts,
+        },
+    }
+}
+
+fn included(value: u8) -> Matched
+    ensures { λ r. ⌜ r ≡ includedNow value ⌝ }
+{
+    if value == 2 {
+        return Matched::Yes;
+    }
+    if value == 5 {
+        return Matched::Stop(Ending::Result(5));
+    }
+    if value == 6 {
+        return Matched::Stop(Ending::Result(6));
+    }
+    if value == 0 {
+        return Matched::Stop(Ending::Result(6));
+    }
+    Matched::No
+}

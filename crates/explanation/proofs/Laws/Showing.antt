@@ -1,0 +1,178 @@
+-- What a text shows, from a value of p on: a rule for each way out. From the contract of macros' `write_expansion` and Inversions.
+use Prim.Native.Nat.{ℕ, _≤_, _<_}
+use mathlib.Core.Path.{_≡_, refl, sym, ap, subst, _∙_}
+use mathlib.Core.List.{List, [], _∷_}
+use mathlib.Core.Bool.{Bool, true, false, cond}
+use native.Mathlib.Omega.{arith}
+use lib.Dec.{leb}
+use lib.ListN.{length, take, drop}
+use lib.Seq.{take-at, take-nil}
+use borrow.Author.Tests.{leb-true, leb-false, le-leb, lt-leb}
+use Rattle.text.specs.Bytes.{part, isPrintable}
+use Rattle.text.specs.Lists.{all}
+use Rattle.text.specs.Runs.{isIn}
+use Rattle.text.specs.Texts.{bytes}
+use Rattle.text.specs.Writing.{Wrote, overwritten}
+use Rattle.text.specs.declared.bytes.Class.the-variants.{Printable}
+use Rattle.text.proofs.Laws.Classes.{class-tests}
+use Rattle.text.proofs.Laws.Writing.{wrote-over}
+use Rattle.address.specs.declared.Address.{Address}
+use Rattle.macros.specs.declared.Form.the-variants.{Explanation}
+use Rattle.macros.specs.declared.Expanded.{Expanded}
+use Rattle.macros.specs.declared.Expanded.the-variants.{Written, Refused}
+use Rattle.macros.specs.Reader.{pieces, isMacroString, usesP}
+use Rattle.macros.specs.Expansion.{given, lettersOf, textOf}
+use Rattle.macros.specs.Numbers.{refused, expanded as expandedTo, fitted, answerOf, bufferOf, Says}
+use Rattle.meaning.specs.declared.Counts.{Counts}
+use Rattle.meaning.specs.declared.PValue.{PValue}
+use Rattle.meaning.specs.declared.Explained.{Explained}
+use Rattle.meaning.specs.Tree.{bind, Settled, settled, run}
+use Rattle.meaning.specs.Tables.{asks}
+use Rattle.meaning.specs.Mechanisms.{Mail, pValue, expansion, givesExpansion, expanded}
+use Rattle.meaning.specs.Evaluation.{most-text, shown, givesShown, explained}
+use Rattle.meaning.specs.Outcomes.{mailOf, wantedBuffer, SaysP, ExplainedIs, textBuffer, SaysText}
+use Rattle.meaning.specs.Inversions.{Gives, Wants, wants-bind, gives-bind, p-current, p-listed, p-unknown, p-wants}
+use Rattle.explanation.specs.Stages.{Shows, printed, withP}
+
+-- an explanation that is settled, one that is empty, and one that is wanted
+pub text-settled : (c : Counts) (x : Settled (List ℕ)) (s : List ℕ) (n : ℕ) (u v b a : List ℕ) → Gives x s b a → Shows s n u v → SaysText c x (Explained.Text n) u v b a
+unfolding ExplainedIs textBuffer wantedBuffer
+text-settled c x s n u v b a g w = rw (g .is) (record { explained = ap Explained.Text (w .size); text-buffer = w .buffer; buffer = g .kept })
+
+over-none : (u : List ℕ) → overwritten [] u ≡ u
+unfolding overwritten
+over-none u = rw (take-nil (length u))
+
+shows-none : (s u : List ℕ) → s ≡ [] → Shows s 0 u u
+shows-none s u e = rw e (record { size = refl; buffer = sym (over-none u) })
+
+pub text-empty : (c : Counts) (x : Settled (List ℕ)) (u b a : List ℕ) → Gives x [] b a → SaysText c x (Explained.Text 0) u u b a
+text-empty c x u b a g = text-settled c x [] 0 u u b a g (shows-none [] u refl)
+
+pub text-wanted : (c : Counts) (x : Settled (List ℕ)) (kind size : ℕ) (u b a : List ℕ) → Wants x kind size c b a → SaysText c x (Explained.Wanting kind size) u u b a
+unfolding ExplainedIs textBuffer wantedBuffer
+text-wanted c x kind size u b a w = rw (w .is, w .size-is) (record { explained = (refl, refl); text-buffer = refl; buffer = w .buffer })
+
+-- what is shown of a text
+shown-short : (s : List ℕ) → length s ≤ most-text → shown s ≡ printed s
+unfolding shown printed
+shown-short s h = rw (le-leb (length s) most-text h)
+
+shown-over : (s : List ℕ) → most-text < length s → shown s ≡ []
+unfolding shown
+shown-over s h = rw (lt-leb (length s) most-text h)
+
+-- `put_printable`
+module _ (s : List ℕ) (b : Bool) (e : b ≡ all (isIn Printable) s) where
+  tested : all isPrintable s ≡ b
+  tested = sym (class-tests Printable s) ∙ sym e
+
+  pub printed-all : b ≡ true → (text text′ : List ℕ) (m : ℕ) → Wrote s text 0 text′ m → Shows (printed s) (length s) text text′
+  unfolding printed
+  printed-all h text text′ m w = rw (tested, h) (record { size = refl; buffer = wrote-over s text text′ m w })
+
+  pub printed-none : b ≡ false → (text : List ℕ) → Shows (printed s) 0 text text
+  unfolding printed
+  printed-none h text = shows-none (printed s) text (rw (tested, h))
+
+-- what an expansion in an array tells of its text
+unfoldable TextIs : (xs z : List ℕ) → Expanded → List ℕ → Type 0
+TextIs xs z (Written n) v = (n ≡ length xs) × (length xs ≤ length z) × (take n v ≡ xs)
+TextIs xs z (Refused k) v = length z < length xs
+
+text-is : (xs z v : List ℕ) (x : Expanded) → Says (fitted xs (length z)) x z v → TextIs xs z x v
+unfolding fitted TextIs
+text-is xs z v x says = by (leb (length xs) (length z)) refl (says .answer) (says .buffer)
+  where
+    by : (b : Bool) → leb (length xs) (length z) ≡ b → x ≡ answerOf (cond b (expandedTo xs) (refused 41)) → v ≡ bufferOf (cond b (expandedTo xs) (refused 41)) z → TextIs xs z x v
+    by true e a u = let l = leb-true (length xs) (length z) e in rw a (refl, l, rw u (take-at xs (drop (length xs) z) (length xs) refl))
+    by false e a u = let l = leb-false (length xs) (length z) e in rw a l
+
+-- `write_shown`
+module _ (client : Address) (sender helo receiver : List ℕ) (seconds : ℕ) (d s p z v : List ℕ) (x : Expanded)
+    (says : Says (fitted (textOf (lettersOf (given sender helo receiver d p client seconds)) (pieces Explanation s .list)) (length z)) x z v) where
+  by-case : (y : Expanded) → x ≡ y → TextIs (expansion (mailOf client sender helo receiver seconds) d Explanation s p) z y v
+  unfolding expansion
+  by-case y e = subst (λ (w : Expanded). TextIs (expansion (mailOf client sender helo receiver seconds) d Explanation s p) z w v) e (text-is _ z v x says)
+
+  pub shown-written : length z ≤ most-text → (n : ℕ) → x ≡ Written n → (r : ℕ) (text text′ : List ℕ) → Shows (printed (take n v)) r text text′
+      → Shows (shown (expansion (mailOf client sender helo receiver seconds) d Explanation s p)) r text text′
+  unfolding TextIs
+  shown-written room n e r text text′ o =
+      let w = by-case (Written n) e in
+      let y = expansion (mailOf client sender helo receiver seconds) d Explanation s p in
+      rw (shown-short y (omega (arith, w .1)), ← (w .2)) o
+
+  pub shown-refused : most-text ≤ length z → (k : ℕ) → x ≡ Refused k → (text : List ℕ)
+      → Shows (shown (expansion (mailOf client sender helo receiver seconds) d Explanation s p)) 0 text text
+  unfolding TextIs
+  shown-refused room k e text =
+      let w = by-case (Refused k) e in
+      shows-none _ text (shown-over (expansion (mailOf client sender helo receiver seconds) d Explanation s p) (omega arith))
+
+-- `explain_with_p`
+module _ (mail : Mail) (c : Counts) (t d s b a : List ℕ) where
+  with-value : (p : List ℕ) → Gives (run (asks t) (pValue (mail .client) d c)) p b a
+      → Gives (run (asks t) (withP mail d s c)) (shown (expansion mail d Explanation s p)) b a
+  unfolding withP givesExpansion givesShown run
+  with-value p g =
+      let m = bind (pValue (mail .client) d c) (givesExpansion mail d Explanation s) in
+      let y : run (asks t) m ≡ settled (expansion mail d Explanation s p) = gives-bind (asks t) (pValue (mail .client) d c) (givesExpansion mail d Explanation s) p (g .is) in
+      record { is = gives-bind (asks t) m givesShown (expansion mail d Explanation s p) y; kept = g .kept }
+
+module _ (client : Address) (sender helo receiver : List ℕ) (seconds : ℕ) (c : Counts) (t d s b a : List ℕ) (v : PValue)
+    (says : SaysP c d t (run (asks t) (pValue client d c)) v b a) where
+  with-given : (p : List ℕ) → Gives (run (asks t) (pValue client d c)) p b a → (n : ℕ) (u u′ : List ℕ)
+      → Shows (shown (expansion (mailOf client sender helo receiver seconds) d Explanation s p)) n u u′
+      → SaysText c (run (asks t) (withP (mailOf client sender helo receiver seconds) d s c)) (Explained.Text n) u u′ b a
+  with-given p g n u u′ w =
+      text-settled c (run (asks t) (withP (mailOf client sender helo receiver seconds) d s c)) _ n u u′ b a
+      (with-value (mailOf client sender helo receiver seconds) c t d s b a p g) w
+
+  pub with-current : v ≡ PValue.Current → (n : ℕ) (u u′ : List ℕ)
+      → Shows (shown (expansion (mailOf client sender helo receiver seconds) d Explanation s d)) n u u′
+      → SaysText c (run (asks t) (withP (mailOf client sender helo receiver seconds) d s c)) (Explained.Text n) u u′ b a
+  with-current e n u u′ w = with-given d (p-current c d t _ v b a says e) n u u′ w
+
+  pub with-listed : (from to : ℕ) → v ≡ PValue.Listed from to → (p : List ℕ) → p ≡ part t from to → (n : ℕ) (u u′ : List ℕ)
+      → Shows (shown (expansion (mailOf client sender helo receiver seconds) d Explanation s p)) n u u′
+      → SaysText c (run (asks t) (withP (mailOf client sender helo receiver seconds) d s c)) (Explained.Text n) u u′ b a
+  with-listed from to e p h n u u′ w =
+      with-given p (subst (λ (y : List ℕ). Gives (run (asks t) (pValue client d c)) y b a) (sym h) (p-listed c d t _ v b a says from to e)) n u u′ w
+
+  pub with-unknown : v ≡ PValue.Unknown → (n : ℕ) (u u′ : List ℕ)
+      → Shows (shown (expansion (mailOf client sender helo receiver seconds) d Explanation s (bytes "unknown"))) n u u′
+      → SaysText c (run (asks t) (withP (mailOf client sender helo receiver seconds) d s c)) (Explained.Text n) u u′ b a
+  with-unknown e n u u′ w = with-given (bytes "unknown") (p-unknown c d t _ v b a says e) n u u′ w
+
+  pub with-wanting : (kind size : ℕ) → v ≡ PValue.Wanting kind size → (u : List ℕ)
+      → SaysText c (run (asks t) (withP (mailOf client sender helo receiver seconds) d s c)) (Explained.Wanting kind size) u u b a
+  unfolding withP
+  with-wanting kind size e u =
+      let mail = mailOf client sender helo receiver seconds in
+      let m = bind (pValue client d c) (givesExpansion mail d Explanation s) in
+      let w = p-wants c d t _ v b a says kind size e in
+      text-wanted c (run (asks t) (bind m givesShown)) kind size u b a
+      (wants-bind (asks t) m givesShown kind size c b a (wants-bind (asks t) (pValue client d c) (givesExpansion mail d Explanation s) kind size c b a w))
+
+-- `explain_text`
+module _ (client : Address) (sender helo receiver : List ℕ) (seconds : ℕ) (c : Counts) (t d s : List ℕ) (g : Bool) (e : g ≡ isMacroString Explanation s) where
+  pub text-outside : g ≡ false → (u b : List ℕ) → SaysText c (run (asks t) (explained (mailOf client sender helo receiver seconds) d c (s ∷ []))) (Explained.Text 0) u u b b
+  unfolding explained run
+  text-outside h u b =
+      let x = run (asks t) (explained (mailOf client sender helo receiver seconds) d c (s ∷ [])) in
+      text-empty c x u b b (record { is = rw (← e, h); kept = refl })
+
+  module _ (h : g ≡ true) (w : Bool) (i : w ≡ usesP Explanation s) where
+    pub text-uses-p : w ≡ true → (r : Explained) (u u′ b a : List ℕ) → SaysText c (run (asks t) (withP (mailOf client sender helo receiver seconds) d s c)) r u u′ b a
+        → SaysText c (run (asks t) (explained (mailOf client sender helo receiver seconds) d c (s ∷ []))) r u u′ b a
+    unfolding withP explained expanded
+    text-uses-p k r u u′ b a y = rw (← e, h, ← i, k) y
+
+    pub text-without-p : w ≡ false → (n : ℕ) (u u′ b : List ℕ) → Shows (shown (expansion (mailOf client sender helo receiver seconds) d Explanation s [])) n u u′
+        → SaysText c (run (asks t) (explained (mailOf client sender helo receiver seconds) d c (s ∷ []))) (Explained.Text n) u u′ b b
+    unfolding explained expanded givesExpansion givesShown run bind
+    text-without-p k n u u′ b y =
+        let x = run (asks t) (explained (mailOf client sender helo receiver seconds) d c (s ∷ [])) in
+        let q : x ≡ settled (shown (expansion (mailOf client sender helo receiver seconds) d Explanation s [])) = rw (← e, h, ← i, k) in
+        text-settled c x (shown (expansion (mailOf client sender helo receiver seconds) d Explanation s [])) n u u′ b b (record { is = q; kept = refl }) y

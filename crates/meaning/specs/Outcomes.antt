@@ -1,0 +1,113 @@
+-- What the code's answers say of what a table settles: one definition for each kind of answer, and one for the name buffer.
+use Prim.Native.Nat.{ℕ, _≤_}
+use mathlib.Core.Path.{_≡_}
+use mathlib.Core.List.{List}
+use mathlib.Core.Bool.{Bool, cond}
+use lib.ListN.{length, take}
+use Rattle.text.specs.Bytes.{part}
+use Rattle.text.specs.Texts.{bytes}
+use Rattle.text.specs.Writing.{overwritten}
+use Rattle.address.specs.declared.Address.{Address}
+use Rattle.domain.specs.Normal.{Naming, name, malformed}
+use Rattle.records.specs.Readings.{Optional, absent, present}
+use Rattle.meaning.specs.declared.Counts.{Counts}
+use Rattle.meaning.specs.declared.Ending.{Ending}
+use Rattle.meaning.specs.declared.Matched.{Matched}
+use Rattle.meaning.specs.declared.Stepped.{Stepped}
+use Rattle.meaning.specs.declared.Target.{Target}
+use Rattle.meaning.specs.declared.PValue.{PValue}
+use Rattle.meaning.specs.declared.Span.{Span}
+use Rattle.meaning.specs.declared.Lookup.{Lookup}
+use Rattle.meaning.specs.declared.Failing.{Failing}
+use Rattle.meaning.specs.declared.Checked.{Checked}
+use Rattle.meaning.specs.declared.Explained.{Explained}
+use Rattle.meaning.specs.Tree.{Settled, settled, wanting}
+use Rattle.meaning.specs.Mechanisms.{Mail, Match, yes, no, stop, Step}
+use Rattle.meaning.specs.Evaluation.{Failing as FailingAt, failingAt, Result, Selection, ends, one, modifierOf, termsOf}
+
+-- what the calls are lent, as the definitions have it
+abbrev pub mailOf : Address → (sender helo receiver : List ℕ) → ℕ → Mail
+mailOf client sender helo receiver seconds = record { client = client; sender = sender; helo = helo; receiver = receiver; seconds = seconds }
+
+-- the name buffer afterwards: the name of a wanted question at its front and all bytes after it kept; otherwise as it was
+unfoldable pub wantedBuffer : {A : Type 0} → Settled A → List ℕ → List ℕ
+wantedBuffer (settled a) before = before
+wantedBuffer (wanting kind n c) before = overwritten n before
+
+-- a term
+unfoldable pub matchedOf : Match → Matched
+matchedOf yes = Matched.Yes
+matchedOf no = Matched.No
+matchedOf (stop v) = Matched.Stop (Ending.Result v)
+
+unfoldable pub steppedOf : Settled Step → Stepped
+steppedOf (settled s) = record { matched = matchedOf (s .match); counts = s .counts }
+steppedOf (wanting kind n c) = record { matched = Matched.Stop (Ending.Wanting kind (length n)); counts = c }
+
+pub record SaysStep (x : Settled Step) (r : Stepped) (before after : List ℕ) : Type 0 where
+  pub outcome : r ≡ steppedOf x
+  pub buffer : after ≡ wantedBuffer x before
+
+-- a domain-spec's name, written at the front of a buffer; a question of p has the counts that were handed in
+unfoldable pub TargetIs : Counts → Settled Naming → Target → List ℕ → Type 0
+TargetIs c (settled (name s)) r to = (r ≡ Target.Name (length s)) × (take (length s) to ≡ s) × (length s ≤ 253)
+TargetIs c (settled malformed) r to = r ≡ Target.Malformed
+TargetIs c (wanting kind n e) r to = (r ≡ Target.Wanting kind (length n)) × (e ≡ c)
+
+pub record SaysTarget (c : Counts) (x : Settled Naming) (r : Target) (to before after : List ℕ) : Type 0 where
+  pub target : TargetIs c x r to
+  pub buffer : after ≡ wantedBuffer x before
+
+-- the value of p, with the current domain d and the table's bytes t
+unfoldable pub PIs : Counts → (d t : List ℕ) → Settled (List ℕ) → PValue → Type 0
+PIs c d t (settled s) PValue.Current = s ≡ d
+PIs c d t (settled s) (PValue.Listed from to) = s ≡ part t from to
+PIs c d t (settled s) PValue.Unknown = s ≡ bytes "unknown"
+PIs c d t (settled s) (PValue.Wanting kind n) = ⊥
+PIs c d t (wanting kind n e) r = (r ≡ PValue.Wanting kind (length n)) × (e ≡ c)
+
+pub record SaysP (c : Counts) (d t : List ℕ) (x : Settled (List ℕ)) (r : PValue) (before after : List ℕ) : Type 0 where
+  pub value : PIs c d t x r
+  pub buffer : after ≡ wantedBuffer x before
+
+-- record lookup, for the domain d in the table's bytes t
+abbrev pub spanOf : List ℕ → Span → List ℕ
+spanOf t s = part t (s .from) (s .to)
+
+unfoldable pub LookupIs : Counts → (d t : List ℕ) → Settled Selection → Lookup → Type 0
+LookupIs c d t (settled (ends v)) r = r ≡ Lookup.Ends v
+LookupIs c d t (settled (one s)) r =
+    (domain text : Span) × (r ≡ Lookup.One domain text) × (spanOf t domain ≡ d) × (spanOf t text ≡ s)
+LookupIs c d t (wanting kind n e) r = (r ≡ Lookup.Wanting kind (length n)) × (e ≡ c)
+
+pub record SaysLookup (c : Counts) (d t : List ℕ) (x : Settled Selection) (r : Lookup) (before after : List ℕ) : Type 0 where
+  pub lookup : LookupIs c d t x r
+  pub buffer : after ≡ wantedBuffer x before
+
+-- where a fail's explanation is
+unfoldable pub failingOf : List ℕ → Failing → Optional FailingAt
+failingOf t Failing.Nowhere = absent
+failingOf t (Failing.In domain text terms) = failingAt (spanOf t domain) (modifierOf (bytes "exp") (termsOf (spanOf t text) terms))
+
+-- a check
+unfoldable pub CheckedIs : List ℕ → Settled Result → Checked → Type 0
+CheckedIs t (settled r) o = (o .ending ≡ Ending.Result (r .value)) × (o .counts ≡ r .counts) × (failingOf t (o .failing) ≡ r .failing)
+CheckedIs t (wanting kind n c) o = (o .ending ≡ Ending.Wanting kind (length n)) × (o .counts ≡ c)
+
+pub record Says (t : List ℕ) (x : Settled Result) (o : Checked) (before after : List ℕ) : Type 0 where
+  pub checked : CheckedIs t x o
+  pub buffer : after ≡ wantedBuffer x before
+
+-- an explanation, written at the front of the text buffer; a question of it has the counts that were handed in
+unfoldable pub ExplainedIs : Counts → Settled (List ℕ) → Explained → Type 0
+ExplainedIs c (settled s) r = r ≡ Explained.Text (length s)
+ExplainedIs c (wanting kind n e) r = (r ≡ Explained.Wanting kind (length n)) × (e ≡ c)
+
+unfoldable pub textBuffer : Settled (List ℕ) → List ℕ → List ℕ
+textBuffer (settled s) before = overwritten s before
+textBuffer (wanting kind n e) before = before
+
+pub record SaysText (c : Counts) (x : Settled (List ℕ)) (r : Explained) (text text′ before after : List ℕ) : Type 0 where
+  pub explained : ExplainedIs c x r
+  pub text-buffer : text′ ≡ textBuffer x text
+  pub buffer : after ≡ wantedBuffer x before

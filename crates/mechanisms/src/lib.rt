@@ -1,0 +1,260 @@
+// The mechanisms: what a term comes to that is no include.
+ghost use Prim.Native.Nat.{_≤_};
+ghost use mathlib.Core.Path.{_≡_};
+ghost use mathlib.Core.Bool.{true, false, cond};
+ghost use lib.Dec.{eqb};
+ghost use lib.ListN.{length};
+ghost use Rattle.meaning.specs.Tree.{run};
+ghost use Rattle.meaning.specs.Tables.{asks};
+ghost use Rattle.meaning.specs.Mechanisms.{named};
+ghost use Rattle.meaning.specs.Outcomes.{mailOf, SaysStep};
+ghost use Rattle.mechanisms.specs.Terms.{asker, lengthOf, specIf, steppedIf, TriedIs};
+use address::Address;
+use meaning::Counts;
+use meaning::Ending;
+use meaning::Matched;
+use meaning::Stepped;
+use meaning::Target;
+use records::Term;
+use text::bytes;
+
+// A mechanism that asks for a name.
+pub enum Question {
+    A,
+    Mx,
+    Ptr,
+    Exists,
+}
+
+// What a term comes to: its step; or it is an include, whose domain-spec stands in the term's text from a place to another.
+pub enum Tried {
+    Step(Stepped),
+    Include { from: usize, to: usize },
+}
+
+// The own questions of a mechanism.
+fn ask(
+    question: Question,
+    client: Address,
+    prefix: usize,
+    table: &[u8],
+    name: &[u8],
+    counts: Counts,
+    out: &mut [u8],
+) -> Stepped
+    requires { ⌜ counts .voids ≤ 2 ⌝ }
+    ensures { λ r. ⌜ SaysStep (run (asks (now (table .entry))) (asker question client prefix counts (now (name .entry)))) r (now (out .entry)) (now (out .exit)) ⌝ }
+{
+    match question {
+        Question::A => questions::ask_a(client, prefix, table, name, counts, out),
+        Question::Mx => questions::ask_mx(client, prefix, table, name, counts, out),
+        Question::Ptr => questions::ask_ptr(client, table, name, counts, out),
+        Question::Exists => questions::ask_exists(table, name, counts, out),
+    }
+}
+
+// a, mx, ptr and exists: counts a lookup, makes the target, and asks.
+fn named_step(
+    question: Question,
+    prefix: usize,
+    client: Address,
+    sender: &[u8],
+    helo: &[u8],
+    receiver: &[u8],
+    seconds: u64,
+    table: &[u8],
+    domain: &[u8],
+    given: bool,
+    spec: &[u8],
+    counts: Counts,
+    out: &mut [u8],
+) -> Stepped
+    requires { ⌜ (length (now sender) ≤ 320) × (length (now domain) ≤ 253) × (counts .voids ≤ 2) ⌝ }
+    ensures { λ r. ⌜ SaysStep (run (asks (now (table .entry))) (named (mailOf client (now (sender .entry)) (now (helo .entry)) (now (receiver .entry)) seconds) (now (domain .entry)) (specIf given (now (spec .entry))) (asker question client prefix) counts)) r (now (out .entry)) (now (out .exit)) ⌝ }
+{
+    let used = counts.lookups;
+    if 10 <= used {
+        return Stepped {
+            matched: Matched::Stop(Ending::Result(6)),
+            counts,
+        };
+    }
+    let begun = Counts {
+        lookups: used + 1,
+        voids: counts.voids,
+    };
+    let mut to = [0u8; 253];
+    match targets::make_target_or(
+        client,
+        sender,
+        helo,
+        receiver,
+        seconds,
+        table,
+        domain,
+        given,
+        spec,
+        begun,
+        &mut to,
+        out,
+    ) {
+        Target::Malformed => Stepped {
+            matched: Matched::No,
+            counts: begun,
+        },
+        Target::Wanting { kind, length: n } => Stepped {
+            matched: Matched::Stop(Ending::Wanting { kind, length: n }),
+            counts: begun,
+        },
+        Target::Name(n) => ask(
+            question,
+            client,
+            prefix,
+            table,
+            bytes::part(&to, 0, n),
+            begun,
+            out,
+        ),
+    }
+}
+
+// The prefix length of the client's family.
+fn length_of(client: Address, four: u8, six: u8) -> usize
+    ensures { λ r. ⌜ r ≡ lengthOf client four six ⌝ }
+{
+    match client {
+        Address::IPv4(_) => four as usize,
+        Address::IPv6(_, _) => six as usize,
+    }
+}
+
+// Whether two places differ.
+fn differ(a: usize, b: usize) -> bool
+    ensures { λ r. ⌜ r ≡ cond (eqb a b) false true ⌝ }
+{
+    if a == b {
+        return false;
+    }
+    true
+}
+
+// What is known at once: whether a test holds.
+fn matched(test: bool, counts: Counts) -> Stepped
+    ensures { λ r. ⌜ r ≡ steppedIf test counts ⌝ }
+{
+    if test {
+        return Stepped {
+            matched: Matched::Yes,
+            counts,
+        };
+    }
+    Stepped {
+        matched: Matched::No,
+        counts,
+    }
+}
+
+// What a term comes to. `w` is the term's text.
+pub fn try_plain(
+    client: Address,
+    sender: &[u8],
+    helo: &[u8],
+    receiver: &[u8],
+    seconds: u64,
+    table: &[u8],
+    domain: &[u8],
+    w: &[u8],
+    term: Term,
+    counts: Counts,
+    out: &mut [u8],
+) -> Tried
+    requires { ⌜ (length (now sender) ≤ 320) × (length (now domain) ≤ 253) × (counts .voids ≤ 2) ⌝ }
+    ensures { λ r. ⌜ TriedIs (asks (now (table .entry))) (mailOf client (now (sender .entry)) (now (helo .entry)) (now (receiver .entry)) seconds) (now (domain .entry)) (now (w .entry)) term counts (now (out .entry)) (now (out .exit)) r ⌝ }
+{
+    match term {
+        Term::All { sign: _ } => Tried::Step(matched(true, counts)),
+        Term::Include { sign: _, from, to } => Tried::Include { from, to },
+        Term::A {
+            sign: _,
+            from,
+            to,
+            four,
+            six,
+        } => Tried::Step(named_step(
+            Question::A,
+            length_of(client, four, six),
+            client,
+            sender,
+            helo,
+            receiver,
+            seconds,
+            table,
+            domain,
+            differ(from, to),
+            bytes::part(w, from, to),
+            counts,
+            out,
+        )),
+        Term::Mx {
+            sign: _,
+            from,
+            to,
+            four,
+            six,
+        } => Tried::Step(named_step(
+            Question::Mx,
+            length_of(client, four, six),
+            client,
+            sender,
+            helo,
+            receiver,
+            seconds,
+            table,
+            domain,
+            differ(from, to),
+            bytes::part(w, from, to),
+            counts,
+            out,
+        )),
+        Term::Ptr { sign: _, from, to } => Tried::Step(named_step(
+            Question::Ptr,
+            0,
+            client,
+            sender,
+            helo,
+            receiver,
+            seconds,
+            table,
+            domain,
+            differ(from, to),
+            bytes::part(w, from, to),
+            counts,
+            out,
+        )),
+        Term::Network {
+            sign: _,
+            from: _,
+            to: _,
+            address,
+            length,
+        } => Tried::Step(matched(address::matches(client, address, length as usize), counts)),
+        Term::Exists { sign: _, from, to } => Tried::Step(named_step(
+            Question::Exists,
+            0,
+            client,
+            sender,
+            helo,
+            receiver,
+            seconds,
+            table,
+            domain,
+            true,
+            bytes::part(w, from, to),
+            counts,
+            out,
+        )),
+        Term::Redirect { from: _, to: _ } => Tried::Step(matched(false, counts)),
+        Term::Explanation { from: _, to: _ } => Tried::Step(matched(false, counts)),
+        Term::Unknown { name: _, to: _ } => Tried::Step(matched(false, counts)),
+    }
+}

@@ -1,0 +1,16 @@
+-- The code's answers for a void question and for an address question.
+use mathlib.Core.Bool.{Bool, cond}
+use lib.Dec.{ltb}
+use Rattle.meaning.specs.declared.Counts.{Counts}
+use Rattle.meaning.specs.declared.Ending.{Ending}
+use Rattle.meaning.specs.declared.Matched.{Matched}
+use Rattle.meaning.specs.declared.Stepped.{Stepped}
+use Rattle.meaning.specs.Mechanisms.{most-voids, voided}
+
+-- a void answer: counted, and the third is a permerror
+unfoldable pub voidAnswer : Counts → Stepped
+voidAnswer c = record { matched = cond (ltb (c .voids) most-voids) Matched.No (Matched.Stop (Ending.Result 6)); counts = voided c }
+
+-- addresses: one matches or none does
+unfoldable pub matchAnswer : Bool → Counts → Stepped
+matchAnswer t c = record { matched = cond t Matched.Yes Matched.No; counts = c }

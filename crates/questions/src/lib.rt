@@ -1,0 +1,148 @@
+// The questions of a, mx, ptr and exists once their target is known, and whether their answers match.
+ghost use Prim.Native.Nat.{_≤_};
+ghost use Rattle.meaning.specs.Tree.{run, ask};
+ghost use Rattle.meaning.specs.Tables.{asks};
+ghost use Rattle.meaning.specs.Mechanisms.{askA, askExists, askMx, ptrReply, askPtr};
+ghost use Rattle.meaning.specs.Outcomes.{SaysStep};
+use address::Address;
+use meaning::Counts;
+use meaning::Ending;
+use meaning::Matched;
+use meaning::Stepped;
+use table::Found;
+use text::bytes;
+
+mod hosts;
+mod names;
+mod replies;
+
+// a: the address question of the client's family.
+pub fn ask_a(
+    client: Address,
+    length: usize,
+    table: &[u8],
+    name: &[u8],
+    counts: Counts,
+    out: &mut [u8],
+) -> Stepped
+    requires { ⌜ counts .voids ≤ 2 ⌝ }
+    ensures { λ r. ⌜ SaysStep (run (asks (now (table .entry))) (askA client length counts (now (name .entry)))) r (now (out .entry)) (now (out .exit)) ⌝ }
+{
+    let kind = answers::address_kind(client);
+    let Found::Entry { status, start, end } = table::find(table, kind, name) else {
+        return replies::missing(kind, name, counts, out);
+    };
+    if status == 2 {
+        return Stepped {
+            matched: Matched::Stop(Ending::Result(5)),
+            counts,
+        };
+    }
+    let items = bytes::part(table, start, end);
+    if items.len() == 0 {
+        return replies::void(counts);
+    }
+    replies::addresses(client, length, items, counts)
+}
+
+// exists: always the A question.
+pub fn ask_exists(table: &[u8], name: &[u8], counts: Counts, out: &mut [u8]) -> Stepped
+    requires { ⌜ counts .voids ≤ 2 ⌝ }
+    ensures { λ r. ⌜ SaysStep (run (asks (now (table .entry))) (askExists counts (now (name .entry)))) r (now (out .entry)) (now (out .exit)) ⌝ }
+{
+    let Found::Entry { status, start, end } = table::find(table, 1, name) else {
+        return replies::missing(1, name, counts, out);
+    };
+    if status == 2 {
+        return Stepped {
+            matched: Matched::Stop(Ending::Result(5)),
+            counts,
+        };
+    }
+    let items = bytes::part(table, start, end);
+    if items.len() == 0 {
+        return replies::void(counts);
+    }
+    Stepped {
+        matched: Matched::Yes,
+        counts,
+    }
+}
+
+// mx: the MX question, then the hosts' addresses by preference.
+pub fn ask_mx(
+    client: Address,
+    length: usize,
+    table: &[u8],
+    name: &[u8],
+    counts: Counts,
+    out: &mut [u8],
+) -> Stepped
+    requires { ⌜ counts .voids ≤ 2 ⌝ }
+    ensures { λ r. ⌜ SaysStep (run (asks (now (table .entry))) (askMx client length counts (now (name .entry)))) r (now (out .entry)) (now (out .exit)) ⌝ }
+{
+    let Found::Entry { status, start, end } = table::find(table, 15, name) else {
+        return replies::missing(15, name, counts, out);
+    };
+    if status == 2 {
+        return Stepped {
+            matched: Matched::Stop(Ending::Result(5)),
+            counts,
+        };
+    }
+    let items = bytes::part(table, start, end);
+    if items.len() == 0 {
+        return replies::void(counts);
+    }
+    if 10 < hosts::count(items) {
+        return Stepped {
+            matched: Matched::Stop(Ending::Result(6)),
+            counts,
+        };
+    }
+    hosts::ask_hosts(client, length, table, items, counts, out)
+}
+
+// ptr, with the name that has the client's names.
+fn ask_pointers(
+    client: Address,
+    table: &[u8],
+    name: &[u8],
+    target: &[u8],
+    counts: Counts,
+    out: &mut [u8],
+) -> Stepped
+    requires { ⌜ counts .voids ≤ 2 ⌝ }
+    ensures { λ r. ⌜ SaysStep (run (asks (now (table .entry))) (ask 12 (now (name .entry)) counts (ptrReply client (now (target .entry)) counts))) r (now (out .entry)) (now (out .exit)) ⌝ }
+{
+    let Found::Entry { status, start, end } = table::find(table, 12, name) else {
+        return replies::missing(12, name, counts, out);
+    };
+    if status == 2 {
+        return Stepped {
+            matched: Matched::No,
+            counts,
+        };
+    }
+    let items = bytes::part(table, start, end);
+    if items.len() == 0 {
+        return replies::void(counts);
+    }
+    names::ask_names(client, table, items, target, counts, out)
+}
+
+// ptr: the client's names, validated; `target` is the name that one of them must be or be below.
+pub fn ask_ptr(
+    client: Address,
+    table: &[u8],
+    target: &[u8],
+    counts: Counts,
+    out: &mut [u8],
+) -> Stepped
+    requires { ⌜ counts .voids ≤ 2 ⌝ }
+    ensures { λ r. ⌜ SaysStep (run (asks (now (table .entry))) (askPtr client counts (now (target .entry)))) r (now (out .entry)) (now (out .exit)) ⌝ }
+{
+    let mut reversed = [0u8; 72];
+    let n = notation::put_reversed_name(client, &mut reversed, 0);
+    ask_pointers(client, table, &reversed[..n], target, counts, out)
+}

@@ -1,0 +1,64 @@
+// What a question comes to: no answer yet, a void answer, addresses.
+ghost use Prim.Native.Nat.{_≤_};
+ghost use mathlib.Core.Path.{_≡_};
+ghost use Rattle.table.specs.Reader.{itemsOf};
+ghost use Rattle.meaning.specs.Tree.{wanting};
+ghost use Rattle.meaning.specs.Mechanisms.{anyMatches};
+ghost use Rattle.meaning.specs.Outcomes.{SaysStep};
+ghost use Rattle.questions.specs.Steps.{voidAnswer, matchAnswer};
+use address::Address;
+use meaning::Counts;
+use meaning::Ending;
+use meaning::Matched;
+use meaning::Stepped;
+
+// A question without an entry: its name is written.
+pub fn missing(kind: u16, name: &[u8], counts: Counts, out: &mut [u8]) -> Stepped
+    ensures { λ r. ⌜ SaysStep (wanting kind (now (name .entry)) counts) r (now (out .entry)) (now (out .exit)) ⌝ }
+{
+    answers::want(name, out);
+    Stepped {
+        matched: Matched::Stop(Ending::Wanting {
+            kind,
+            length: name.len(),
+        }),
+        counts,
+    }
+}
+
+// A void answer is counted, and the third ends the check.
+pub fn void(counts: Counts) -> Stepped
+    requires { ⌜ counts .voids ≤ 2 ⌝ }
+    ensures { λ r. ⌜ r ≡ voidAnswer counts ⌝ }
+{
+    let after = Counts {
+        lookups: counts.lookups,
+        voids: counts.voids + 1,
+    };
+    if counts.voids < 2 {
+        return Stepped {
+            matched: Matched::No,
+            counts: after,
+        };
+    }
+    Stepped {
+        matched: Matched::Stop(Ending::Result(6)),
+        counts: after,
+    }
+}
+
+// Whether any address of an answer matches the client.
+pub fn addresses(client: Address, length: usize, items: &[u8], counts: Counts) -> Stepped
+    ensures { λ r. ⌜ r ≡ matchAnswer (anyMatches client length (itemsOf (now (items .entry)))) counts ⌝ }
+{
+    if answers::any_matches(client, length, items) {
+        return Stepped {
+            matched: Matched::Yes,
+            counts,
+        };
+    }
+    Stepped {
+        matched: Matched::No,
+        counts,
+    }
+}

@@ -1,0 +1,107 @@
+// The relay: it begins with an empty table, fetches each answer that is missing from the zone, and asks again until the check is decided.
+use address::Address;
+use evaluation::Answer;
+use evaluation::evaluate;
+use table::Found;
+use text::bytes::part;
+use text::writing;
+
+// The two bytes of a number below 65,536, the lower one first.
+fn put_number(out: &mut [u8], at: usize, n: usize) -> usize {
+    let next = writing::put(out, at, (n % 256) as u8);
+    writing::put(out, next, (n / 256 % 256) as u8)
+}
+
+// Puts an entry at a place of a table; answers the place after it.
+fn put_entry(out: &mut [u8], at: usize, kind: u16, status: u8, name: &[u8], items: &[u8]) -> usize {
+    let n = name.len() % 256;
+    let sized = put_number(out, at, 4 + n + items.len() % 65536);
+    let kinded = put_number(out, sized, kind as usize);
+    let stated = writing::put(out, kinded, status);
+    let measured = writing::put(out, stated, n as u8);
+    let named = writing::put_all(name, out, measured);
+    writing::put_all(items, out, named)
+}
+
+// Puts the zone's answer to a question at a place of a table; a name that the zone lacks doesn't exist.
+fn put_answer(zone: &[u8], kind: u16, name: &[u8], out: &mut [u8], at: usize) -> usize {
+    let found = table::find(zone, kind, name);
+    match found {
+        Found::Entry {
+            status,
+            start: _,
+            end: _,
+        } => put_entry(out, at, kind, status, name, table::found_items(zone, found)),
+        Found::Missing => put_entry(out, at, kind, 3, name, b""),
+    }
+}
+
+fn print(s: &[u8]) {
+    io::write_all(1, s);
+}
+
+fn print_result(value: u8) {
+    match value {
+        0 => print(b"none"),
+        1 => print(b"neutral"),
+        2 => print(b"pass"),
+        3 => print(b"fail"),
+        4 => print(b"softfail"),
+        5 => print(b"temperror"),
+        _ => print(b"permerror"),
+    }
+}
+
+// Prints a result and its text, if there is one.
+fn print_decided(value: u8, text: &[u8]) {
+    print_result(value);
+    if 0 < text.len() {
+        print(b" ");
+    }
+    cases::print_line(text);
+}
+
+fn print_refused(number: u8) {
+    print(b"refused ");
+    cases::print_number_line(number as usize);
+}
+
+// Checks with an empty table, adds the zone's answer to each question that is missing, and prints what the check comes to. 130 questions are more than any
+// check of the suite puts.
+pub fn run(zone: &[u8], client: Address, domain: &[u8], sender: &[u8], helo: &[u8]) {
+    let mut table = [0u8; 8192];
+    let mut name = [0u8; 253];
+    let mut text = [0u8; 500];
+    let mut size: usize = 0;
+    let mut budget: usize = 131;
+    while 0 < budget {
+        match evaluate(
+            client,
+            domain,
+            sender,
+            helo,
+            b"",
+            0,
+            part(&table, 0, size),
+            &mut name,
+            &mut text,
+        ) {
+            Answer::Decided {
+                value,
+                counts: _,
+                text: n,
+            } => return print_decided(value, part(&text, 0, n)),
+            Answer::Wanting {
+                kind,
+                length: n,
+                counts: _,
+            } => {
+                size = put_answer(zone, kind, part(&name, 0, n), &mut table, size);
+            }
+            Answer::Refused(number) => return print_refused(number),
+            Answer::RefusedAt { number, at: _ } => return print_refused(number),
+        }
+        budget -= 1;
+    }
+    cases::print_line(b"undecided");
+}

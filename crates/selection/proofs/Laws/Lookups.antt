@@ -1,0 +1,184 @@
+-- Record lookup by the entry that was found: what a table settles of it, and where the domain's name stands. From answers' laws of what a table
+-- answers and table's laws of places.
+use Prim.Native.Nat.{ℕ, _-_, _≤_, _<_}
+use mathlib.Core.Path.{_≡_, refl, sym, subst, _∙_}
+use mathlib.Core.List.{List, [], _∷_}
+use mathlib.Core.Bool.{Bool, true, false, cond}
+use native.Mathlib.Omega.{arith}
+use lib.Dec.{eqb, ltb}
+use lib.ListN.{length, drop, length-take, length-drop}
+use borrow.Author.Tests.{ltb-true, ltb-false, eqb-false, eq-eqb, ne-eqb}
+use Rattle.text.specs.Bytes.{part}
+use Rattle.text.specs.Writing.{overwritten}
+use Rattle.text.proofs.Laws.Tests.{true-false, cond-elim}
+use Rattle.table.specs.declared.Found.{Found}
+use Rattle.table.specs.Reader.{itemsOf, findAt}
+use Rattle.table.proofs.Laws.Items.{of-more, of-none}
+use Rattle.table.proofs.Laws.Finding.{found-within}
+use Rattle.table.proofs.Laws.Places.{found-name}
+use Rattle.answers.proofs.Laws.Asked.{asks-missing, asks-entry, run-missing, run-failed, run-items, run-peek}
+use Rattle.records.specs.Readings.{present}
+use Rattle.meaning.specs.declared.Counts.{Counts}
+use Rattle.meaning.specs.declared.Lookup.{Lookup}
+use Rattle.meaning.specs.Tree.{failed, items, settled, wanting, run}
+use Rattle.meaning.specs.Tables.{replyBy, asks}
+use Rattle.meaning.specs.Evaluation.{ends, one, versioned, selection, textReply, textLookup, spfItems, spfReply, recordLookup}
+use Rattle.meaning.specs.Outcomes.{wantedBuffer, LookupIs, SaysLookup}
+use Rattle.selection.specs.Picking.{hasTexts, textsAt, PickedIs}
+use Rattle.selection.specs.declared.Picked.{Picked}
+
+-- `has_texts`
+module _ (f : Found) where
+  pub texts-missing : f ≡ Found.Missing → false ≡ hasTexts f
+  unfolding hasTexts
+  texts-missing e = rw e
+
+  module _ (status start end : ℕ) (e : f ≡ Found.Entry status start end) where
+    pub texts-failed : status ≡ 2 → false ≡ hasTexts f
+    unfolding hasTexts
+    texts-failed h = rw (e, eq-eqb status 2 h)
+
+    pub texts-some : (status ≡ 2 → ⊥) → ltb start end ≡ hasTexts f
+    unfolding hasTexts
+    texts-some h = rw (e, ne-eqb status 2 h)
+
+-- `find_texts`
+module _ (t d : List ℕ) (f : Found) (p : f ≡ findAt t 99 d) (b : Bool) (h : b ≡ hasTexts f) where
+  pub texts-spf : b ≡ true → f ≡ textsAt t d
+  unfolding textsAt
+  texts-spf e = rw (← p, ← h, e)
+
+  pub texts-txt : b ≡ false → (g : Found) → g ≡ findAt t 16 d → g ≡ textsAt t d
+  unfolding textsAt
+  texts-txt e g q = rw (← p, ← h, e) q
+
+-- record lookup, by the SPF entry
+module _ (t d : List ℕ) (c : Counts) where
+  lookup-is : run (asks t) (recordLookup d c) ≡ run (asks t) (spfReply d c (asks t 99 d))
+  unfolding recordLookup
+  lookup-is = run-peek t d (spfReply d c)
+
+  -- an entry without texts is as none
+  spf-passed : (f : Found) → f ≡ findAt t 99 d → hasTexts f ≡ false → run (asks t) (recordLookup d c) ≡ run (asks t) (textLookup d c)
+  unfolding spfReply spfItems hasTexts replyBy
+  spf-passed Found.Missing p h = lookup-is ∙ rw (asks-missing t 99 d Found.Missing p refl)
+  spf-passed (Found.Entry status start end) p h = lookup-is ∙ rw (asks-entry t 99 d _ p status start end refl) (by (eqb status 2) h)
+    where
+      by : (b : Bool) → cond b false (ltb start end) ≡ false
+          → run (asks t) (spfReply d c (present (cond b failed (items (itemsOf (part t start end)))))) ≡ run (asks t) (textLookup d c)
+      by true k = refl
+      by false k =
+          let n : end ≤ start = ltb-false start end k in
+          let z : end - start ≡ 0 = omega arith in
+          rw (z, of-none)
+
+  -- an entry with texts is taken
+  spf-taken : (status start end : ℕ) → findAt t 99 d ≡ Found.Entry status start end → hasTexts (Found.Entry status start end) ≡ true
+      → (status ≡ 2 → ⊥) × (run (asks t) (recordLookup d c) ≡ settled (selection (versioned (itemsOf (part t start end)))))
+  unfolding spfReply spfItems hasTexts replyBy run
+  spf-taken status start end p h = by (eqb status 2) refl h
+    where
+      by : (b : Bool) → eqb status 2 ≡ b → cond b false (ltb start end) ≡ true
+          → (status ≡ 2 → ⊥) × (run (asks t) (recordLookup d c) ≡ settled (selection (versioned (itemsOf (part t start end)))))
+      by true e k = absurd (true-false false k refl)
+      by false e k =
+          let w = found-within t 99 d status start end p in
+          let n : start < end = ltb-true start end k in
+          let l : 0 < length (part t start end) = omega (arith, w .1, length-take (end - start) (drop start t), length-drop start t) in
+          let m = of-more (part t start end) l in
+          (eqb-false status 2 e, lookup-is ∙ rw (asks-entry t 99 d _ (sym p) status start end refl, e, m))
+
+-- what a table settles of record lookup, by the entry that was found, and the domain's name before its items
+abbrev Settles : (t d : List ℕ) → Counts → Found → Type 0
+Settles t d c (Found.Entry status start end) =
+    (status ≡ 2 → run (asks t) (recordLookup d c) ≡ settled (ends 5))
+    × ((status ≡ 2 → ⊥) → run (asks t) (recordLookup d c) ≡ settled (selection (versioned (itemsOf (part t start end)))))
+    × (length d ≤ start)
+    × (part t (start - length d) start ≡ d)
+Settles t d c Found.Missing = run (asks t) (recordLookup d c) ≡ wanting 16 d c
+
+module _ (t d : List ℕ) (c : Counts) where
+  settles-spf : (f : Found) → findAt t 99 d ≡ f → hasTexts f ≡ true → Settles t d c f
+  unfolding hasTexts
+  settles-spf Found.Missing p h = absurd (true-false false h refl)
+  settles-spf (Found.Entry status start end) p h =
+      let s = spf-taken t d c status start end p h in
+      let n = found-name t 99 d status start end p in
+      (λ e. absurd (s .0 e), λ _. s .1, n .0, n .1)
+
+  settles-txt : (f : Found) → findAt t 16 d ≡ f → run (asks t) (recordLookup d c) ≡ run (asks t) (textLookup d c) → Settles t d c f
+  unfolding textLookup textReply run
+  settles-txt Found.Missing p x = x ∙ run-missing t 16 d Found.Missing (sym p) c textReply refl
+  settles-txt (Found.Entry status start end) p x =
+      let n = found-name t 16 d status start end p in (
+        λ e. x ∙ run-failed t 16 d _ (sym p) c textReply status start end refl e,
+        λ e. x ∙ run-items t 16 d _ (sym p) c textReply status start end refl e,
+        n .0,
+        n .1,
+      )
+
+  settles : Settles t d c (textsAt t d)
+  unfolding textsAt
+  settles =
+      cond-elim (Settles t d c) (hasTexts (findAt t 99 d)) {x = findAt t 99 d} {y = findAt t 16 d}
+      (λ h. settles-spf (findAt t 99 d) refl h)
+      (λ h. settles-txt (findAt t 16 d) refl (spf-passed t d c (findAt t 99 d) refl h))
+
+-- what is selected of texts, by the records that were picked
+selected-none : (t : List ℕ) (ss : List (List ℕ)) (r : Picked) → PickedIs t ss r → r ≡ Picked.Nothing → selection ss ≡ ends 0
+unfolding PickedIs selection
+selected-none t [] r h e = refl
+selected-none t (s ∷ []) r h e = let p = h .2 in let z : _≡_ {A = ℕ} 0 1 = cc in absurd (omega arith)
+selected-none t (s ∷ u ∷ ss) r h e = let z : _≡_ {A = ℕ} 0 1 = cc in absurd (omega arith)
+
+selected-several : (t : List ℕ) (ss : List (List ℕ)) (r : Picked) → PickedIs t ss r → r ≡ Picked.Several → selection ss ≡ ends 6
+unfolding PickedIs selection
+selected-several t [] r h e = let z : _≡_ {A = ℕ} 0 1 = cc in absurd (omega arith)
+selected-several t (s ∷ []) r h e = let p = h .2 in let z : _≡_ {A = ℕ} 0 1 = cc in absurd (omega arith)
+selected-several t (s ∷ u ∷ ss) r h e = refl
+
+selected-one : (t : List ℕ) (ss : List (List ℕ)) (r : Picked) → PickedIs t ss r → (from to : ℕ) → r ≡ Picked.One from to → selection ss ≡ one (part t from to)
+unfolding PickedIs selection
+selected-one t [] r h from to e = let z : _≡_ {A = ℕ} 0 1 = cc in absurd (omega arith)
+selected-one t (s ∷ []) r h from to e =
+    let p = h .2 in
+    let i : h .0 ≡ from = cc in let j : h .1 ≡ to = cc in
+    rw (← i, ← j, h .3)
+selected-one t (s ∷ u ∷ ss) r h from to e = let z : _≡_ {A = ℕ} 0 1 = cc in absurd (omega arith)
+
+-- `select_record`
+module _ (t d : List ℕ) (c : Counts) (b : List ℕ) (f : Found) (p : f ≡ textsAt t d) where
+  pub select-missing : f ≡ Found.Missing → (a : List ℕ) → a ≡ overwritten d b
+      → SaysLookup c d t (run (asks t) (recordLookup d c)) (Lookup.Wanting 16 (length d)) b a
+  unfolding LookupIs wantedBuffer
+  select-missing e a w =
+      let s : run (asks t) (recordLookup d c) ≡ wanting 16 d c = subst (Settles t d c) (sym p ∙ e) (settles t d c) in
+      rw s (record { lookup = (refl, refl); buffer = w })
+
+  module _ (status start end : ℕ) (e : f ≡ Found.Entry status start end) where
+    found : Settles t d c (Found.Entry status start end)
+    found = subst (Settles t d c) (sym p ∙ e) (settles t d c)
+
+    pub name-before : length d ≤ start
+    name-before = found .2
+
+    pub select-failed : status ≡ 2 → SaysLookup c d t (run (asks t) (recordLookup d c)) (Lookup.Ends 5) b b
+    unfolding LookupIs wantedBuffer
+    select-failed h = rw (found .0 h) (record { lookup = refl; buffer = refl })
+
+    module _ (h : status ≡ 2 → ⊥) (r : Picked) (q : PickedIs t (versioned (itemsOf (part t start end))) r) where
+      pub select-none : r ≡ Picked.Nothing → SaysLookup c d t (run (asks t) (recordLookup d c)) (Lookup.Ends 0) b b
+      unfolding LookupIs wantedBuffer
+      select-none k = rw (found .1 h, selected-none t _ r q k) (record { lookup = refl; buffer = refl })
+
+      pub select-several : r ≡ Picked.Several → SaysLookup c d t (run (asks t) (recordLookup d c)) (Lookup.Ends 6) b b
+      unfolding LookupIs wantedBuffer
+      select-several k = rw (found .1 h, selected-several t _ r q k) (record { lookup = refl; buffer = refl })
+
+      pub select-one : (from to : ℕ) → r ≡ Picked.One from to
+          → SaysLookup c d t (run (asks t) (recordLookup d c))
+          (Lookup.One (record { from = start - length d; to = start }) (record { from = from; to = to })) b b
+      unfolding LookupIs wantedBuffer
+      select-one from to k =
+          rw (found .1 h, selected-one t _ r q from to k)
+          (record { lookup = (record { from = start - length d; to = start }, record { from = from; to = to }, refl, found .3, refl); buffer = refl })

@@ -1,0 +1,8 @@
+-- Choosing: what the choice tells of the names validated so far.
+pub mod Choosing
+-- Asking: p's questions: a rule for each way out.
+pub mod Asking
+-- Naming: the name of a target: a rule for each way out.
+pub mod Naming
+-- Plain: a text without macros is its own expansion.
+pub mod Plain

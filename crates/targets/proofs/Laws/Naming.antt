@@ -1,0 +1,210 @@
+-- The name of a target, from the value of p to the question name: a rule for each way out. From the contracts of macros and Inversions.
+use Prim.Native.Nat.{ℕ, _≤_, _<_}
+use mathlib.Core.Path.{_≡_, refl, sym, ap, subst, _∙_}
+use mathlib.Core.List.{List, [], _++_, map}
+use mathlib.Core.Bool.{Bool, true, false, cond, _&&_}
+use native.Mathlib.Omega.{arith}
+use lib.Dec.{leb}
+use lib.ListN.{length, take, drop, length-append}
+use lib.Seq.{take-at}
+use borrow.Author.Tests.{leb-true, leb-false}
+use Rattle.text.specs.Bytes.{part, within, lower}
+use Rattle.text.specs.Lists.{all}
+use Rattle.text.specs.Texts.{bytes}
+use Rattle.text.specs.Writing.{Wrote, overwritten}
+use Rattle.text.proofs.Laws.Tests.{cond-elim, and-left, and-right}
+use Rattle.text.proofs.Laws.Writing.{over-fits, wrote-over}
+use Rattle.address.specs.declared.Address.{Address}
+use Rattle.domain.specs.declared.Name.{Name}
+use Rattle.domain.specs.Names.{isName, isLabel, labels}
+use Rattle.domain.specs.Normal.{Naming, name, malformed, withoutDot, lowered, nameAnswer, nameBuffer}
+use Rattle.domain.specs.Shortening.{shortened}
+use Rattle.macros.specs.declared.Form.the-variants.{DomainSpec}
+use Rattle.macros.specs.declared.Expanded.{Expanded}
+use Rattle.macros.specs.declared.Expanded.the-variants.{Written, Refused}
+use Rattle.macros.specs.Reader.{pieces, usesP}
+use Rattle.macros.specs.Expansion.{given, lettersOf, textOf}
+use Rattle.macros.specs.Numbers.{refused, expanded as expandedTo, fitted, answerOf, bufferOf, Says}
+use Rattle.macros.specs.Question.{questionName}
+use Rattle.macros.proofs.Laws.Expanding.{question-long}
+use Rattle.records.specs.Readings.{absent, present}
+use Rattle.meaning.specs.declared.Counts.{Counts}
+use Rattle.meaning.specs.declared.PValue.{PValue}
+use Rattle.meaning.specs.declared.Target.{Target}
+use Rattle.meaning.specs.Tree.{bind, Settled, settled, run}
+use Rattle.meaning.specs.Tables.{asks}
+use Rattle.meaning.specs.Mechanisms.{Mail, pValue, expansion, givesExpansion, expanded, givesName, target, targetOr}
+use Rattle.meaning.specs.Outcomes.{mailOf, wantedBuffer, TargetIs, SaysTarget, SaysP}
+use Rattle.meaning.specs.Inversions.{Gives, Wants, wants-bind, gives-bind, p-current, p-listed, p-unknown, p-wants}
+use Rattle.targets.specs.Choosing.{targetWithP}
+
+-- a name has at most 253 bytes
+unfoldable pub Short : Naming → Type 0
+Short (name s) = length s ≤ 253
+Short malformed = Unit {0}
+
+pub name-short : (s : List ℕ) → isName s ≡ true → length s ≤ 253
+unfolding isName within
+name-short s h =
+    let w : (leb 1 (length s) && leb (length s) 253) ≡ true = and-left (leb 1 (length s) && leb (length s) 253) (all isLabel (labels s)) h in
+    leb-true (length s) 253 (and-right (leb 1 (length s)) (leb (length s) 253) w)
+
+pub question-is-short : (s : List ℕ) → Short (questionName s)
+unfolding questionName lowered Short
+question-is-short s =
+    let u = shortened (withoutDot s) in
+    cond-elim Short (leb (length s) 4096)
+    (λ _. cond-elim Short (isName (map lower u)) (λ e. name-short (map lower u) e) (λ _. tt))
+    (λ _. tt)
+
+-- a name at the front of a buffer with room for it
+name-front : (s to to′ : List ℕ) → length s ≤ 253 → 253 ≤ length to → to′ ≡ overwritten s to → take (length s) to′ ≡ s
+name-front s to to′ short room b = rw (b, over-fits s to (omega arith)) (take-at s (drop (length s) to) (length s) refl)
+
+-- `write_name`
+pub naming-written : (x : Naming) → Short x → (to to′ : List ℕ) → 253 ≤ length to → (r : Name) → r ≡ nameAnswer x → to′ ≡ nameBuffer x to
+    → (n : ℕ) → r ≡ Name.Written n → (c : Counts) → TargetIs c (settled x) (Target.Name n) to′
+unfolding Short TargetIs
+naming-written (name s) short to to′ room r a b n e c = let j : n ≡ length s = cc in (ap Target.Name j, name-front s to to′ short room b, short)
+naming-written malformed short to to′ room r a b n e c = let z : _≡_ {A = ℕ} 0 1 = cc in absurd (omega arith)
+
+pub naming-malformed : (x : Naming) (to : List ℕ) (r : Name) → r ≡ nameAnswer x → r ≡ Name.Malformed → (c : Counts) → TargetIs c (settled x) Target.Malformed to
+unfolding TargetIs
+naming-malformed (name s) to r a e c = let z : _≡_ {A = ℕ} 0 1 = cc in absurd (omega arith)
+naming-malformed malformed to r a e c = refl
+
+module _ (s to to′ : List ℕ) (r : Name) (a : r ≡ nameAnswer (questionName s)) where
+  pub named-written : 253 ≤ length to → to′ ≡ nameBuffer (questionName s) to → (n : ℕ) → r ≡ Name.Written n
+      → (c : Counts) → TargetIs c (settled (questionName s)) (Target.Name n) to′
+  named-written room b n e c = naming-written (questionName s) (question-is-short s) to to′ room r a b n e c
+
+  pub named-malformed : r ≡ Name.Malformed → (c : Counts) → TargetIs c (settled (questionName s)) Target.Malformed to′
+  named-malformed e c = naming-malformed (questionName s) to′ r a e c
+
+-- `write_target`: what an expansion in an array tells of the text
+unfoldable pub TextIs : (xs z : List ℕ) → Expanded → List ℕ → Type 0
+TextIs xs z (Written n) v = (n ≡ length xs) × (n ≤ length z) × (v ≡ xs ++ drop (length xs) z)
+TextIs xs z (Refused k) v = length z < length xs
+
+text-is : (xs z v : List ℕ) (x : Expanded) → Says (fitted xs (length z)) x z v → TextIs xs z x v
+unfolding fitted TextIs
+text-is xs z v x says = by (leb (length xs) (length z)) refl (says .answer) (says .buffer)
+  where
+    by : (b : Bool) → leb (length xs) (length z) ≡ b → x ≡ answerOf (cond b (expandedTo xs) (refused 41)) → v ≡ bufferOf (cond b (expandedTo xs) (refused 41)) z → TextIs xs z x v
+    by true e a u = let l = leb-true (length xs) (length z) e in rw a (refl, l, u)
+    by false e a u = let l = leb-false (length xs) (length z) e in rw a l
+
+module _ (xs z v : List ℕ) (x : Expanded) (says : Says (fitted xs (length z)) x z v) where
+  by-case : (y : Expanded) → x ≡ y → TextIs xs z y v
+  by-case y e = subst (λ (w : Expanded). TextIs xs z w v) e (text-is xs z v x says)
+
+  text-taken : (n : ℕ) → x ≡ Written n → take n v ≡ xs
+  unfolding TextIs
+  text-taken n e = let w = by-case (Written n) e in rw (w .2) (take-at xs (drop (length xs) z) n (sym (w .0)))
+
+  pub text-inside : (n : ℕ) → x ≡ Written n → n ≤ length v
+  unfolding TextIs
+  text-inside n e = let w = by-case (Written n) e in rw (w .2, length-append) (omega (arith, w .0))
+
+  pub text-whole : (n : ℕ) → x ≡ Written n → n ≡ length (take n v)
+  unfolding TextIs
+  text-whole n e = by-case (Written n) e .0 ∙ sym (ap length (text-taken n e))
+
+  text-long : (k : ℕ) → 4096 ≤ length z → x ≡ Refused k → questionName xs ≡ malformed
+  unfolding TextIs
+  text-long k room e = let w = by-case (Refused k) e in question-long xs (omega arith)
+
+module _ (client : Address) (sender helo receiver : List ℕ) (seconds : ℕ) (d spec p z v : List ℕ) (x : Expanded)
+    (says : Says (fitted (textOf (lettersOf (given sender helo receiver d p client seconds)) (pieces DomainSpec spec .list)) (length z)) x z v) where
+  pub target-written : (n : ℕ) → x ≡ Written n → (r : Target) (to : List ℕ) → ((c : Counts) → TargetIs c (settled (questionName (take n v))) r to)
+      → (c : Counts) → TargetIs c (settled (questionName (expansion (mailOf client sender helo receiver seconds) d DomainSpec spec p))) r to
+  unfolding expansion
+  target-written n e r to w c = rw (← text-taken _ z v x says n e) (w c)
+
+  pub target-long : 4096 ≤ length z → (k : ℕ) → x ≡ Refused k → (to : List ℕ)
+      → (c : Counts) → TargetIs c (settled (questionName (expansion (mailOf client sender helo receiver seconds) d DomainSpec spec p))) Target.Malformed to
+  unfolding expansion TargetIs
+  target-long room k e to c = rw (text-long _ z v x says k room e) refl
+
+-- a target that is settled, and one that is wanted
+pub target-settled : (c : Counts) (x : Settled Naming) (n : Naming) (r : Target) (to b a : List ℕ) → Gives x n b a → TargetIs c (settled n) r to → SaysTarget c x r to b a
+unfolding wantedBuffer
+target-settled c x n r to b a g w = rw (g .is) (record { target = w; buffer = g .kept })
+
+pub target-wanted : (c : Counts) (x : Settled Naming) (kind size : ℕ) (to b a : List ℕ) → Wants x kind size c b a → SaysTarget c x (Target.Wanting kind size) to b a
+unfolding TargetIs wantedBuffer
+target-wanted c x kind size to b a w = rw (w .is, w .size-is) (record { target = (refl, refl); buffer = w .buffer })
+
+-- `write_target_with_p`
+module _ (mail : Mail) (c : Counts) (t d spec b a : List ℕ) where
+  with-value : (p : List ℕ) → Gives (run (asks t) (pValue (mail .client) d c)) p b a
+      → Gives (run (asks t) (targetWithP mail d spec c)) (questionName (expansion mail d DomainSpec spec p)) b a
+  unfolding targetWithP givesExpansion givesName run
+  with-value p g =
+      let m = bind (pValue (mail .client) d c) (givesExpansion mail d DomainSpec spec) in
+      let y : run (asks t) m ≡ settled (expansion mail d DomainSpec spec p) = gives-bind (asks t) (pValue (mail .client) d c) (givesExpansion mail d DomainSpec spec) p (g .is) in
+      record { is = gives-bind (asks t) m givesName (expansion mail d DomainSpec spec p) y; kept = g .kept }
+
+module _ (client : Address) (sender helo receiver : List ℕ) (seconds : ℕ) (c : Counts) (t d spec b a : List ℕ) (v : PValue)
+    (says : SaysP c d t (run (asks t) (pValue client d c)) v b a) where
+  with-given : (p : List ℕ) → Gives (run (asks t) (pValue client d c)) p b a → (r : Target) (to : List ℕ)
+      → ((k : Counts) → TargetIs k (settled (questionName (expansion (mailOf client sender helo receiver seconds) d DomainSpec spec p))) r to)
+      → SaysTarget c (run (asks t) (targetWithP (mailOf client sender helo receiver seconds) d spec c)) r to b a
+  with-given p g r to w =
+      target-settled c (run (asks t) (targetWithP (mailOf client sender helo receiver seconds) d spec c)) _ r to b a
+      (with-value (mailOf client sender helo receiver seconds) c t d spec b a p g) (w c)
+
+  pub with-current : v ≡ PValue.Current → (r : Target) (to : List ℕ)
+      → ((k : Counts) → TargetIs k (settled (questionName (expansion (mailOf client sender helo receiver seconds) d DomainSpec spec d))) r to)
+      → SaysTarget c (run (asks t) (targetWithP (mailOf client sender helo receiver seconds) d spec c)) r to b a
+  with-current e r to w = with-given d (p-current c d t _ v b a says e) r to w
+
+  pub with-listed : (from end : ℕ) → v ≡ PValue.Listed from end → (p : List ℕ) → p ≡ part t from end → (r : Target) (to : List ℕ)
+      → ((k : Counts) → TargetIs k (settled (questionName (expansion (mailOf client sender helo receiver seconds) d DomainSpec spec p))) r to)
+      → SaysTarget c (run (asks t) (targetWithP (mailOf client sender helo receiver seconds) d spec c)) r to b a
+  with-listed from end e p h r to w =
+      with-given p (subst (λ (s : List ℕ). Gives (run (asks t) (pValue client d c)) s b a) (sym h) (p-listed c d t _ v b a says from end e)) r to w
+
+  pub with-unknown : v ≡ PValue.Unknown → (r : Target) (to : List ℕ)
+      → ((k : Counts) → TargetIs k (settled (questionName (expansion (mailOf client sender helo receiver seconds) d DomainSpec spec (bytes "unknown")))) r to)
+      → SaysTarget c (run (asks t) (targetWithP (mailOf client sender helo receiver seconds) d spec c)) r to b a
+  with-unknown e r to w = with-given (bytes "unknown") (p-unknown c d t _ v b a says e) r to w
+
+  pub with-wanting : (kind size : ℕ) → v ≡ PValue.Wanting kind size → (to : List ℕ)
+      → SaysTarget c (run (asks t) (targetWithP (mailOf client sender helo receiver seconds) d spec c)) (Target.Wanting kind size) to b a
+  unfolding targetWithP
+  with-wanting kind size e to =
+      let mail = mailOf client sender helo receiver seconds in
+      let m = bind (pValue client d c) (givesExpansion mail d DomainSpec spec) in
+      let w = p-wants c d t _ v b a says kind size e in
+      target-wanted c (run (asks t) (bind m givesName)) kind size to b a
+      (wants-bind (asks t) m givesName kind size c b a (wants-bind (asks t) (pValue client d c) (givesExpansion mail d DomainSpec spec) kind size c b a w))
+
+-- `make_target`
+module _ (client : Address) (sender helo receiver : List ℕ) (seconds : ℕ) (c : Counts) (t d spec : List ℕ) (u : Bool) (e : u ≡ usesP DomainSpec spec) where
+  pub target-uses-p : u ≡ true → (r : Target) (to b a : List ℕ) → SaysTarget c (run (asks t) (targetWithP (mailOf client sender helo receiver seconds) d spec c)) r to b a
+      → SaysTarget c (run (asks t) (target (mailOf client sender helo receiver seconds) d spec c)) r to b a
+  unfolding targetWithP target expanded
+  target-uses-p h r to b a w = rw (← e, h) w
+
+  pub target-without-p : u ≡ false → (r : Target) (to b : List ℕ)
+      → ((k : Counts) → TargetIs k (settled (questionName (expansion (mailOf client sender helo receiver seconds) d DomainSpec spec []))) r to)
+      → SaysTarget c (run (asks t) (target (mailOf client sender helo receiver seconds) d spec c)) r to b b
+  unfolding target expanded givesExpansion givesName run bind
+  target-without-p h r to b w =
+      let x = run (asks t) (target (mailOf client sender helo receiver seconds) d spec c) in
+      let y : x ≡ settled (questionName (expansion (mailOf client sender helo receiver seconds) d DomainSpec spec [])) = rw (← e, h) in
+      target-settled c x (questionName (expansion (mailOf client sender helo receiver seconds) d DomainSpec spec [])) r to b b (record { is = y; kept = refl }) (w c)
+
+-- `make_target_or`
+module _ (mail : Mail) (c : Counts) (t d spec : List ℕ) (is : Bool) where
+  pub target-given : is ≡ true → (r : Target) (to b a : List ℕ) → SaysTarget c (run (asks t) (target mail d spec c)) r to b a
+      → SaysTarget c (run (asks t) (targetOr mail d (cond is (present spec) absent) c)) r to b a
+  unfolding targetOr
+  target-given h r to b a w = rw h w
+
+  pub target-not-given : is ≡ false → length d ≤ 253 → (to to′ : List ℕ) (n : ℕ) → 253 ≤ length to → Wrote d to 0 to′ n → (b : List ℕ)
+      → SaysTarget c (run (asks t) (targetOr mail d (cond is (present spec) absent) c)) (Target.Name (length d)) to′ b b
+  unfolding targetOr run TargetIs wantedBuffer
+  target-not-given h short to to′ n room w b =
+      rw h (record { target = (refl, name-front d to to′ short room (wrote-over d to to′ n w), short); buffer = refl })
