@@ -1,3 +1,4 @@
+-- `answers::any_matches` meets its contract. From the rules of Laws.Addresses, item after item.
 use Prim.Native.Nat.{_-_}
 use lib.ListN.{length as size}
 use Rattle.table.proofs.Laws.Items.{next-less}
@@ -18,39 +19,30 @@ Inv-loop client length items at₀ at = Unmatched client length items at
 abbrev μ-loop : tie.MeasureT-loop
 μ-loop client length items at₀ at = size items - at
 
--- src/lib.rt:47:5
 loop-holds : tie.Need-loop-holds Inv-loop μ-loop
 loop-holds c = search unmatched-start
 
--- src/lib.rt:48:62
 item-requires : tie.Need-item-requires Inv-loop μ-loop
 item-requires c κs = search needs
 
--- src/lib.rt:48:41
 from-octets-requires : tie.Need-from-octets-requires Inv-loop μ-loop
 from-octets-requires c κs = search needs
 
--- src/lib.rt:48:12
 item-matches-requires : tie.Need-item-matches-requires Inv-loop μ-loop
 item-matches-requires c κs = search needs
 
--- src/lib.rt:49:13
 returns : tie.Need-returns Inv-loop μ-loop
 returns c = search any-found
 
--- src/lib.rt:51:9
 next-item-requires : tie.Need-next-item-requires Inv-loop μ-loop
 next-item-requires c κs = search needs
 
--- src/lib.rt:47:5
 loop-less : tie.Need-loop-less Inv-loop μ-loop
 loop-less c = search next-less
 
--- src/lib.rt:47:5
 loop-again : tie.Need-loop-again Inv-loop μ-loop
 loop-again c = search any-next
 
--- src/lib.rt:43:1
 returns-2 : tie.Need-returns-2 Inv-loop μ-loop
 returns-2 c = search any-end
 

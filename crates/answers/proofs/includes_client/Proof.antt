@@ -1,3 +1,4 @@
+-- `answers::includes_client` meets its contract. From the rules of Laws.Addresses.
 use Rattle.answers.proofs.Laws.Addresses.{includes-failed, includes-items}
 use borrow.Author.Needs.{needs}
 use Rattle.answers.proofs.includes_client.Statement.{statement}
@@ -7,19 +8,15 @@ use Rattle.answers.proofs.includes_client.Lts as lts
 use Rattle.answers.proofs.any_matches.Reads as any-matches-reads
 use Rattle.answers.proofs.width.Reads as width-reads
 
--- src/lib.rt:61:9
 returns : tie.Need-returns
 returns c = search includes-failed
 
--- src/lib.rt:63:25
 width-requires : tie.Need-width-requires
 width-requires c κs = search needs
 
--- src/lib.rt:63:5
 any-matches-requires : tie.Need-any-matches-requires
 any-matches-requires c κs = search needs
 
--- src/lib.rt:57:1
 returns-2 : tie.Need-returns-2
 returns-2 c = search includes-items
 

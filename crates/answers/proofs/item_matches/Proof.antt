@@ -1,3 +1,4 @@
+-- `answers::item_matches` meets its contract. By the case of the octets.
 use Rattle.answers.proofs.Laws.Addresses.{item-is}
 use Rattle.meaning.specs.Mechanisms.{itemMatches}
 use Rattle.text.proofs.Laws.Tests.{ways}
@@ -8,24 +9,19 @@ use Rattle.answers.proofs.item_matches.Reads as reads
 use Rattle.answers.proofs.item_matches.Lts as lts
 use Rattle.address.proofs.matches.Reads as matches-reads
 
--- src/lib.rt:36:24
 enum-known-octets : tie.Need-enum-known-octets
 enum-known-octets c = search needs
 
--- src/lib.rt:37:9
 enum-told : tie.Need-enum-told
 enum-told c = search needs
 
--- src/lib.rt:37:9
 returns : tie.Need-returns
 unfolding itemMatches
 returns c = search ways
 
--- src/lib.rt:39:5
 matches-requires : tie.Need-matches-requires
 matches-requires c κs = search needs
 
--- src/lib.rt:33:1
 returns-2 : tie.Need-returns-2
 unfolding itemMatches
 returns-2 c = search item-is

@@ -1,3 +1,4 @@
+-- `answers::want` meets its contract. From the laws of writing.
 use Rattle.text.proofs.Laws.Writing.{wrote-over}
 use borrow.Author.Needs.{needs}
 use Rattle.answers.proofs.want.Statement.{statement}
@@ -6,15 +7,12 @@ use Rattle.answers.proofs.want.Reads as reads
 use Rattle.answers.proofs.want.Lts as lts
 use Rattle.text.proofs.writing.put_all.Reads as put-all-reads
 
--- src/lib.rt:70:5
 put-all-requires : tie.Need-put-all-requires
 put-all-requires c κs = search needs
 
--- src/lib.rt:67:1
 same-length : tie.Need-same-length
 same-length c = search needs
 
--- src/lib.rt:67:1
 returns : tie.Need-returns
 returns c = search wrote-over
 

@@ -1,3 +1,4 @@
+-- `answers::width` meets its contract. By the family.
 use Rattle.meaning.specs.Mechanisms.{width}
 use Rattle.text.proofs.Laws.Tests.{ways}
 use borrow.Author.Needs.{needs}
@@ -6,20 +7,16 @@ use Rattle.answers.proofs.width.Tie as tie
 use Rattle.answers.proofs.width.Reads as reads
 use Rattle.answers.proofs.width.Lts as lts
 
--- src/lib.rt:27:29
 enum-told : tie.Need-enum-told
 enum-told c = search needs
 
--- src/lib.rt:28:32
 enum-told-2 : tie.Need-enum-told-2
 enum-told-2 c = search needs
 
--- src/lib.rt:23:1
 returns : tie.Need-returns
 unfolding width
 returns c = search ways
 
--- src/lib.rt:23:1
 returns-2 : tie.Need-returns-2
 unfolding width
 returns-2 c = search ways

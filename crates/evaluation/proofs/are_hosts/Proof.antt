@@ -1,4 +1,5 @@
-use Rattle.text.proofs.Laws.Tests.{ways, tests}
+-- `evaluation::are_hosts` meets its contract. By the tests.
+use Rattle.text.proofs.Laws.Tests.{tests}
 use borrow.Author.Needs.{needs}
 use Rattle.evaluation.proofs.are_hosts.Statement.{statement}
 use Rattle.evaluation.proofs.are_hosts.Tie as tie
@@ -6,19 +7,15 @@ use Rattle.evaluation.proofs.are_hosts.Reads as reads
 use Rattle.evaluation.proofs.are_hosts.Lts as lts
 use Rattle.macros.proofs.values.is_host.Reads as is-host-reads
 
--- src/lib.rt:51:8
 is-host-requires : tie.Need-is-host-requires
 is-host-requires c κs = search needs
 
--- src/lib.rt:52:9
 is-host-requires-2 : tie.Need-is-host-requires-2
 is-host-requires-2 c κs = search needs
 
--- src/lib.rt:52:9
 returns : tie.Need-returns
 returns c = search tests
 
--- src/lib.rt:48:1
 returns-2 : tie.Need-returns-2
 returns-2 c = search tests
 

@@ -1,3 +1,4 @@
+-- `evaluation::check_given` meets its contract. From the rules of Laws.Deciding.
 use Rattle.evaluation.proofs.Laws.Deciding.{given-malformed, given-small, given-checked}
 use borrow.Author.Needs.{needs}
 use Rattle.evaluation.proofs.check_given.Statement.{statement}
@@ -9,47 +10,36 @@ use Rattle.evaluation.proofs.check.check_domain.Reads as check-domain-r
 use Rattle.evaluation.proofs.check.ended.Reads as ended-reads
 use Rattle.text.proofs.bytes.part.Reads as part-reads
 
--- src/lib.rt:98:37
 slice-aggregate-read-name : tie.Need-slice-aggregate-read-name
 slice-aggregate-read-name c = search needs
 
--- src/lib.rt:98:11
 read-name-requires : tie.Need-read-name-requires
 read-name-requires c κs = search needs
 
--- src/lib.rt:99:28
 enum-told : tie.Need-enum-told
 enum-told c = search needs
 
--- src/lib.rt:99:28
 ended-requires : tie.Need-ended-requires
 ended-requires c κs = search needs
 
--- src/lib.rt:100:23
 enum-known-n : tie.Need-enum-known-n
 enum-known-n c = search needs
 
--- src/lib.rt:107:25
 slice-aggregate-part : tie.Need-slice-aggregate-part
 slice-aggregate-part c = search needs
 
--- src/lib.rt:107:13
 part-requires : tie.Need-part-requires
 part-requires c κs = search needs
 
--- src/lib.rt:100:29
 check-domain-requires : tie.Need-check-domain-requires
 check-domain-requires c κs = search (given-small, needs)
 
--- src/lib.rt:80:1
 returns : tie.Need-returns
 returns c = search given-malformed
 
--- src/lib.rt:80:1
 same-length : tie.Need-same-length
 same-length c = search needs
 
--- src/lib.rt:80:1
 returns-2 : tie.Need-returns-2
 returns-2 c = search (given-checked, needs)
 

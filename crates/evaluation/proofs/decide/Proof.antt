@@ -1,3 +1,4 @@
+-- `evaluation::decide` meets its contract. From the rules of Laws.Deciding.
 use Rattle.evaluation.proofs.Laws.Deciding.{decide-explained, decide-asks, decide-wants}
 use borrow.Author.Needs.{needs}
 use Rattle.evaluation.proofs.decide.Statement.{statement}
@@ -7,59 +8,45 @@ use Rattle.evaluation.proofs.decide.Lts as lts
 use Rattle.evaluation.proofs.check_given.Reads as check-given-reads
 use Rattle.explanation.proofs.explain.Reads as explain-reads
 
--- src/lib.rt:129:9
 check-given-requires : tie.Need-check-given-requires
 check-given-requires c κs = search needs
 
--- src/lib.rt:134:27
 enum-known-ending : tie.Need-enum-known-ending
 enum-known-ending c = search needs
 
--- src/lib.rt:139:24
 enum-known-ending-2 : tie.Need-enum-known-ending-2
 enum-known-ending-2 c = search needs
 
--- src/lib.rt:140:19
 explain-requires : tie.Need-explain-requires
 explain-requires c κs = search needs
 
--- src/lib.rt:143:33
 enum-known-n : tie.Need-enum-known-n
 enum-known-n c = search needs
 
--- src/lib.rt:148:38
 enum-known-kind : tie.Need-enum-known-kind
 enum-known-kind c = search needs
 
--- src/lib.rt:115:1
 same-length : tie.Need-same-length
 same-length c = search needs
 
--- src/lib.rt:115:1
 returns : tie.Need-returns
 returns c = search decide-wants
 
--- src/lib.rt:115:1
 same-length-2 : tie.Need-same-length-2
 same-length-2 c = search needs
 
--- src/lib.rt:115:1
 same-length-3 : tie.Need-same-length-3
 same-length-3 c = search needs
 
--- src/lib.rt:115:1
 returns-2 : tie.Need-returns-2
 returns-2 c = search decide-explained
 
--- src/lib.rt:115:1
 same-length-4 : tie.Need-same-length-4
 same-length-4 c = search needs
 
--- src/lib.rt:115:1
 same-length-5 : tie.Need-same-length-5
 same-length-5 c = search needs
 
--- src/lib.rt:115:1
 returns-3 : tie.Need-returns-3
 returns-3 c = search decide-asks
 

@@ -1,3 +1,4 @@
+-- `evaluation::evaluate` meets its contract. From the rules of Laws.Deciding: 20 to 26 first, then the check and its explanation.
 use Rattle.evaluation.proofs.Laws.Deciding.{sender-small, evaluated-refused, evaluated-long, evaluated-malformed, evaluated-repeated, evaluated-decided}
 use borrow.Author.Needs.{needs}
 use Rattle.evaluation.proofs.evaluate.Statement.{statement}
@@ -9,63 +10,48 @@ use Rattle.evaluation.proofs.decide.Reads as decide-reads
 use Rattle.evaluation.proofs.refusal.Reads as refusal-reads
 use Rattle.table.proofs.check_table.Reads as check-table-reads
 
--- src/lib.rt:193:9
 refusal-requires : tie.Need-refusal-requires
 refusal-requires c κs = search needs
 
--- src/lib.rt:195:22
 check-table-requires : tie.Need-check-table-requires
 check-table-requires c κs = search needs
 
--- src/lib.rt:196:37
 enum-told : tie.Need-enum-told
 enum-told c = search needs
 
--- src/lib.rt:197:36
 enum-known-at : tie.Need-enum-known-at
 enum-known-at c = search needs
 
--- src/lib.rt:198:35
 enum-known-at-2 : tie.Need-enum-known-at-2
 enum-known-at-2 c = search needs
 
--- src/lib.rt:200:17
 enum-told-2 : tie.Need-enum-told-2
 enum-told-2 c = search needs
 
--- src/lib.rt:200:17
 as-client-requires : tie.Need-as-client-requires
 as-client-requires c κs = search needs
 
--- src/lib.rt:199:41
 decide-requires : tie.Need-decide-requires
 decide-requires c κs = search (sender-small, needs)
 
--- src/lib.rt:195:9
 returns : tie.Need-returns
 returns c = evaluated-long _ _ _ _ _ _ _ _ _ _ (c .before .before .before .before .refusal .ensures) (c .before .before .before .if1 .taken) _ (c .before .before .check-table .ensures .0) (c .enum-told .given .1)
 
--- src/lib.rt:195:9
 returns-2 : tie.Need-returns-2
 returns-2 c = evaluated-malformed _ _ _ _ _ _ _ _ _ _ (c .before .before .before .before .before .refusal .ensures) (c .before .before .before .before .if1 .taken) _ (c .before .before .before .check-table .ensures .0) _ (c .before .at .given .1)
 
--- src/lib.rt:195:9
 returns-3 : tie.Need-returns-3
 returns-3 c = evaluated-repeated _ _ _ _ _ _ _ _ _ _ (c .before .before .before .before .before .refusal .ensures) (c .before .before .before .before .if1 .taken) _ (c .before .before .before .check-table .ensures .0) _ (c .before .at2 .given .1)
 
--- src/lib.rt:195:9
 same-length : tie.Need-same-length
 same-length c = search needs
 
--- src/lib.rt:195:9
 same-length-2 : tie.Need-same-length-2
 same-length-2 c = search needs
 
--- src/lib.rt:195:9
 returns-4 : tie.Need-returns-4
 returns-4 c = evaluated-decided _ _ _ _ _ _ _ _ _ _ (c .before .before .before .before .before .before .before .before .before .before .before .before .refusal .ensures) (c .before .before .before .before .before .before .before .before .before .before .before .if1 .taken) _ (c .before .before .before .before .before .before .before .before .before .before .check-table .ensures .0) _ (c .before .before .before .before .before .before .before .before .enum-told2 .given .1) _ (c .before .before .before .before .before .before .before .as-client .ensures .0) _ _ _ (c .before .before .before .before .decide .ensures)
 
--- src/lib.rt:179:1
 returns-5 : tie.Need-returns-5
 returns-5 c = evaluated-refused _ _ _ _ _ _ _ _ _ _ (c .before .refusal .ensures) (c .if1 .left)
 

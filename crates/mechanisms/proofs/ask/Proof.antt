@@ -1,3 +1,4 @@
+-- `mechanisms::ask` meets its contract. From the rules of Laws.Naming, one for each mechanism.
 use Rattle.mechanisms.proofs.Laws.Naming.{by-a, by-mx, by-ptr, by-exists}
 use borrow.Author.Needs.{needs}
 use Rattle.mechanisms.proofs.ask.Statement.{statement}

@@ -1,3 +1,4 @@
+-- `mechanisms::differ` meets its contract. By the test.
 use Rattle.text.proofs.Laws.Tests.{ways}
 use Rattle.mechanisms.proofs.differ.Statement.{statement}
 use Rattle.mechanisms.proofs.differ.Tie as tie

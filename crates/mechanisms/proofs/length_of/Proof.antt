@@ -1,3 +1,4 @@
+-- `mechanisms::length_of` meets its contract. By the family.
 use Rattle.mechanisms.specs.Terms.{lengthOf}
 use Rattle.text.proofs.Laws.Tests.{ways}
 use borrow.Author.Needs.{needs}

@@ -1,3 +1,4 @@
+-- `mechanisms::matched` meets its contract. By the test.
 use Rattle.text.proofs.Laws.Tests.{ways}
 use Rattle.mechanisms.proofs.matched.Statement.{statement}
 use Rattle.mechanisms.proofs.matched.Tie as tie

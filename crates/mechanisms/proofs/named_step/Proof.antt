@@ -1,3 +1,4 @@
+-- `mechanisms::named_step` meets its contract. From the rules of Laws.Naming.
 use Rattle.mechanisms.proofs.Laws.Naming.{named-eleventh, named-malformed, named-wants, named-asks}
 use borrow.Author.Needs.{needs}
 use Rattle.mechanisms.proofs.named_step.Statement.{statement}

@@ -1,3 +1,4 @@
+-- `mechanisms::try_plain` meets its contract. From the rules of Laws.Trying, one for each case of the term.
 use Rattle.mechanisms.proofs.Laws.Trying.{tried-all, tried-include, tried-a, tried-mx, tried-ptr, tried-network, tried-exists, tried-redirect, tried-explanation, tried-unknown}
 use borrow.Author.Needs.{needs}
 use Rattle.mechanisms.proofs.try_plain.Statement.{statement}

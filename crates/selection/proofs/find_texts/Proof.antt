@@ -1,3 +1,4 @@
+-- `selection::find_texts` meets its contract. From the rules of Laws.Lookups.
 use Rattle.selection.proofs.Laws.Lookups.{texts-spf, texts-txt}
 use borrow.Author.Needs.{needs}
 use Rattle.selection.proofs.find_texts.Statement.{statement}

@@ -1,3 +1,4 @@
+-- `selection::has_texts` meets its contract. From the rules of Laws.Lookups.
 use Rattle.selection.proofs.Laws.Lookups.{texts-missing, texts-failed, texts-some}
 use borrow.Author.Needs.{needs}
 use Rattle.selection.proofs.has_texts.Statement.{statement}

@@ -1,3 +1,4 @@
+-- `selection::join_text` meets its contract. From the rules of Laws.Picks.
 use Rattle.selection.proofs.Laws.Picks.{join-one, join-none}
 use borrow.Author.Needs.{needs}
 use Rattle.selection.proofs.join_text.Statement.{statement}

@@ -1,3 +1,4 @@
+-- `selection::one_more` meets its contract. From the rules of Laws.Picks.
 use Rattle.selection.proofs.Laws.Picks.{more-first, more-several, more-second}
 use borrow.Author.Needs.{needs}
 use Rattle.selection.proofs.one_more.Statement.{statement}

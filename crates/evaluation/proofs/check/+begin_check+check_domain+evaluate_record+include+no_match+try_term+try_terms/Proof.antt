@@ -1,3 +1,5 @@
+-- The check of a domain, the terms of its record, include and redirect meet their contracts; they call each other, and the remaining lookups fall.
+-- From the rules of Laws.Beginning and Laws.Walking, one for each way out.
 use mathlib.Core.Path.{refl}
 use borrow.Author.Needs.{needs}
 use native.Mathlib.Omega.{arith}
@@ -134,7 +136,6 @@ abbrev try-terms-below : ℕ → In 5 try-terms-kinds.ps
 try-terms-below t =
     and 5 try-terms-kinds.ps (falls 5 try-terms-kinds.ps _<_ μ-try-terms t) try-terms.Pre
 
--- src/check.rt:301:9
 begin-check-ended-requires : (t : ℕ) → begin-check-lts.Need-ended-requires (
   ended-reads.Asked,
   ended-reads.Learnt,
@@ -149,7 +150,6 @@ begin-check-ended-requires : (t : ℕ) → begin-check-lts.Need-ended-requires (
 ) (begin-check-at t) begin-check.Post
 begin-check-ended-requires t c κs = search needs
 
--- src/check.rt:301:9
 begin-check-returns : (t : ℕ) → begin-check-lts.Need-returns (
   ended-reads.Asked,
   ended-reads.Learnt,
@@ -164,7 +164,6 @@ begin-check-returns : (t : ℕ) → begin-check-lts.Need-returns (
 ) (begin-check-at t) begin-check.Post
 begin-check-returns t c = search begin-eleventh
 
--- src/check.rt:304:18
 begin-check-add-t18 : (t : ℕ) → begin-check-lts.Need-add-t18 (
   ended-reads.Asked,
   ended-reads.Learnt,
@@ -179,7 +178,6 @@ begin-check-add-t18 : (t : ℕ) → begin-check-lts.Need-add-t18 (
 ) (begin-check-at t) begin-check.Post
 begin-check-add-t18 t c = search needs
 
--- src/check.rt:309:57
 begin-check-part-requires : (t : ℕ) → begin-check-lts.Need-part-requires (
   ended-reads.Asked,
   ended-reads.Learnt,
@@ -194,7 +192,6 @@ begin-check-part-requires : (t : ℕ) → begin-check-lts.Need-part-requires (
 ) (begin-check-at t) begin-check.Post
 begin-check-part-requires t c κs = search needs
 
--- src/check.rt:309:114
 begin-check-slice-aggregate-make-target :
     (t : ℕ) → begin-check-lts.Need-slice-aggregate-make-target (
       ended-reads.Asked,
@@ -210,7 +207,6 @@ begin-check-slice-aggregate-make-target :
     ) (begin-check-at t) begin-check.Post
 begin-check-slice-aggregate-make-target t c = search needs
 
--- src/check.rt:308:11
 begin-check-make-target-requires : (t : ℕ) → begin-check-lts.Need-make-target-requires (
   ended-reads.Asked,
   ended-reads.Learnt,
@@ -225,7 +221,6 @@ begin-check-make-target-requires : (t : ℕ) → begin-check-lts.Need-make-targe
 ) (begin-check-at t) begin-check.Post
 begin-check-make-target-requires t c κs = search needs
 
--- src/check.rt:311:30
 begin-check-enum-told : (t : ℕ) → begin-check-lts.Need-enum-told (
   ended-reads.Asked,
   ended-reads.Learnt,
@@ -240,7 +235,6 @@ begin-check-enum-told : (t : ℕ) → begin-check-lts.Need-enum-told (
 ) (begin-check-at t) begin-check.Post
 begin-check-enum-told t c = search needs
 
--- src/check.rt:311:30
 begin-check-ended-requires-2 : (t : ℕ) → begin-check-lts.Need-ended-requires-2 (
   ended-reads.Asked,
   ended-reads.Learnt,
@@ -255,7 +249,6 @@ begin-check-ended-requires-2 : (t : ℕ) → begin-check-lts.Need-ended-requires
 ) (begin-check-at t) begin-check.Post
 begin-check-ended-requires-2 t c κs = search needs
 
--- src/check.rt:312:27
 begin-check-enum-known-kind : (t : ℕ) → begin-check-lts.Need-enum-known-kind (
   ended-reads.Asked,
   ended-reads.Learnt,
@@ -270,7 +263,6 @@ begin-check-enum-known-kind : (t : ℕ) → begin-check-lts.Need-enum-known-kind
 ) (begin-check-at t) begin-check.Post
 begin-check-enum-known-kind t c = search needs
 
--- src/check.rt:312:48
 begin-check-wanting-requires : (t : ℕ) → begin-check-lts.Need-wanting-requires (
   ended-reads.Asked,
   ended-reads.Learnt,
@@ -285,7 +277,6 @@ begin-check-wanting-requires : (t : ℕ) → begin-check-lts.Need-wanting-requir
 ) (begin-check-at t) begin-check.Post
 begin-check-wanting-requires t c κs = search needs
 
--- src/check.rt:313:22
 begin-check-enum-known-n : (t : ℕ) → begin-check-lts.Need-enum-known-n (
   ended-reads.Asked,
   ended-reads.Learnt,
@@ -300,7 +291,6 @@ begin-check-enum-known-n : (t : ℕ) → begin-check-lts.Need-enum-known-n (
 ) (begin-check-at t) begin-check.Post
 begin-check-enum-known-n t c = search needs
 
--- src/check.rt:313:101
 begin-check-slice-aggregate-part : (t : ℕ) → begin-check-lts.Need-slice-aggregate-part (
   ended-reads.Asked,
   ended-reads.Learnt,
@@ -315,7 +305,6 @@ begin-check-slice-aggregate-part : (t : ℕ) → begin-check-lts.Need-slice-aggr
 ) (begin-check-at t) begin-check.Post
 begin-check-slice-aggregate-part t c = search needs
 
--- src/check.rt:313:89
 begin-check-part-requires-2 : (t : ℕ) → begin-check-lts.Need-part-requires-2 (
   ended-reads.Asked,
   ended-reads.Learnt,
@@ -330,7 +319,6 @@ begin-check-part-requires-2 : (t : ℕ) → begin-check-lts.Need-part-requires-2
 ) (begin-check-at t) begin-check.Post
 begin-check-part-requires-2 t c κs = search needs
 
--- src/check.rt:313:28
 begin-check-check-domain-requires : (t : ℕ) → begin-check-lts.Need-check-domain-requires (
   ended-reads.Asked,
   ended-reads.Learnt,
@@ -345,7 +333,6 @@ begin-check-check-domain-requires : (t : ℕ) → begin-check-lts.Need-check-dom
 ) (begin-check-at t) begin-check.Post
 begin-check-check-domain-requires t c κs = (omega arith, search (target-small, needs))
 
--- src/check.rt:283:1
 begin-check-same-length : (t : ℕ) → begin-check-lts.Need-same-length (
   ended-reads.Asked,
   ended-reads.Learnt,
@@ -360,7 +347,6 @@ begin-check-same-length : (t : ℕ) → begin-check-lts.Need-same-length (
 ) (begin-check-at t) begin-check.Post
 begin-check-same-length t c = cc
 
--- src/check.rt:283:1
 begin-check-returns-2 : (t : ℕ) → begin-check-lts.Need-returns-2 (
   ended-reads.Asked,
   ended-reads.Learnt,
@@ -375,7 +361,6 @@ begin-check-returns-2 : (t : ℕ) → begin-check-lts.Need-returns-2 (
 ) (begin-check-at t) begin-check.Post
 begin-check-returns-2 t c = search begin-malformed
 
--- src/check.rt:283:1
 begin-check-same-length-2 : (t : ℕ) → begin-check-lts.Need-same-length-2 (
   ended-reads.Asked,
   ended-reads.Learnt,
@@ -390,7 +375,6 @@ begin-check-same-length-2 : (t : ℕ) → begin-check-lts.Need-same-length-2 (
 ) (begin-check-at t) begin-check.Post
 begin-check-same-length-2 t c = cc
 
--- src/check.rt:283:1
 begin-check-returns-3 : (t : ℕ) → begin-check-lts.Need-returns-3 (
   ended-reads.Asked,
   ended-reads.Learnt,
@@ -405,7 +389,6 @@ begin-check-returns-3 : (t : ℕ) → begin-check-lts.Need-returns-3 (
 ) (begin-check-at t) begin-check.Post
 begin-check-returns-3 t c = search begin-wants
 
--- src/check.rt:283:1
 begin-check-same-length-3 : (t : ℕ) → begin-check-lts.Need-same-length-3 (
   ended-reads.Asked,
   ended-reads.Learnt,
@@ -420,7 +403,6 @@ begin-check-same-length-3 : (t : ℕ) → begin-check-lts.Need-same-length-3 (
 ) (begin-check-at t) begin-check.Post
 begin-check-same-length-3 t c = cc
 
--- src/check.rt:283:1
 begin-check-returns-4 : (t : ℕ) → begin-check-lts.Need-returns-4 (
   ended-reads.Asked,
   ended-reads.Learnt,
@@ -435,7 +417,6 @@ begin-check-returns-4 : (t : ℕ) → begin-check-lts.Need-returns-4 (
 ) (begin-check-at t) begin-check.Post
 begin-check-returns-4 t c = search begin-checked
 
--- src/check.rt:119:8
 check-domain-count-labels-requires : (t : ℕ) → check-domain-lts.Need-count-labels-requires (
   count-labels-reads.Asked,
   count-labels-reads.Learnt,
@@ -450,7 +431,6 @@ check-domain-count-labels-requires : (t : ℕ) → check-domain-lts.Need-count-l
 ) (check-domain-at t) check-domain.Post
 check-domain-count-labels-requires t c κs = search needs
 
--- src/check.rt:120:9
 check-domain-ended-requires : (t : ℕ) → check-domain-lts.Need-ended-requires (
   count-labels-reads.Asked,
   count-labels-reads.Learnt,
@@ -465,7 +445,6 @@ check-domain-ended-requires : (t : ℕ) → check-domain-lts.Need-ended-requires
 ) (check-domain-at t) check-domain.Post
 check-domain-ended-requires t c κs = search needs
 
--- src/check.rt:120:9
 check-domain-returns : (t : ℕ) → check-domain-lts.Need-returns (
   count-labels-reads.Asked,
   count-labels-reads.Learnt,
@@ -480,7 +459,6 @@ check-domain-returns : (t : ℕ) → check-domain-lts.Need-returns (
 ) (check-domain-at t) check-domain.Post
 check-domain-returns t c = search domain-single
 
--- src/check.rt:122:11
 check-domain-select-record-requires : (t : ℕ) → check-domain-lts.Need-select-record-requires (
   count-labels-reads.Asked,
   count-labels-reads.Learnt,
@@ -495,7 +473,6 @@ check-domain-select-record-requires : (t : ℕ) → check-domain-lts.Need-select
 ) (check-domain-at t) check-domain.Post
 check-domain-select-record-requires t c κs = search needs
 
--- src/check.rt:123:22
 check-domain-enum-known-value : (t : ℕ) → check-domain-lts.Need-enum-known-value (
   count-labels-reads.Asked,
   count-labels-reads.Learnt,
@@ -510,7 +487,6 @@ check-domain-enum-known-value : (t : ℕ) → check-domain-lts.Need-enum-known-v
 ) (check-domain-at t) check-domain.Post
 check-domain-enum-known-value t c = search needs
 
--- src/check.rt:123:32
 check-domain-ended-requires-2 : (t : ℕ) → check-domain-lts.Need-ended-requires-2 (
   count-labels-reads.Asked,
   count-labels-reads.Learnt,
@@ -525,7 +501,6 @@ check-domain-ended-requires-2 : (t : ℕ) → check-domain-lts.Need-ended-requir
 ) (check-domain-at t) check-domain.Post
 check-domain-ended-requires-2 t c κs = search needs
 
--- src/check.rt:124:27
 check-domain-enum-known-kind : (t : ℕ) → check-domain-lts.Need-enum-known-kind (
   count-labels-reads.Asked,
   count-labels-reads.Learnt,
@@ -540,7 +515,6 @@ check-domain-enum-known-kind : (t : ℕ) → check-domain-lts.Need-enum-known-ki
 ) (check-domain-at t) check-domain.Post
 check-domain-enum-known-kind t c = search needs
 
--- src/check.rt:124:48
 check-domain-wanting-requires : (t : ℕ) → check-domain-lts.Need-wanting-requires (
   count-labels-reads.Asked,
   count-labels-reads.Learnt,
@@ -555,7 +529,6 @@ check-domain-wanting-requires : (t : ℕ) → check-domain-lts.Need-wanting-requ
 ) (check-domain-at t) check-domain.Post
 check-domain-wanting-requires t c κs = search needs
 
--- src/check.rt:125:31
 check-domain-enum-known-place : (t : ℕ) → check-domain-lts.Need-enum-known-place (
   count-labels-reads.Asked,
   count-labels-reads.Learnt,
@@ -570,7 +543,6 @@ check-domain-enum-known-place : (t : ℕ) → check-domain-lts.Need-enum-known-p
 ) (check-domain-at t) check-domain.Post
 check-domain-enum-known-place t c = search needs
 
--- src/check.rt:125:48
 check-domain-evaluate-record-requires : (t : ℕ) → check-domain-lts.Need-evaluate-record-requires (
   count-labels-reads.Asked,
   count-labels-reads.Learnt,
@@ -585,7 +557,6 @@ check-domain-evaluate-record-requires : (t : ℕ) → check-domain-lts.Need-eval
 ) (check-domain-at t) check-domain.Post
 check-domain-evaluate-record-requires t c κs = (omega arith, search (place-small, needs))
 
--- src/check.rt:104:1
 check-domain-same-length : (t : ℕ) → check-domain-lts.Need-same-length (
   count-labels-reads.Asked,
   count-labels-reads.Learnt,
@@ -600,7 +571,6 @@ check-domain-same-length : (t : ℕ) → check-domain-lts.Need-same-length (
 ) (check-domain-at t) check-domain.Post
 check-domain-same-length t c = cc
 
--- src/check.rt:104:1
 check-domain-returns-2 : (t : ℕ) → check-domain-lts.Need-returns-2 (
   count-labels-reads.Asked,
   count-labels-reads.Learnt,
@@ -615,7 +585,6 @@ check-domain-returns-2 : (t : ℕ) → check-domain-lts.Need-returns-2 (
 ) (check-domain-at t) check-domain.Post
 check-domain-returns-2 t c = search domain-ends
 
--- src/check.rt:104:1
 check-domain-same-length-2 : (t : ℕ) → check-domain-lts.Need-same-length-2 (
   count-labels-reads.Asked,
   count-labels-reads.Learnt,
@@ -630,7 +599,6 @@ check-domain-same-length-2 : (t : ℕ) → check-domain-lts.Need-same-length-2 (
 ) (check-domain-at t) check-domain.Post
 check-domain-same-length-2 t c = cc
 
--- src/check.rt:104:1
 check-domain-returns-3 : (t : ℕ) → check-domain-lts.Need-returns-3 (
   count-labels-reads.Asked,
   count-labels-reads.Learnt,
@@ -645,7 +613,6 @@ check-domain-returns-3 : (t : ℕ) → check-domain-lts.Need-returns-3 (
 ) (check-domain-at t) check-domain.Post
 check-domain-returns-3 t c = search domain-wants
 
--- src/check.rt:104:1
 check-domain-same-length-3 : (t : ℕ) → check-domain-lts.Need-same-length-3 (
   count-labels-reads.Asked,
   count-labels-reads.Learnt,
@@ -660,7 +627,6 @@ check-domain-same-length-3 : (t : ℕ) → check-domain-lts.Need-same-length-3 (
 ) (check-domain-at t) check-domain.Post
 check-domain-same-length-3 t c = cc
 
--- src/check.rt:104:1
 check-domain-returns-4 : (t : ℕ) → check-domain-lts.Need-returns-4 (
   count-labels-reads.Asked,
   count-labels-reads.Learnt,
@@ -675,7 +641,6 @@ check-domain-returns-4 : (t : ℕ) → check-domain-lts.Need-returns-4 (
 ) (check-domain-at t) check-domain.Post
 check-domain-returns-4 t c = search domain-one
 
--- src/check.rt:148:32
 evaluate-record-part-requires : (t : ℕ) → evaluate-record-lts.Need-part-requires (
   part-reads.Asked,
   part-reads.Learnt,
@@ -688,7 +653,6 @@ evaluate-record-part-requires : (t : ℕ) → evaluate-record-lts.Need-part-requ
 ) (evaluate-record-at t) evaluate-record.Post
 evaluate-record-part-requires t c κs = search needs
 
--- src/check.rt:148:11
 evaluate-record-read-record-requires : (t : ℕ) → evaluate-record-lts.Need-read-record-requires (
   part-reads.Asked,
   part-reads.Learnt,
@@ -701,7 +665,6 @@ evaluate-record-read-record-requires : (t : ℕ) → evaluate-record-lts.Need-re
 ) (evaluate-record-at t) evaluate-record.Post
 evaluate-record-read-record-requires t c κs = search needs
 
--- src/check.rt:149:55
 evaluate-record-enum-told : (t : ℕ) → evaluate-record-lts.Need-enum-told (
   part-reads.Asked,
   part-reads.Learnt,
@@ -714,7 +677,6 @@ evaluate-record-enum-told : (t : ℕ) → evaluate-record-lts.Need-enum-told (
 ) (evaluate-record-at t) evaluate-record.Post
 evaluate-record-enum-told t c = search needs
 
--- src/check.rt:149:55
 evaluate-record-ended-requires : (t : ℕ) → evaluate-record-lts.Need-ended-requires (
   part-reads.Asked,
   part-reads.Learnt,
@@ -727,7 +689,6 @@ evaluate-record-ended-requires : (t : ℕ) → evaluate-record-lts.Need-ended-re
 ) (evaluate-record-at t) evaluate-record.Post
 evaluate-record-ended-requires t c κs = search needs
 
--- src/check.rt:150:32
 evaluate-record-enum-known-first : (t : ℕ) → evaluate-record-lts.Need-enum-known-first (
   part-reads.Asked,
   part-reads.Learnt,
@@ -740,7 +701,6 @@ evaluate-record-enum-known-first : (t : ℕ) → evaluate-record-lts.Need-enum-k
 ) (evaluate-record-at t) evaluate-record.Post
 evaluate-record-enum-known-first t c = search needs
 
--- src/check.rt:150:42
 evaluate-record-try-terms-requires : (t : ℕ) → evaluate-record-lts.Need-try-terms-requires (
   part-reads.Asked,
   part-reads.Learnt,
@@ -753,7 +713,6 @@ evaluate-record-try-terms-requires : (t : ℕ) → evaluate-record-lts.Need-try-
 ) (evaluate-record-at t) evaluate-record.Post
 evaluate-record-try-terms-requires t c κs = (omega arith, search needs)
 
--- src/check.rt:132:1
 evaluate-record-returns : (t : ℕ) → evaluate-record-lts.Need-returns (
   part-reads.Asked,
   part-reads.Learnt,
@@ -766,7 +725,6 @@ evaluate-record-returns : (t : ℕ) → evaluate-record-lts.Need-returns (
 ) (evaluate-record-at t) evaluate-record.Post
 evaluate-record-returns t c = search record-refused
 
--- src/check.rt:132:1
 evaluate-record-same-length : (t : ℕ) → evaluate-record-lts.Need-same-length (
   part-reads.Asked,
   part-reads.Learnt,
@@ -779,7 +737,6 @@ evaluate-record-same-length : (t : ℕ) → evaluate-record-lts.Need-same-length
 ) (evaluate-record-at t) evaluate-record.Post
 evaluate-record-same-length t c = cc
 
--- src/check.rt:132:1
 evaluate-record-returns-2 : (t : ℕ) → evaluate-record-lts.Need-returns-2 (
   part-reads.Asked,
   part-reads.Learnt,
@@ -792,7 +749,6 @@ evaluate-record-returns-2 : (t : ℕ) → evaluate-record-lts.Need-returns-2 (
 ) (evaluate-record-at t) evaluate-record.Post
 evaluate-record-returns-2 t c = search record-tried
 
--- src/check.rt:278:9
 include-begin-check-requires : (t : ℕ) → include-lts.Need-begin-check-requires (
   begin-check-below t,
   begin-check.Post,
@@ -801,7 +757,6 @@ include-begin-check-requires : (t : ℕ) → include-lts.Need-begin-check-requir
 ) (include-at t) include.Post
 include-begin-check-requires t c κs = (omega arith, search needs)
 
--- src/check.rt:279:5
 include-include-of-requires : (t : ℕ) → include-lts.Need-include-of-requires (
   begin-check-below t,
   begin-check.Post,
@@ -810,7 +765,6 @@ include-include-of-requires : (t : ℕ) → include-lts.Need-include-of-requires
 ) (include-at t) include.Post
 include-include-of-requires t c κs = search needs
 
--- src/check.rt:262:1
 include-same-length : (t : ℕ) → include-lts.Need-same-length (
   begin-check-below t,
   begin-check.Post,
@@ -819,7 +773,6 @@ include-same-length : (t : ℕ) → include-lts.Need-same-length (
 ) (include-at t) include.Post
 include-same-length t c = cc
 
--- src/check.rt:262:1
 include-returns : (t : ℕ) → include-lts.Need-returns (
   begin-check-below t,
   begin-check.Post,
@@ -828,7 +781,6 @@ include-returns : (t : ℕ) → include-lts.Need-returns (
 ) (include-at t) include.Post
 include-returns t c = search include-done
 
--- src/check.rt:224:39
 no-match-find-redirect-requires : (t : ℕ) → no-match-lts.Need-find-redirect-requires (
   find-redirect-reads.Asked,
   find-redirect-reads.Learnt,
@@ -843,7 +795,6 @@ no-match-find-redirect-requires : (t : ℕ) → no-match-lts.Need-find-redirect-
 ) (no-match-at t) no-match.Post
 no-match-find-redirect-requires t c κs = search needs
 
--- src/check.rt:224:26
 no-match-enum-known-from : (t : ℕ) → no-match-lts.Need-enum-known-from (
   find-redirect-reads.Asked,
   find-redirect-reads.Learnt,
@@ -858,7 +809,6 @@ no-match-enum-known-from : (t : ℕ) → no-match-lts.Need-enum-known-from (
 ) (no-match-at t) no-match.Post
 no-match-enum-known-from t c = search needs
 
--- src/check.rt:225:9
 no-match-enum-told : (t : ℕ) → no-match-lts.Need-enum-told (
   find-redirect-reads.Asked,
   find-redirect-reads.Learnt,
@@ -873,7 +823,6 @@ no-match-enum-told : (t : ℕ) → no-match-lts.Need-enum-told (
 ) (no-match-at t) no-match.Post
 no-match-enum-told t c = search needs
 
--- src/check.rt:225:9
 no-match-ended-requires : (t : ℕ) → no-match-lts.Need-ended-requires (
   find-redirect-reads.Asked,
   find-redirect-reads.Learnt,
@@ -888,7 +837,6 @@ no-match-ended-requires : (t : ℕ) → no-match-lts.Need-ended-requires (
 ) (no-match-at t) no-match.Post
 no-match-ended-requires t c κs = search needs
 
--- src/check.rt:225:9
 no-match-returns : (t : ℕ) → no-match-lts.Need-returns (
   find-redirect-reads.Asked,
   find-redirect-reads.Learnt,
@@ -903,7 +851,6 @@ no-match-returns : (t : ℕ) → no-match-lts.Need-returns (
 ) (no-match-at t) no-match.Post
 no-match-returns t c = search nothing-left
 
--- src/check.rt:228:65
 no-match-part-requires : (t : ℕ) → no-match-lts.Need-part-requires (
   find-redirect-reads.Asked,
   find-redirect-reads.Learnt,
@@ -918,7 +865,6 @@ no-match-part-requires : (t : ℕ) → no-match-lts.Need-part-requires (
 ) (no-match-at t) no-match.Post
 no-match-part-requires t c κs = search needs
 
--- src/check.rt:227:9
 no-match-begin-check-requires : (t : ℕ) → no-match-lts.Need-begin-check-requires (
   find-redirect-reads.Asked,
   find-redirect-reads.Learnt,
@@ -933,7 +879,6 @@ no-match-begin-check-requires : (t : ℕ) → no-match-lts.Need-begin-check-requ
 ) (no-match-at t) no-match.Post
 no-match-begin-check-requires t c κs = (omega arith, search needs)
 
--- src/check.rt:230:5
 no-match-none-is-permerror-requires : (t : ℕ) → no-match-lts.Need-none-is-permerror-requires (
   find-redirect-reads.Asked,
   find-redirect-reads.Learnt,
@@ -948,7 +893,6 @@ no-match-none-is-permerror-requires : (t : ℕ) → no-match-lts.Need-none-is-pe
 ) (no-match-at t) no-match.Post
 no-match-none-is-permerror-requires t c κs = search needs
 
--- src/check.rt:207:1
 no-match-same-length : (t : ℕ) → no-match-lts.Need-same-length (
   find-redirect-reads.Asked,
   find-redirect-reads.Learnt,
@@ -963,7 +907,6 @@ no-match-same-length : (t : ℕ) → no-match-lts.Need-same-length (
 ) (no-match-at t) no-match.Post
 no-match-same-length t c = cc
 
--- src/check.rt:207:1
 no-match-returns-2 : (t : ℕ) → no-match-lts.Need-returns-2 (
   find-redirect-reads.Asked,
   find-redirect-reads.Learnt,
@@ -978,7 +921,6 @@ no-match-returns-2 : (t : ℕ) → no-match-lts.Need-returns-2 (
 ) (no-match-at t) no-match.Post
 no-match-returns-2 t c = search redirected
 
--- src/check.rt:252:57
 try-term-part-requires : (t : ℕ) → try-term-lts.Need-part-requires (
   part-reads.Asked,
   part-reads.Learnt,
@@ -989,7 +931,6 @@ try-term-part-requires : (t : ℕ) → try-term-lts.Need-part-requires (
 ) (try-term-at t) try-term.Post
 try-term-part-requires t c κs = search needs
 
--- src/check.rt:251:11
 try-term-try-plain-requires : (t : ℕ) → try-term-lts.Need-try-plain-requires (
   part-reads.Asked,
   part-reads.Learnt,
@@ -1000,7 +941,6 @@ try-term-try-plain-requires : (t : ℕ) → try-term-lts.Need-try-plain-requires
 ) (try-term-at t) try-term.Post
 try-term-try-plain-requires t c κs = search (span-small, needs)
 
--- src/check.rt:254:21
 try-term-enum-known-step : (t : ℕ) → try-term-lts.Need-enum-known-step (
   part-reads.Asked,
   part-reads.Learnt,
@@ -1011,7 +951,6 @@ try-term-enum-known-step : (t : ℕ) → try-term-lts.Need-enum-known-step (
 ) (try-term-at t) try-term.Post
 try-term-enum-known-step t c = search needs
 
--- src/check.rt:255:26
 try-term-enum-known-from : (t : ℕ) → try-term-lts.Need-enum-known-from (
   part-reads.Asked,
   part-reads.Learnt,
@@ -1022,7 +961,6 @@ try-term-enum-known-from : (t : ℕ) → try-term-lts.Need-enum-known-from (
 ) (try-term-at t) try-term.Post
 try-term-enum-known-from t c = search needs
 
--- src/check.rt:256:69
 try-term-part-requires-2 : (t : ℕ) → try-term-lts.Need-part-requires-2 (
   part-reads.Asked,
   part-reads.Learnt,
@@ -1033,7 +971,6 @@ try-term-part-requires-2 : (t : ℕ) → try-term-lts.Need-part-requires-2 (
 ) (try-term-at t) try-term.Post
 try-term-part-requires-2 t c κs = search needs
 
--- src/check.rt:255:40
 try-term-include-requires : (t : ℕ) → try-term-lts.Need-include-requires (
   part-reads.Asked,
   part-reads.Learnt,
@@ -1044,7 +981,6 @@ try-term-include-requires : (t : ℕ) → try-term-lts.Need-include-requires (
 ) (try-term-at t) try-term.Post
 try-term-include-requires t c κs = (omega arith, search needs)
 
--- src/check.rt:234:1
 try-term-same-length : (t : ℕ) → try-term-lts.Need-same-length (
   part-reads.Asked,
   part-reads.Learnt,
@@ -1055,7 +991,6 @@ try-term-same-length : (t : ℕ) → try-term-lts.Need-same-length (
 ) (try-term-at t) try-term.Post
 try-term-same-length t c = cc
 
--- src/check.rt:234:1
 try-term-returns : (t : ℕ) → try-term-lts.Need-returns (
   part-reads.Asked,
   part-reads.Learnt,
@@ -1066,7 +1001,6 @@ try-term-returns : (t : ℕ) → try-term-lts.Need-returns (
 ) (try-term-at t) try-term.Post
 try-term-returns t c = search tried-step
 
--- src/check.rt:234:1
 try-term-same-length-2 : (t : ℕ) → try-term-lts.Need-same-length-2 (
   part-reads.Asked,
   part-reads.Learnt,
@@ -1077,7 +1011,6 @@ try-term-same-length-2 : (t : ℕ) → try-term-lts.Need-same-length-2 (
 ) (try-term-at t) try-term.Post
 try-term-same-length-2 t c = cc
 
--- src/check.rt:234:1
 try-term-returns-2 : (t : ℕ) → try-term-lts.Need-returns-2 (
   part-reads.Asked,
   part-reads.Learnt,
@@ -1094,7 +1027,6 @@ try-terms-Inv-loop client sender helo receiver seconds table domain text first o
 abbrev try-terms-μ-loop : try-terms-lts.MeasureT-loop
 try-terms-μ-loop client sender helo receiver seconds table domain text first out₀ s at₀ so-far₀ out at so-far = length s + 1 - at
 
--- src/check.rt:174:9
 try-terms-part-requires : (t : ℕ) → try-terms-lts.Need-part-requires (
   part-reads.Asked,
   part-reads.Learnt,
@@ -1109,7 +1041,6 @@ try-terms-part-requires : (t : ℕ) → try-terms-lts.Need-part-requires (
 ) (try-terms-at t) try-terms.Post try-terms-Inv-loop try-terms-μ-loop
 try-terms-part-requires t c κs = search needs
 
--- src/check.rt:177:5
 try-terms-loop-holds : (t : ℕ) → try-terms-lts.Need-loop-holds (
   part-reads.Asked,
   part-reads.Learnt,
@@ -1124,7 +1055,6 @@ try-terms-loop-holds : (t : ℕ) → try-terms-lts.Need-loop-holds (
 ) (try-terms-at t) try-terms.Post try-terms-Inv-loop try-terms-μ-loop
 try-terms-loop-holds t c = search walk-start
 
--- src/check.rt:178:56
 try-terms-read-term-requires : (t : ℕ) → try-terms-lts.Need-read-term-requires (
   part-reads.Asked,
   part-reads.Learnt,
@@ -1139,7 +1069,6 @@ try-terms-read-term-requires : (t : ℕ) → try-terms-lts.Need-read-term-requir
 ) (try-terms-at t) try-terms.Post try-terms-Inv-loop try-terms-μ-loop
 try-terms-read-term-requires t c κs = search needs
 
--- src/check.rt:178:34
 try-terms-enum-known-place : (t : ℕ) → try-terms-lts.Need-enum-known-place (
   part-reads.Asked,
   part-reads.Learnt,
@@ -1154,7 +1083,6 @@ try-terms-enum-known-place : (t : ℕ) → try-terms-lts.Need-enum-known-place (
 ) (try-terms-at t) try-terms.Post try-terms-Inv-loop try-terms-μ-loop
 try-terms-enum-known-place t c = search needs
 
--- src/check.rt:179:13
 try-terms-no-match-requires : (t : ℕ) → try-terms-lts.Need-no-match-requires (
   part-reads.Asked,
   part-reads.Learnt,
@@ -1169,7 +1097,6 @@ try-terms-no-match-requires : (t : ℕ) → try-terms-lts.Need-no-match-requires
 ) (try-terms-at t) try-terms.Post try-terms-Inv-loop try-terms-μ-loop
 try-terms-no-match-requires t c κs = (omega arith, search (walk-small, walk-few, needs))
 
--- src/check.rt:179:13
 try-terms-same-length : (t : ℕ) → try-terms-lts.Need-same-length (
   part-reads.Asked,
   part-reads.Learnt,
@@ -1184,7 +1111,6 @@ try-terms-same-length : (t : ℕ) → try-terms-lts.Need-same-length (
 ) (try-terms-at t) try-terms.Post try-terms-Inv-loop try-terms-μ-loop
 try-terms-same-length t c = cc
 
--- src/check.rt:179:13
 try-terms-returns : (t : ℕ) → try-terms-lts.Need-returns (
   part-reads.Asked,
   part-reads.Learnt,
@@ -1199,7 +1125,6 @@ try-terms-returns : (t : ℕ) → try-terms-lts.Need-returns (
 ) (try-terms-at t) try-terms.Post try-terms-Inv-loop try-terms-μ-loop
 try-terms-returns t c = search walk-ended
 
--- src/check.rt:182:69
 try-terms-part-requires-2 : (t : ℕ) → try-terms-lts.Need-part-requires-2 (
   part-reads.Asked,
   part-reads.Learnt,
@@ -1214,7 +1139,6 @@ try-terms-part-requires-2 : (t : ℕ) → try-terms-lts.Need-part-requires-2 (
 ) (try-terms-at t) try-terms.Post try-terms-Inv-loop try-terms-μ-loop
 try-terms-part-requires-2 t c κs = search needs
 
--- src/check.rt:181:13
 try-terms-try-term-requires : (t : ℕ) → try-terms-lts.Need-try-term-requires (
   part-reads.Asked,
   part-reads.Learnt,
@@ -1229,7 +1153,6 @@ try-terms-try-term-requires : (t : ℕ) → try-terms-lts.Need-try-term-requires
 ) (try-terms-at t) try-terms.Post try-terms-Inv-loop try-terms-μ-loop
 try-terms-try-term-requires t c κs = (omega arith, search (walk-small, walk-few, needs))
 
--- src/check.rt:188:17
 try-terms-enum-told : (t : ℕ) → try-terms-lts.Need-enum-told (
   part-reads.Asked,
   part-reads.Learnt,
@@ -1244,7 +1167,6 @@ try-terms-enum-told : (t : ℕ) → try-terms-lts.Need-enum-told (
 ) (try-terms-at t) try-terms.Post try-terms-Inv-loop try-terms-μ-loop
 try-terms-enum-told t c = search needs
 
--- src/check.rt:188:17
 try-terms-signed-requires : (t : ℕ) → try-terms-lts.Need-signed-requires (
   part-reads.Asked,
   part-reads.Learnt,
@@ -1259,7 +1181,6 @@ try-terms-signed-requires : (t : ℕ) → try-terms-lts.Need-signed-requires (
 ) (try-terms-at t) try-terms.Post try-terms-Inv-loop try-terms-μ-loop
 try-terms-signed-requires t c κs = search needs
 
--- src/check.rt:188:17
 try-terms-same-length-2 : (t : ℕ) → try-terms-lts.Need-same-length-2 (
   part-reads.Asked,
   part-reads.Learnt,
@@ -1274,7 +1195,6 @@ try-terms-same-length-2 : (t : ℕ) → try-terms-lts.Need-same-length-2 (
 ) (try-terms-at t) try-terms.Post try-terms-Inv-loop try-terms-μ-loop
 try-terms-same-length-2 t c = walk-room _ _ _ _ _ _ _ _ _ _ (c .before .before .before .before .before .before .before .before .before .before .before .before .before .before .loop .inv) _ _ _ _ (c .before .before .before .before .before .before .try-term .ensures) (c .before .enum-told .given .1)
 
--- src/check.rt:188:17
 try-terms-returns-2 : (t : ℕ) → try-terms-lts.Need-returns-2 (
   part-reads.Asked,
   part-reads.Learnt,
@@ -1289,7 +1209,6 @@ try-terms-returns-2 : (t : ℕ) → try-terms-lts.Need-returns-2 (
 ) (try-terms-at t) try-terms.Post try-terms-Inv-loop try-terms-μ-loop
 try-terms-returns-2 t c = walk-yes _ _ _ _ _ _ _ _ _ _ _ _ _ (c .signed .ensures) refl refl _ _ _ _ (c .before .before .before .before .before .before .before .before .before .before .before .before .before .before .loop .inv) (c .before .before .before .before .before .before .before .before .before .before .before .before .before .before .before .part .ensures) _ (c .before .before .before .before .before .before .before .before .before .before .before .before .read-term .ensures .0) _ _ (c .before .before .before .before .before .before .before .before .before .before .place .given .1) (c .before .before .before .before .before .before .before .before .before .before .before .before .before .loop-test .taken) _ (c .before .before .before .before .before .before .before .before .part2 .ensures) (c .before .before .before .before .before .before .try-term .ensures) (c .before .enum-told .given .1)
 
--- src/check.rt:190:27
 try-terms-enum-known-matched : (t : ℕ) → try-terms-lts.Need-enum-known-matched (
   part-reads.Asked,
   part-reads.Learnt,
@@ -1304,7 +1223,6 @@ try-terms-enum-known-matched : (t : ℕ) → try-terms-lts.Need-enum-known-match
 ) (try-terms-at t) try-terms.Post try-terms-Inv-loop try-terms-μ-loop
 try-terms-enum-known-matched t c = search needs
 
--- src/check.rt:191:17
 try-terms-same-length-3 : (t : ℕ) → try-terms-lts.Need-same-length-3 (
   part-reads.Asked,
   part-reads.Learnt,
@@ -1319,7 +1237,6 @@ try-terms-same-length-3 : (t : ℕ) → try-terms-lts.Need-same-length-3 (
 ) (try-terms-at t) try-terms.Post try-terms-Inv-loop try-terms-μ-loop
 try-terms-same-length-3 t c = cc
 
--- src/check.rt:191:17
 try-terms-returns-3 : (t : ℕ) → try-terms-lts.Need-returns-3 (
   part-reads.Asked,
   part-reads.Learnt,
@@ -1334,7 +1251,6 @@ try-terms-returns-3 : (t : ℕ) → try-terms-lts.Need-returns-3 (
 ) (try-terms-at t) try-terms.Post try-terms-Inv-loop try-terms-μ-loop
 try-terms-returns-3 t c = search walk-stop
 
--- src/check.rt:198:17
 try-terms-enum-told-2 : (t : ℕ) → try-terms-lts.Need-enum-told-2 (
   part-reads.Asked,
   part-reads.Learnt,
@@ -1349,7 +1265,6 @@ try-terms-enum-told-2 : (t : ℕ) → try-terms-lts.Need-enum-told-2 (
 ) (try-terms-at t) try-terms.Post try-terms-Inv-loop try-terms-μ-loop
 try-terms-enum-told-2 t c = search needs
 
--- src/check.rt:177:5
 try-terms-loop-less : (t : ℕ) → try-terms-lts.Need-loop-less (
   part-reads.Asked,
   part-reads.Learnt,
@@ -1364,7 +1279,6 @@ try-terms-loop-less : (t : ℕ) → try-terms-lts.Need-loop-less (
 ) (try-terms-at t) try-terms.Post try-terms-Inv-loop try-terms-μ-loop
 try-terms-loop-less t c = search walk-less
 
--- src/check.rt:177:5
 try-terms-loop-again : (t : ℕ) → try-terms-lts.Need-loop-again (
   part-reads.Asked,
   part-reads.Learnt,
@@ -1379,7 +1293,6 @@ try-terms-loop-again : (t : ℕ) → try-terms-lts.Need-loop-again (
 ) (try-terms-at t) try-terms.Post try-terms-Inv-loop try-terms-μ-loop
 try-terms-loop-again t c = search walk-no
 
--- src/check.rt:203:5
 try-terms-no-match-requires-2 : (t : ℕ) → try-terms-lts.Need-no-match-requires-2 (
   part-reads.Asked,
   part-reads.Learnt,
@@ -1394,7 +1307,6 @@ try-terms-no-match-requires-2 : (t : ℕ) → try-terms-lts.Need-no-match-requir
 ) (try-terms-at t) try-terms.Post try-terms-Inv-loop try-terms-μ-loop
 try-terms-no-match-requires-2 t c κs = (omega arith, search (walk-small, walk-few, needs))
 
--- src/check.rt:157:1
 try-terms-same-length-4 : (t : ℕ) → try-terms-lts.Need-same-length-4 (
   part-reads.Asked,
   part-reads.Learnt,
@@ -1409,7 +1321,6 @@ try-terms-same-length-4 : (t : ℕ) → try-terms-lts.Need-same-length-4 (
 ) (try-terms-at t) try-terms.Post try-terms-Inv-loop try-terms-μ-loop
 try-terms-same-length-4 t c = cc
 
--- src/check.rt:157:1
 try-terms-returns-4 : (t : ℕ) → try-terms-lts.Need-returns-4 (
   part-reads.Asked,
   part-reads.Learnt,

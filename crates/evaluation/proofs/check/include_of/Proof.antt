@@ -1,3 +1,4 @@
+-- `evaluation::check::include_of` meets its contract. From the rules of Laws.Beginning.
 use Rattle.evaluation.proofs.Laws.Beginning.{include-result, include-wanted}
 use borrow.Author.Needs.{needs}
 use Rattle.evaluation.proofs.check.include_of.Statement.{statement}
@@ -6,23 +7,18 @@ use Rattle.evaluation.proofs.check.include_of.Reads as reads
 use Rattle.evaluation.proofs.check.include_of.Lts as lts
 use Rattle.evaluation.proofs.check.included.Reads as included-reads
 
--- src/check.rt:329:24
 enum-known-ending : tie.Need-enum-known-ending
 enum-known-ending c = search needs
 
--- src/check.rt:330:22
 included-requires : tie.Need-included-requires
 included-requires c κs = search needs
 
--- src/check.rt:333:27
 enum-known-ending-2 : tie.Need-enum-known-ending-2
 enum-known-ending-2 c = search needs
 
--- src/check.rt:323:1
 returns : tie.Need-returns
 returns c = search include-result
 
--- src/check.rt:323:1
 returns-2 : tie.Need-returns-2
 returns-2 c = search include-wanted
 

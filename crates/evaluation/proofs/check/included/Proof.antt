@@ -1,3 +1,4 @@
+-- `evaluation::check::included` meets its contract. By the tests of the value.
 use Rattle.evaluation.specs.Checks.{includedNow}
 use Rattle.text.proofs.Laws.Tests.{ways}
 use Rattle.evaluation.proofs.check.included.Statement.{statement}
@@ -5,27 +6,22 @@ use Rattle.evaluation.proofs.check.included.Tie as tie
 use Rattle.evaluation.proofs.check.included.Reads as reads
 use Rattle.evaluation.proofs.check.included.Lts as lts
 
--- src/check.rt:356:9
 returns : tie.Need-returns
 unfolding includedNow
 returns c = search ways
 
--- src/check.rt:359:9
 returns-2 : tie.Need-returns-2
 unfolding includedNow
 returns-2 c = search ways
 
--- src/check.rt:362:9
 returns-3 : tie.Need-returns-3
 unfolding includedNow
 returns-3 c = search ways
 
--- src/check.rt:365:9
 returns-4 : tie.Need-returns-4
 unfolding includedNow
 returns-4 c = search ways
 
--- src/check.rt:352:1
 returns-5 : tie.Need-returns-5
 unfolding includedNow
 returns-5 c = search ways

@@ -1,3 +1,4 @@
+-- `evaluation::check::none_is_permerror` meets its contract. From the rules of Laws.Beginning.
 use Rattle.evaluation.proofs.Laws.Beginning.{redirect-none, redirect-kept, redirect-wanted}
 use borrow.Author.Needs.{needs}
 use Rattle.evaluation.proofs.check.none_is_permerror.Statement.{statement}
@@ -6,27 +7,21 @@ use Rattle.evaluation.proofs.check.none_is_permerror.Reads as reads
 use Rattle.evaluation.proofs.check.none_is_permerror.Lts as lts
 use Rattle.evaluation.proofs.check.ended.Reads as ended-reads
 
--- src/check.rt:324:51
 enum-told : tie.Need-enum-told
 enum-told c = search needs
 
--- src/check.rt:325:24
 enum-known-ending : tie.Need-enum-known-ending
 enum-known-ending c = search needs
 
--- src/check.rt:327:17
 ended-requires : tie.Need-ended-requires
 ended-requires c κs = search needs
 
--- src/check.rt:327:17
 returns : tie.Need-returns
 returns c = search redirect-none
 
--- src/check.rt:318:1
 returns-2 : tie.Need-returns-2
 returns-2 c = search redirect-wanted
 
--- src/check.rt:318:1
 returns-3 : tie.Need-returns-3
 returns-3 c = search redirect-kept
 

@@ -1,3 +1,4 @@
+-- `evaluation::check::sign_result` meets its contract. By the tests of the sign.
 use Rattle.evaluation.specs.Checks.{signedOf}
 use Rattle.text.proofs.Laws.Tests.{ways}
 use borrow.Author.Needs.{needs}
@@ -7,34 +8,27 @@ use Rattle.evaluation.proofs.check.sign_result.Reads as reads
 use Rattle.evaluation.proofs.check.sign_result.Lts as lts
 use Rattle.evaluation.proofs.check.ended.Reads as ended-reads
 
--- src/check.rt:77:9
 ended-requires : tie.Need-ended-requires
 ended-requires c κs = search needs
 
--- src/check.rt:77:9
 returns : tie.Need-returns
 unfolding signedOf
 returns c = search ways
 
--- src/check.rt:80:9
 returns-2 : tie.Need-returns-2
 unfolding signedOf
 returns-2 c = search ways
 
--- src/check.rt:91:9
 ended-requires-2 : tie.Need-ended-requires-2
 ended-requires-2 c κs = search needs
 
--- src/check.rt:91:9
 returns-3 : tie.Need-returns-3
 unfolding signedOf
 returns-3 c = search ways
 
--- src/check.rt:93:5
 ended-requires-3 : tie.Need-ended-requires-3
 ended-requires-3 c κs = search needs
 
--- src/check.rt:73:1
 returns-4 : tie.Need-returns-4
 unfolding signedOf
 returns-4 c = search ways

@@ -1,3 +1,4 @@
+-- `evaluation::check::signed` meets its contract. From the contracts of `sign_of` and `sign_result`.
 use Rattle.evaluation.proofs.Laws.Beginning.{signed-by}
 use borrow.Author.Needs.{needs}
 use Rattle.evaluation.proofs.check.signed.Statement.{statement}
@@ -7,15 +8,12 @@ use Rattle.evaluation.proofs.check.signed.Lts as lts
 use Rattle.evaluation.proofs.check.sign_of.Reads as sign-of-reads
 use Rattle.evaluation.proofs.check.sign_result.Reads as sign-result-reads
 
--- src/check.rt:100:17
 sign-of-requires : tie.Need-sign-of-requires
 sign-of-requires c κs = search needs
 
--- src/check.rt:100:5
 sign-result-requires : tie.Need-sign-result-requires
 sign-result-requires c κs = search needs
 
--- src/check.rt:97:1
 returns : tie.Need-returns
 returns c = search signed-by
 
