@@ -1,6 +1,6 @@
 // Records and their terms.
 ghost use mathlib.Core.Path.{_≡_};
-ghost use mathlib.Core.Bool.{_&&_, _||_};
+ghost use mathlib.Core.Bool.{false, _&&_, _||_};
 ghost use Prim.Native.Nat.{ℕ, _+_, _≤_, _<_};
 ghost use lib.ListN.{length};
 ghost use Rattle.text.specs.Bytes.{part};
@@ -242,32 +242,35 @@ fn ended(answer: TermAnswer) -> RecordAnswer
     }
 }
 
-// The terms of a record, from a place on and with what has stood before it.
-fn check_terms(s: &[u8], at: usize, redirect: bool, explanation: bool) -> RecordAnswer
-    requires { ⌜ at ≤ length (now s) ⌝ }
-    ensures { λ r. ⌜ ((f : ℕ) → length (now (s .entry)) < f + at → r ≡ checkFrom f (now (s .entry)) at redirect explanation) ⌝ }
+// The terms of a record, from a place on: the earlier of 32 and 33, or accepted.
+fn check_terms(s: &[u8], first: usize) -> RecordAnswer
+    requires { ⌜ first ≤ length (now s) ⌝ }
+    ensures { λ r. ⌜ ((f : ℕ) → length (now (s .entry)) < f + first → r ≡ checkFrom f (now (s .entry)) first false false) ⌝ }
 {
-    let answer = read_term(s, at);
-    let TermAnswer::Is {
-        at: place,
-        next,
-        term,
-    } = answer
-    else {
-        return ended(answer);
-    };
-    if repeats(redirect, explanation, term) {
-        return RecordAnswer::Refused {
-            number: 33,
+    let mut at = first;
+    let mut redirect = false;
+    let mut explanation = false;
+    while at <= s.len() {
+        let answer = read_term(s, at);
+        let TermAnswer::Is {
             at: place,
+            next,
+            term,
+        } = answer
+        else {
+            return ended(answer);
         };
+        if repeats(redirect, explanation, term) {
+            return RecordAnswer::Refused {
+                number: 33,
+                at: place,
+            };
+        }
+        redirect = either(redirect, is_redirect(term));
+        explanation = either(explanation, is_explanation(term));
+        at = next;
     }
-    check_terms(
-        s,
-        next,
-        either(redirect, is_redirect(term)),
-        either(explanation, is_explanation(term)),
-    )
+    RecordAnswer::Accepted(6)
 }
 
 // Reads a record: 30, 31, then the earlier of 32 and 33 with its place, or accepted with the place just after the version.
@@ -279,7 +282,7 @@ pub fn read_record(s: &[u8]) -> RecordAnswer
         return RecordAnswer::Refused { number: 30, at: 0 };
     }
     if has_version(s) {
-        return check_terms(s, 6, false, false);
+        return check_terms(s, 6);
     }
     RecordAnswer::Refused { number: 31, at: 0 }
 }

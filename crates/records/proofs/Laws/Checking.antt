@@ -217,7 +217,7 @@ ended-after r e rest TermAnswer.End h = refl
 ended-after r e rest (TermAnswer.Refused n p) h = refl
 
 module _ (s : List ℕ) (i : ℕ) (r e : Bool) (inside : i ≤ length s) (a : TermAnswer) (p : a ≡ readTerm s i) where
-  pub check-ended : OneOf (1 ∷ 2 ∷ []) (tagOf (declared answer-type.enum) a) → (x : RecordAnswer) → x ≡ endedOf a
+  check-ended : OneOf (1 ∷ 2 ∷ []) (tagOf (declared answer-type.enum) a) → (x : RecordAnswer) → x ≡ endedOf a
       → (f : ℕ) → length s < f + i → x ≡ checkFrom f s i r e
   unfolding checkFrom
   check-ended h x g zero l = absurd (omega arith)
@@ -227,13 +227,13 @@ module _ (s : List ℕ) (i : ℕ) (r e : Bool) (inside : i ≤ length s) (a : Te
     read : readTerm s i ≡ TermAnswer.Is at n t
     read = sym p ∙ q
 
-    pub check-repeats : x ≡ true → (f : ℕ) → length s < f + i → RecordAnswer.Refused 33 at ≡ checkFrom f s i r e
+    check-repeats : x ≡ true → (f : ℕ) → length s < f + i → RecordAnswer.Refused 33 at ≡ checkFrom f s i r e
     unfolding checkFrom checkAfter
     check-repeats h zero l = absurd (omega arith)
     check-repeats h (suc f) l = sym (simp (read, sym g ∙ h))
 
     module _ (b : Bool) (hb : b ≡ isRedirect t) (r′ : Bool) (hr : r′ ≡ (r || b)) (c : Bool) (hc : c ≡ isExplanation t) (e′ : Bool) (he : e′ ≡ (e || c)) where
-      pub check-next : x ≡ false → (y : RecordAnswer) → ((f : ℕ) → length s < f + n → y ≡ checkFrom f s n r′ e′)
+      check-next : x ≡ false → (y : RecordAnswer) → ((f : ℕ) → length s < f + n → y ≡ checkFrom f s n r′ e′)
           → (f : ℕ) → length s < f + i → y ≡ checkFrom f s i r e
       unfolding checkFrom checkAfter
       check-next h y ih zero l = absurd (omega arith)
@@ -241,6 +241,39 @@ module _ (s : List ℕ) (i : ℕ) (r e : Bool) (inside : i ≤ length s) (a : Te
           let k = term-next s i a p at n t q in
           let j : checkFrom f s n r′ e′ ≡ checkFrom f s n (r || isRedirect t) (e || isExplanation t) = simp (hr, hb, he, hc) in
           ih f (omega (arith, k .0)) ∙ j ∙ sym (simp (read, sym g ∙ h))
+
+-- part way through the terms: what is answered from here on is answered of all
+pub record Checking (s : List ℕ) (i₀ : ℕ) (i : ℕ) (r e : Bool) : Type 0 where
+  pub inside : i ≤ length s
+  pub rest : (x : RecordAnswer) → ((f : ℕ) → length s < f + i → x ≡ checkFrom f s i r e) → (f : ℕ) → length s < f + i₀ → x ≡ checkFrom f s i₀ false false
+
+pub checking-start : (s : List ℕ) (i : ℕ) → i ≤ length s → Checking s i i false false
+checking-start s i h = record { inside = h; rest = λ x g. g }
+
+module _ (s : List ℕ) (i₀ i : ℕ) (r e : Bool) (w : Checking s i₀ i r e) where
+  -- the place never passes the record's end
+  pub checking-past : length s < i → (x : RecordAnswer) → (f : ℕ) → length s < f + i₀ → x ≡ checkFrom f s i₀ false false
+  checking-past h = absurd (omega (arith, w .inside))
+
+  module _ (a : TermAnswer) (p : a ≡ readTerm s i) where
+    pub checking-ended : OneOf (1 ∷ 2 ∷ []) (tagOf (declared answer-type.enum) a) → (x : RecordAnswer) → x ≡ endedOf a
+        → (f : ℕ) → length s < f + i₀ → x ≡ checkFrom f s i₀ false false
+    checking-ended h x g = w .rest x (check-ended s i r e (w .inside) a p h x g)
+
+    module _ (at n : ℕ) (t : Term) (q : a ≡ TermAnswer.Is at n t) where
+      pub checking-less : length s + 1 - n < length s + 1 - i
+      checking-less = let k = term-next s i a p at n t q in omega (arith, k .0, k .1)
+
+      module _ (x : Bool) (g : x ≡ ((r && isRedirect t) || (e && isExplanation t))) where
+        pub checking-repeats : x ≡ true → (f : ℕ) → length s < f + i₀ → RecordAnswer.Refused 33 at ≡ checkFrom f s i₀ false false
+        checking-repeats h = w .rest (RecordAnswer.Refused 33 at) (check-repeats s i r e (w .inside) a p at n t q x g h)
+
+        pub checking-next : x ≡ false → (b : Bool) → b ≡ isRedirect t → (r′ : Bool) → r′ ≡ (r || b) → (c : Bool) → c ≡ isExplanation t → (e′ : Bool) → e′ ≡ (e || c)
+            → Checking s i₀ n r′ e′
+        checking-next h b hb r′ hr c hc e′ he = record {
+          inside = term-next s i a p at n t q .1;
+          rest = λ y ih. w .rest y (check-next s i r e (w .inside) a p at n t q x g b hb r′ hr c hc e′ he h y ih);
+        }
 
 -- `read_record`
 module _ (s : List ℕ) where
