@@ -4,3 +4,5 @@ pub mod Beginning
 pub mod Deciding
 -- Walking: the terms of a record, one after the other.
 pub mod Walking
+-- Facts: a wanted name is a name as the table has it; only a fail has a text; the counts' bounds.
+pub mod Facts

@@ -1,4 +1,5 @@
--- What an evaluation answers, by the table's list of entries. It names no reader.
+-- What an evaluation answers, by the table's list of entries. It names no reader of the table; records and macro strings enter by their readers, which
+-- the laws of `records` and `macros` tie to the productions. It determines the outcome (`answers-is`, proofs/Laws/Deciding.antt).
 use Prim.Native.Nat.{ℕ, _≤_}
 use mathlib.Core.Path.{_≡_}
 use mathlib.Core.List.{List}

@@ -37,6 +37,13 @@ answerOf (refused-at number place) = Answer.RefusedAt number place
 answerOf (settles (settled v)) = Answer.Decided (v .value) (v .counts) (length (v .text))
 answerOf (settles (wanting kind n c)) = Answer.Wanting kind (length n) c
 
+-- the report of each outcome
+unfoldable pub reportOf : Outcome → Report
+reportOf (refused number) = record { number = number; kind-or-place = absent; lookups = 0; voids = 0 }
+reportOf (refused-at number place) = record { number = number; kind-or-place = present place; lookups = 0; voids = 0 }
+reportOf (settles (settled v)) = record { number = v .value; kind-or-place = absent; lookups = v .counts .lookups; voids = v .counts .voids }
+reportOf (settles (wanting kind n c)) = record { number = 7; kind-or-place = present kind; lookups = c .lookups; voids = c .voids }
+
 -- "name in the name buffer"; "a buffer that is written keeps all bytes after the written length"
 unfoldable pub nameAfter : Outcome → List ℕ → List ℕ
 nameAfter (refused number) before = before
@@ -44,15 +51,16 @@ nameAfter (refused-at number place) before = before
 nameAfter (settles (settled v)) before = before
 nameAfter (settles (wanting kind n c)) before = overwritten n before
 
--- "text written only for 3": the text of any other result is empty
+-- "text written only for 3": the text of any other result is empty (`only-for-fail`, proofs/Laws/Facts.antt)
 unfoldable pub textAfter : Outcome → List ℕ → List ℕ
 textAfter (refused number) before = before
 textAfter (refused-at number place) before = before
 textAfter (settles (settled v)) before = overwritten (v .text) before
 textAfter (settles (wanting kind n c)) before = before
 
--- the answer and both buffers afterwards
+-- the answer, what it reports, and both buffers afterwards
 pub record Says (o : Outcome) (r : Answer) (name name′ text text′ : List ℕ) : Type 0 where
   pub answer : r ≡ answerOf o
+  pub report : reported r ≡ reportOf o
   pub name-buffer : name′ ≡ nameAfter o name
   pub text-buffer : text′ ≡ textAfter o text

@@ -7,7 +7,7 @@ ghost use Rattle.records.specs.Numbers.{saidOf};
 ghost use Rattle.records.specs.Reader.{readRecord};
 ghost use Rattle.meaning.specs.Tree.{run};
 ghost use Rattle.meaning.specs.Tables.{asks};
-ghost use Rattle.meaning.specs.Evaluation.{another, includeStep, termStep, modifierOf, noMatch, tryTerms, termsOf, readOutcome, check};
+ghost use Rattle.meaning.specs.Evaluation.{begunCheck, includeStep, termStep, modifierOf, noMatch, tryTerms, termsOf, readOutcome, check};
 ghost use Rattle.meaning.specs.Outcomes.{mailOf, spanOf, SaysStep, Says};
 ghost use Rattle.evaluation.specs.Checks.{endedOf, wantingOf, signOf, signedOf, redirectedOf, includedNow, includedOf};
 ghost use Rattle.text.specs.Texts.{bytes};
@@ -424,7 +424,7 @@ fn begin_check(
 ) -> Checked
     requires { ⌜ (length (now sender) ≤ 320) × (length (spanOf (now table) domain) ≤ 253) × (counts .lookups ≤ 10) × (counts .voids ≤ 2) ⌝ }
     ensures { λ r. ⌜ ((n : ℕ) → 10 ≤ n + counts .lookups →
-        Says (now (table .entry)) (run (asks (now (table .entry))) (another (mailOf client (now (sender .entry)) (now (helo .entry)) (now (receiver .entry)) seconds) (check n (mailOf client (now (sender .entry)) (now (helo .entry)) (now (receiver .entry)) seconds)) (spanOf (now (table .entry)) domain) (now (spec .entry)) counts)) r (now (out .entry)) (now (out .exit))) ⌝ }
+        Says (now (table .entry)) (run (asks (now (table .entry))) (begunCheck (mailOf client (now (sender .entry)) (now (helo .entry)) (now (receiver .entry)) seconds) (check n (mailOf client (now (sender .entry)) (now (helo .entry)) (now (receiver .entry)) seconds)) (spanOf (now (table .entry)) domain) (now (spec .entry)) counts)) r (now (out .entry)) (now (out .exit))) ⌝ }
 {
     let used = counts.lookups;
     if 10 <= used {

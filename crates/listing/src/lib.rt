@@ -27,7 +27,7 @@ fn print_signed(name: &[u8], sign: u8) {
     io::write_all(1, &one);
 }
 
-// Prints an argument led by a byte string, or `.` where it is absent, with a space before it.
+// Prints an argument led by a byte string, with a space before it.
 fn print_argument(lead: &[u8], argument: &[u8]) {
     io::write_all(1, b" ");
     io::write_all(1, lead);

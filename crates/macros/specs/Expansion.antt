@@ -34,6 +34,7 @@ given sender helo receiver domain p client seconds =
 abbrev pub isAt : ℕ → Bool
 isAt b = eqb b 64
 
+-- the last of some parts
 unfoldable pub lastPart : List (List ℕ) → List ℕ
 lastPart [] = []
 lastPart (x ∷ []) = x
@@ -43,6 +44,7 @@ lastPart (x ∷ y ∷ r) = lastPart (y ∷ r)
 unfoldable pub senderDomain : List ℕ → List ℕ
 senderDomain sender = lastPart (split isAt sender)
 
+-- the local part as it stands: all before the last `@`; nothing where there is none
 unfoldable pub written : List ℕ → List ℕ
 written sender = take (length sender - suc (length (senderDomain sender))) sender
 
@@ -73,7 +75,8 @@ abbrev pub letters : (s l o d i p v h c r t : List ℕ) → Letters
 letters s l o d i p v h c r t = record { s = s; l = l; o = o; d = d; i = i; p = p; v = v; h = h; c = c; r = r; t = t }
 
 -- "s sender, l local part, o sender's domain, d current domain, i address .., p below, v `in-addr` or `ip6`, h HELO, c address .., r receiver ..,
--- t seconds in decimal"; "IPv4-mapped clients count as IPv4, in expansion too"
+-- t seconds in decimal"; "IPv4-mapped clients count as IPv4, in expansion too"; "the public expansion takes the
+-- domain as given"
 unfoldable pub lettersOf : Given → Letters
 lettersOf g = record {
   s = localPart (g .sender) ++ (64 ∷ senderDomain (g .sender));

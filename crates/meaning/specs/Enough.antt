@@ -20,7 +20,7 @@ use Rattle.meaning.specs.Tree.{Table, Check, run}
 use Rattle.meaning.specs.Runs.{bind-alike, bind-each, bind-first}
 use Rattle.meaning.specs.Always.{Always}
 use Rattle.meaning.specs.Mechanisms.{Mail, Match, yes, no, stop, target, begun, counting, most-lookups}
-use Rattle.meaning.specs.Evaluation.{Result, Sub, checkTarget, another, includeOf, includeStep, bytesOr, mechanismStep, termStep, modifierOf, redirectOf, noMatch, afterStep, tryTerms, termsOf, readOutcome, Selection, ends, one, recordLookup, afterLookup, checkName, check, noCounts, evaluation}
+use Rattle.meaning.specs.Evaluation.{Result, Sub, checkTarget, begunCheck, includeOf, includeStep, bytesOr, mechanismStep, termStep, modifierOf, redirectOf, noMatch, afterStep, tryTerms, termsOf, readOutcome, Selection, ends, one, recordLookup, afterLookup, checkName, check, noCounts, evaluation}
 use Rattle.meaning.specs.Kept.{Kept, StepKept, ResultKept, term-kept, check-kept}
 
 -- the lookups are at least l, and stay so
@@ -49,9 +49,9 @@ module _ (t : Table) (mail : Mail) (sub sub′ : Sub) (l : ℕ)
     (rises : (d : Naming) (c : Counts) → Rises l c → Always (Rises l) (ResultKept (Rises l) (EndRises l)) (sub d c))
     (alike : (d : Naming) (c : Counts) → l < c .lookups → c .lookups ≤ most-lookups → run t (sub d c) ≡ run t (sub′ d c)) where
   -- a check that a term begins, and what goes on from it
-  another-same : (d spec : List ℕ) (c : Counts) → l ≤ c .lookups → run t (another mail sub d spec c) ≡ run t (another mail sub′ d spec c)
-  unfolding another counting checkTarget
-  another-same d spec c h =
+  begunCheck-same : (d spec : List ℕ) (c : Counts) → l ≤ c .lookups → run t (begunCheck mail sub d spec c) ≡ run t (begunCheck mail sub′ d spec c)
+  unfolding begunCheck counting checkTarget
+  begunCheck-same d spec c h =
       either-same (run t) (ltb (c .lookups) most-lookups)
       (λ e. let k : c .lookups < most-lookups = ltb-true _ _ e in
       bind-each t (target mail d spec (begun c)) _ _ (λ x. alike x (begun c) (omega arith) (omega arith)))
@@ -59,12 +59,12 @@ module _ (t : Table) (mail : Mail) (sub sub′ : Sub) (l : ℕ)
 
   include-same : (d spec : List ℕ) (c : Counts) → l ≤ c .lookups → run t (includeStep mail sub d spec c) ≡ run t (includeStep mail sub′ d spec c)
   unfolding includeStep
-  include-same d spec c h = bind-first t (another mail sub d spec c) (another mail sub′ d spec c) includeOf (another-same d spec c h)
+  include-same d spec c h = bind-first t (begunCheck mail sub d spec c) (begunCheck mail sub′ d spec c) includeOf (begunCheck-same d spec c h)
 
   noMatch-same : (d : List ℕ) (spec : Optional (List ℕ)) (c : Counts) → l ≤ c .lookups → run t (noMatch mail sub d spec c) ≡ run t (noMatch mail sub′ d spec c)
   unfolding noMatch
   noMatch-same d absent c h = refl
-  noMatch-same d (present spec) c h = bind-first t (another mail sub d spec c) (another mail sub′ d spec c) redirectOf (another-same d spec c h)
+  noMatch-same d (present spec) c h = bind-first t (begunCheck mail sub d spec c) (begunCheck mail sub′ d spec c) redirectOf (begunCheck-same d spec c h)
 
   mechanism-same : (d : List ℕ) (x : Said) (c : Counts) → l ≤ c .lookups → run t (mechanismStep mail sub d x c) ≡ run t (mechanismStep mail sub′ d x c)
   unfolding mechanismStep

@@ -44,19 +44,21 @@ Sub = Naming → Counts → Check Result
 unfoldable pub includeMatch : ℕ → Match
 includeMatch v = cond (eqb v 2) yes (cond (eqb v 5) (stop 5) (cond (eqb v 6) (stop 6) (cond (eqb v 0) (stop 6) no)))
 
--- a check that a term begins: the term is counted, then its target is made and checked
+-- the check of the target that a domain-spec makes
 unfoldable pub checkTarget : Mail → Sub → List ℕ → List ℕ → Counts → Check Result
 checkTarget mail sub d spec c = bind (target mail d spec c) (λ t. sub t c)
 
-unfoldable pub another : Mail → Sub → List ℕ → List ℕ → Counts → Check Result
-another mail sub d spec c = counting (ended 6) (checkTarget mail sub d spec) c
+-- "include .. and a used redirect count one each when begun; the eleventh in the whole check isn't begun and gives permerror"
+unfoldable pub begunCheck : Mail → Sub → List ℕ → List ℕ → Counts → Check Result
+begunCheck mail sub d spec c = counting (ended 6) (checkTarget mail sub d spec) c
 
+-- its result's explanation is dropped: a fail through an include fetches no exp
 unfoldable pub includeOf : Result → Check Step
 includeOf r = step (includeMatch (r .value)) (r .counts)
 
 -- "include runs the whole check afresh on another domain, sharing the counts"
 unfoldable pub includeStep : Mail → Sub → List ℕ → List ℕ → Counts → Check Step
-includeStep mail sub d spec c = bind (another mail sub d spec c) includeOf
+includeStep mail sub d spec c = bind (begunCheck mail sub d spec c) includeOf
 
 -- the part of a term that its mechanism has; a term of the grammar has it
 unfoldable pub bytesOr : Optional (List ℕ) → List ℕ
@@ -89,7 +91,7 @@ mechanismStep mail sub d x c =
     (cond (same (x .name) (bytes "exists")) (existsStep mail d (bytesOr (x .argument)) c)
     (networkStep mail x (x .address) c))))))
 
--- a modifier is no mechanism and is passed over
+-- a modifier is no mechanism and is passed over; an "unknown modifier" is "ignored"
 unfoldable pub termStep : Mail → Sub → List ℕ → Said → Optional ℕ → Counts → Check Step
 termStep mail sub d x absent c = step no c
 termStep mail sub d x (present sign) c = mechanismStep mail sub d x c
@@ -122,7 +124,7 @@ redirectOf r = give (noneIsPermerror r)
 -- "No match: redirect ..; without it, neutral."
 unfoldable pub noMatch : Mail → Sub → List ℕ → Optional (List ℕ) → Counts → Check Result
 noMatch mail sub d absent c = ended 1 c
-noMatch mail sub d (present spec) c = bind (another mail sub d spec c) redirectOf
+noMatch mail sub d (present spec) c = bind (begunCheck mail sub d spec c) redirectOf
 
 -- what a step makes of the check
 unfoldable pub afterStep : List ℕ → List Placed → Said → Match → Counts → (Counts → Check Result) → Check Result
@@ -210,7 +212,7 @@ check (suc n) mail d c = checkName mail (check n mail) d c
 abbrev pub noCounts : Counts
 noCounts = record { lookups = 0; voids = 0 }
 
--- the evaluation of a domain as it was given
+-- the evaluation of a domain as it was given; "in a check `d` shows its domain lowered and without the trailing dot (house choice)"
 unfoldable pub evaluation : Mail → List ℕ → Check Result
 evaluation mail domain = check 11 mail (normal domain) noCounts
 
@@ -239,7 +241,7 @@ unfoldable pub explainName : Mail → List ℕ → Counts → Naming → Check (
 explainName mail d c malformed = give []
 explainName mail d c (name n) = ask 16 n c (explainReply mail d c)
 
--- "Fail at the outermost check, or through redirects only, fetches exp of the failing record"; it counts nothing
+-- "Fail at the outermost check, or through redirects only, fetches exp of the failing record"; "it counts nothing, but a missing entry gives 7"
 unfoldable pub explanation : Mail → Optional Failing → Counts → Check (List ℕ)
 explanation mail absent c = give []
 explanation mail (present f) c = bind (target mail (f .domain) (f .exp) c) (explainName mail (f .domain) c)

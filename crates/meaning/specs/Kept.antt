@@ -25,7 +25,7 @@ use Rattle.meaning.specs.declared.Counts.{Counts}
 use Rattle.meaning.specs.Tree.{Reply, failed, items, Check}
 use Rattle.meaning.specs.Always.{Always, always-bind}
 use Rattle.meaning.specs.Mechanisms.{Mail, Match, yes, no, stop, Step, step, matched, includesClient, anyMatches, withValid, validated, namesOf, givesChosen, pReply, pValue, givesExpansion, expanded, givesName, target, targetOr, most-lookups, most-voids, most-hosts, most-names, begun, voided, counting, withName, naming, named, orVoid, aReply, askA, aStep, existsReply, askExists, existsStep, byPreference, hostReply, askHosts, mxItems, mxReply, askMx, mxStep, nameReply, askNames, ptrReply, askPtr, ptrStep}
-use Rattle.meaning.specs.Evaluation.{Failing, Result, ended, Sub, includeMatch, checkTarget, another, includeOf, includeStep, bytesOr, numberOr, lengthFor, networkStep, mechanismStep, termStep, signResult, modifierOf, signed, noneIsPermerror, redirectOf, noMatch, afterStep, tryTerms, termsOf, readOutcome, Selection, one, textReply, textLookup, spfItems, spfReply, recordLookup, afterLookup, checkName, check}
+use Rattle.meaning.specs.Evaluation.{Failing, Result, ended, Sub, includeMatch, checkTarget, begunCheck, includeOf, includeStep, bytesOr, numberOr, lengthFor, networkStep, mechanismStep, termStep, signResult, modifierOf, signed, noneIsPermerror, redirectOf, noMatch, afterStep, tryTerms, termsOf, readOutcome, Selection, one, textReply, textLookup, spfItems, spfReply, recordLookup, afterLookup, checkName, check}
 
 -- p's questions hand the counts through: what holds of these holds at each of them
 module _ (ok : Counts → Type 0) where
@@ -247,9 +247,9 @@ module _ {goes : Counts → Type 0} {ends : ℕ → Counts → Type 0} (K : Kept
 
   -- with a check one level down that keeps them
   module _ (mail : Mail) (sub : Sub) (below : (d : Naming) (k : Counts) → goes k → Fine (sub d k)) where
-    another-kept : (d spec : List ℕ) (k : Counts) → goes k → Fine (another mail sub d spec k)
-    unfolding another checkTarget
-    another-kept d spec k b = counting-kept (ResultKept goes ends) (ended 6) (checkTarget mail sub d spec) (ended-kept 6) checked k b
+    begunCheck-kept : (d spec : List ℕ) (k : Counts) → goes k → Fine (begunCheck mail sub d spec k)
+    unfolding begunCheck checkTarget
+    begunCheck-kept d spec k b = counting-kept (ResultKept goes ends) (ended 6) (checkTarget mail sub d spec) (ended-kept 6) checked k b
       where
         checked : (k : Counts) → goes k → Fine (checkTarget mail sub d spec k)
         checked k b = always-bind goes (λ _. Unit {0}) (ResultKept goes ends) (target mail d spec k) _ (target-asks goes mail k b d spec) (λ t _. below t k b)
@@ -257,7 +257,7 @@ module _ {goes : Counts → Type 0} {ends : ℕ → Counts → Type 0} (K : Kept
     include-kept : (d spec : List ℕ) (k : Counts) → goes k → FineStep (includeStep mail sub d spec k)
     unfolding includeStep
     include-kept d spec k b =
-        always-bind goes (ResultKept goes ends) (λ s. StepKept goes ends (s .match) (s .counts)) (another mail sub d spec k) includeOf (another-kept d spec k b) include-result
+        always-bind goes (ResultKept goes ends) (λ s. StepKept goes ends (s .match) (s .counts)) (begunCheck mail sub d spec k) includeOf (begunCheck-kept d spec k b) include-result
 
     mechanism-kept : (d : List ℕ) (x : Said) (k : Counts) → goes k → FineStep (mechanismStep mail sub d x k)
     unfolding mechanismStep aStep mxStep ptrStep existsStep
@@ -279,7 +279,7 @@ module _ {goes : Counts → Type 0} {ends : ℕ → Counts → Type 0} (K : Kept
     unfolding noMatch
     noMatch-kept d absent k b = ended-kept 1 k b
     noMatch-kept d (present spec) k b =
-        always-bind goes (ResultKept goes ends) (ResultKept goes ends) (another mail sub d spec k) redirectOf (another-kept d spec k b) redirect-result
+        always-bind goes (ResultKept goes ends) (ResultKept goes ends) (begunCheck mail sub d spec k) redirectOf (begunCheck-kept d spec k b) redirect-result
 
     pub terms-kept : (d : List ℕ) (all-terms ts : List Placed) (k : Counts) → goes k → Fine (tryTerms mail sub d all-terms ts k)
     unfolding tryTerms

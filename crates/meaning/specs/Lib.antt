@@ -21,6 +21,10 @@ pub mod Kept
 pub mod Bounds
 -- Enough: the depth bound never decides.
 pub mod Enough
+-- Reversed: the name of a PTR question is a name as the table has it.
+pub mod Reversed
+-- Askable: every question has a name as the table has it, and only a fail has a text.
+pub mod Askable
 -- Agreement: what a check consults decides it.
 pub mod Agreement
 -- Growth: a settled result stays when the table only gains entries that answer no peek.

@@ -92,7 +92,7 @@ unfoldable pub holdsName : List ℕ → List (List ℕ) → Bool
 holdsName d [] = false
 holdsName d (n ∷ ns) = same n d || holdsName d ns
 
--- the first name below a domain, or the other text
+-- the first name below a domain, or the other text; the domain itself is not among them where this is used
 unfoldable pub firstBelow : List ℕ → List (List ℕ) → List ℕ → List ℕ
 firstBelow d [] other = other
 firstBelow d (n ∷ ns) other = cond (atOrBelow n d) n (firstBelow d ns other)
@@ -170,7 +170,8 @@ naming mail d spec go c = bind (targetOr mail d spec c) (withName (go c) c)
 unfoldable pub named : Mail → List ℕ → Optional (List ℕ) → (Counts → List ℕ → Check Step) → Counts → Check Step
 named mail d spec go c = counting (step (stop 6)) (naming mail d spec go) c
 
--- "each a, mx, ptr or exists counts the void answer to its own first question .., and the third gives permerror at once"
+-- "A void answer is status 3, or 0 without items" (an entry of status 3 has none); "each a, mx, ptr or exists counts the void answer to its own first
+-- question, none of p's, and the third gives permerror at once"
 unfoldable pub orVoid : Counts → List (List ℕ) → Check Step → Check Step
 orVoid c [] rest = cond (ltb (c .voids) most-voids) (step no (voided c)) (step (stop 6) (voided c))
 orVoid c (d ∷ ds) rest = rest
@@ -200,7 +201,7 @@ askExists c m = ask 1 m c (existsReply c)
 unfoldable pub existsStep : Mail → List ℕ → List ℕ → Counts → Check Step
 existsStep mail d spec c = named mail d (present spec) askExists c
 
--- mx: the hosts "by preference .., ties in item order": an item before the first of a greater preference
+-- mx: the hosts "by preference .., ties in item order": an item stands before the first of an equal or greater preference, and the last is placed first
 unfoldable pub insertHost : List ℕ → List (List ℕ) → List (List ℕ)
 insertHost d [] = d ∷ []
 insertHost d (e ∷ es) = cond (leb (number d) (number e)) (d ∷ e ∷ es) (e ∷ insertHost d es)

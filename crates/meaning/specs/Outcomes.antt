@@ -1,4 +1,5 @@
--- What the code's answers say of what a table settles: one definition for each kind of answer, and one for the name buffer.
+-- What the code's answers say of what a table settles: one definition for each kind of answer, and one for the name buffer. For private functions and
+-- between crates: places are left open up to the bytes that stand there, and of a scratch buffer only the front is said. `evaluate` leaves nothing open.
 use Prim.Native.Nat.{ℕ, _≤_}
 use mathlib.Core.Path.{_≡_}
 use mathlib.Core.List.{List}

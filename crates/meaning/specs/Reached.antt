@@ -21,7 +21,7 @@ use Rattle.meaning.specs.declared.Counts.{Counts}
 use Rattle.meaning.specs.Tree.{Reply, failed, items, Table, Check, Settled, settled, wanting, bind, answered, run}
 use Rattle.meaning.specs.Runs.{bind-is}
 use Rattle.meaning.specs.Mechanisms.{Mail, no, stop, Step, target, most-lookups, begun, counting}
-use Rattle.meaning.specs.Evaluation.{Result, Sub, includeMatch, checkTarget, another, includeOf, includeStep, bytesOr, mechanismStep, termStep, modifierOf, noneIsPermerror, redirectOf, noMatch, afterStep, tryTerms, termsAfter, termsFrom, termsOf, readOutcome, versioned, one, selection, textReply, textLookup, spfItems, spfReply, recordLookup, afterLookup, checkName, check, noCounts, evaluation, explanation, verdict}
+use Rattle.meaning.specs.Evaluation.{Result, Sub, includeMatch, checkTarget, begunCheck, includeOf, includeStep, bytesOr, mechanismStep, termStep, modifierOf, noneIsPermerror, redirectOf, noMatch, afterStep, tryTerms, termsAfter, termsFrom, termsOf, readOutcome, versioned, one, selection, textReply, textLookup, spfItems, spfReply, recordLookup, afterLookup, checkName, check, noCounts, evaluation, explanation, verdict}
 use Rattle.meaning.specs.Steps.{term-then}
 
 -- what a table has for the SPF question of a name is no "answered SPF entry with items"
@@ -137,16 +137,16 @@ read-is t mail sub d s c {ts} h r =
     rw (a .accepted, reads-terms (length s) (record-length r) (a .walk))
 
 -- a check that is begun, by its target
-another-is : (t : Table) (mail : Mail) (sub : Sub) (d spec e : List ℕ) (c : Counts) → c .lookups < most-lookups
-    → run t (target mail d spec (begun c)) ≡ settled (name e) → run t (another mail sub d spec c) ≡ run t (sub (name e) (begun c))
-unfolding another counting checkTarget
-another-is t mail sub d spec e c h g = rw (lt-ltb _ _ h) (bind-is t (target mail d spec (begun c)) _ (name e) g)
+begunCheck-is : (t : Table) (mail : Mail) (sub : Sub) (d spec e : List ℕ) (c : Counts) → c .lookups < most-lookups
+    → run t (target mail d spec (begun c)) ≡ settled (name e) → run t (begunCheck mail sub d spec c) ≡ run t (sub (name e) (begun c))
+unfolding begunCheck counting checkTarget
+begunCheck-is t mail sub d spec e c h g = rw (lt-ltb _ _ h) (bind-is t (target mail d spec (begun c)) _ (name e) g)
 
 -- an include's permerror stops the check
-include-error : (t : Table) (mail : Mail) (sub : Sub) (d spec : List ℕ) (c z : Counts) → run t (another mail sub d spec c) ≡ permerror z
+include-error : (t : Table) (mail : Mail) (sub : Sub) (d spec : List ℕ) (c z : Counts) → run t (begunCheck mail sub d spec c) ≡ permerror z
     → run t (includeStep mail sub d spec c) ≡ settled (record { match = stop 6; counts = z })
 unfolding includeStep includeOf includeMatch run
-include-error t mail sub d spec c z p = bind-is t (another mail sub d spec c) includeOf _ p
+include-error t mail sub d spec c z p = bind-is t (begunCheck mail sub d spec c) includeOf _ p
 
 include-is : (t : Table) (mail : Mail) (sub : Sub) (d : List ℕ) (x : Said) (spec : List ℕ) (sign : ℕ) (c : Counts)
     → x .name ≡ bytes "include" → x .sign ≡ present sign → x .argument ≡ present spec
@@ -155,10 +155,10 @@ unfolding termStep mechanismStep bytesOr same
 include-is t mail sub d x spec sign c n g a = rw (g, n, a)
 
 -- a redirect's permerror is the check's
-redirect-error : (t : Table) (mail : Mail) (sub : Sub) (d spec : List ℕ) (c z : Counts) → run t (another mail sub d spec c) ≡ permerror z
+redirect-error : (t : Table) (mail : Mail) (sub : Sub) (d spec : List ℕ) (c z : Counts) → run t (begunCheck mail sub d spec c) ≡ permerror z
     → run t (noMatch mail sub d (present spec) c) ≡ permerror z
 unfolding noMatch redirectOf noneIsPermerror run
-redirect-error t mail sub d spec c z p = bind-is t (another mail sub d spec c) redirectOf _ p
+redirect-error t mail sub d spec c z p = bind-is t (begunCheck mail sub d spec c) redirectOf _ p
 
 -- a permerror of the check that is begun is one of the terms
 terms-error : (t : Table) (mail : Mail) (sub : Sub) (d : List ℕ) (all-terms : List Placed) {ts : List Placed} {c k : Counts} {e : List ℕ} (z : Counts)
@@ -168,9 +168,9 @@ terms-error t mail sub d all-terms z (past-term {x = x} {ts = ts} {c = c} {l = l
     term-then t mail sub d all-terms x ts c l no m ∙ terms-error t mail sub d all-terms z b p
 terms-error t mail sub d all-terms z (by-include {x = x} {ts = ts} {c = c} {e = e} {spec = spec} {sign = sign} n g a h q) p =
     term-then t mail sub d all-terms x ts c z (stop 6)
-    (ap (λ (m : Check Step). run t m) (include-is t mail sub d (x .said) spec sign c n g a) ∙ include-error t mail sub d spec c z (another-is t mail sub d spec e c h q ∙ p))
+    (ap (λ (m : Check Step). run t m) (include-is t mail sub d (x .said) spec sign c n g a) ∙ include-error t mail sub d spec c z (begunCheck-is t mail sub d spec e c h q ∙ p))
 terms-error t mail sub d all-terms z (by-redirect {c = c} {e = e} {spec = spec} r h q) p =
-    rw r (redirect-error t mail sub d spec c z (another-is t mail sub d spec e c h q ∙ p))
+    rw r (redirect-error t mail sub d spec c z (begunCheck-is t mail sub d spec e c h q ∙ p))
 
 -- A text is outside the grammar: it is over 4,096 bytes, or the productions make no reading of it.
 pub data Outside (s : List ℕ) : Type 0 where

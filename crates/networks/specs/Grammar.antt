@@ -88,12 +88,12 @@ pub data Ip4CidrLength : List ℕ → ℕ → Type 0 where
 pub data Ip6CidrLength : List ℕ → ℕ → Type 0 where
   slash : {w : List ℕ} {n : ℕ} → LengthNumber 128 w n → Ip6CidrLength (47 ∷ w) n
 
--- [ ip4-cidr-length ], [ "/" ip6-cidr-length ]: "Absent means 32 and 128."
+-- [ ip4-cidr-length ]: "Absent means 32"
 pub data Length4 : List ℕ → ℕ → Type 0 where
   absent : Length4 [] 32
   present : {w : List ℕ} {n : ℕ} → Ip4CidrLength w n → Length4 w n
 
--- [ ip6-cidr-length ] after an ip6-network
+-- [ ip6-cidr-length ] after an ip6-network: absent means 128
 pub data Length6 : List ℕ → ℕ → Type 0 where
   absent : Length6 [] 128
   present : {w : List ℕ} {n : ℕ} → Ip6CidrLength w n → Length6 w n

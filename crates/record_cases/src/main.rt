@@ -147,23 +147,28 @@ fn print_term(term: Term, w: &[u8], argument: &[u8]) {
     }
 }
 
-fn print_term_answer(s: &[u8], answer: TermAnswer) {
+// The end, or a refusal.
+fn print_no_term(answer: TermAnswer) {
     match answer {
-        TermAnswer::End => cases::print_line(b"end"),
         TermAnswer::Refused { number, at } => listing::print_refused(number, at),
-        TermAnswer::Is { at, next, term } => {
-            io::write_all(1, b"term ");
-            io::print_decimal(1, at as u64);
-            io::write_all(1, b" ");
-            io::print_decimal(1, next as u64);
-            print_term(
-                term,
-                part(s, at, next),
-                records::argument(s, at, next, term),
-            );
-            cases::print_line(b"");
-        }
+        _ => cases::print_line(b"end"),
     }
+}
+
+fn print_term_answer(s: &[u8], answer: TermAnswer) {
+    let TermAnswer::Is { at, next, term } = answer else {
+        return print_no_term(answer);
+    };
+    io::write_all(1, b"term ");
+    io::print_decimal(1, at as u64);
+    io::write_all(1, b" ");
+    io::print_decimal(1, next as u64);
+    print_term(
+        term,
+        part(s, at, next),
+        records::argument(s, at, next, term),
+    );
+    cases::print_line(b"");
 }
 
 fn run_term(line: &[u8]) {

@@ -87,7 +87,7 @@ pub data Terms : ℕ → List ℕ → List Placed → Type 0 where
       → Terms (p + length ((32 ∷ u) ++ w)) rest ts
       → Terms p ((32 ∷ u) ++ (w ++ rest)) (record { place = p + length (32 ∷ u); said = x } ∷ ts)
 
--- how many terms are modifiers of a name
+-- how many terms have a name; no mechanism and no unknown modifier is named redirect or exp
 unfoldable pub countOf : List ℕ → List Placed → ℕ
 countOf wanted [] = 0
 countOf wanted (t ∷ ts) = cond (same (t .said .name) wanted) 1 0 + countOf wanted ts

@@ -31,7 +31,7 @@ use Rattle.meaning.specs.declared.Checked.{Checked}
 use Rattle.meaning.specs.Tree.{Table, Check, Settled, settled, wanting, then, run, run-bind}
 use Rattle.meaning.specs.Tables.{asks}
 use Rattle.meaning.specs.Mechanisms.{Mail, Match, yes, no, stop, Step, target, begun, counting}
-use Rattle.meaning.specs.Evaluation.{Result, Sub, Selection, ends, one, ended, checkTarget, another, includeMatch, includeOf, includeStep, termStep, noneIsPermerror, redirectOf, noMatch, tryTerms, termsOf, readOutcome, recordLookup, afterLookup, checkName, check}
+use Rattle.meaning.specs.Evaluation.{Result, Sub, Selection, ends, one, ended, checkTarget, begunCheck, includeMatch, includeOf, includeStep, termStep, noneIsPermerror, redirectOf, noMatch, tryTerms, termsOf, readOutcome, recordLookup, afterLookup, checkName, check}
 use Rattle.meaning.specs.Outcomes.{wantedBuffer, matchedOf, steppedOf, SaysStep, SaysTarget, spanOf, SaysLookup, failingOf, CheckedIs, Says}
 use Rattle.meaning.specs.Inversions.{Gives, Wants, gives-bind, wants-bind, says-gives, says-wants, target-name, target-malformed, target-wants, lookup-ends, lookup-one, lookup-wants, checked-result, checked-wants, gives-says, wants-says}
 use Rattle.selection.specs.declared.modifiers.Modifier.{Modifier}
@@ -50,12 +50,12 @@ says-wanting t x kind n c o b a e w = rw e (wants-says t x kind n (wantingOf kin
 
 -- begin_check
 module _ (t : List ℕ) (mail : Mail) (d spec : List ℕ) (c : Counts) (o : Checked) (b : List ℕ) where
-  pub begin-eleventh : 10 ≤ c .lookups → o ≡ endedOf 6 c → (n : ℕ) → 10 ≤ n + c .lookups → Says t (run (asks t) (another mail (check n mail) d spec c)) o b b
-  unfolding another counting
+  pub begin-eleventh : 10 ≤ c .lookups → o ≡ endedOf 6 c → (n : ℕ) → 10 ≤ n + c .lookups → Says t (run (asks t) (begunCheck mail (check n mail) d spec c)) o b b
+  unfolding begunCheck counting
   begin-eleventh h e n k = rw (le-ltb _ _ h) (says-ended t (asks t) 6 c o b e)
 
-  begun-is : (sub : Sub) → c .lookups < 10 → run (asks t) (another mail sub d spec c) ≡ run (asks t) (checkTarget mail sub d spec (begun c))
-  unfolding another counting
+  begun-is : (sub : Sub) → c .lookups < 10 → run (asks t) (begunCheck mail sub d spec c) ≡ run (asks t) (checkTarget mail sub d spec (begun c))
+  unfolding begunCheck counting
   begun-is sub h = rw (lt-ltb _ _ h)
 
   module _ (h : c .lookups < 10) (r : Target) (to a : List ℕ) (y : List ℕ) (f : y ≡ d)
@@ -69,14 +69,14 @@ module _ (t : List ℕ) (mail : Mail) (d spec : List ℕ) (c : Counts) (o : Chec
     none-below (suc n) k e = says-ended t (asks t) 0 (begun c) o a e
 
     pub begin-malformed : r ≡ Target.Malformed → o ≡ endedOf 0 (begun c) → (n : ℕ) → 10 ≤ n + c .lookups
-        → Says t (run (asks t) (another mail (check n mail) d spec c)) o b a
+        → Says t (run (asks t) (begunCheck mail (check n mail) d spec c)) o b a
     unfolding checkTarget
     begin-malformed q e n k =
         let g = target-malformed (begun c) _ r to b a here q in
         rw (begun-is (check n mail) h, gives-bind (asks t) (target mail d spec (begun c)) (λ x. check n mail x (begun c)) malformed (g .is), ← g .kept) (none-below n k e)
 
     pub begin-wants : (kind m : ℕ) → r ≡ Target.Wanting kind m → o ≡ wantingOf kind m (begun c) → (n : ℕ) → 10 ≤ n + c .lookups
-        → Says t (run (asks t) (another mail (check n mail) d spec c)) o b a
+        → Says t (run (asks t) (begunCheck mail (check n mail) d spec c)) o b a
     unfolding checkTarget
     begin-wants kind m q e n k =
         let w = target-wants (begun c) _ r to b a here kind m q in
@@ -84,7 +84,7 @@ module _ (t : List ℕ) (mail : Mail) (d spec : List ℕ) (c : Counts) (o : Chec
         (says-wanting t _ kind m (begun c) o b a e (wants-bind (asks t) (target mail d spec (begun c)) (λ x. check n mail x (begun c)) kind m (begun c) b a w))
 
     checked-below : (m : ℕ) → r ≡ Target.Name m → (e z : List ℕ) → e ≡ part to 0 m → (n : ℕ)
-        → Says t (run (asks t) (check (suc n) mail (name e) (begun c))) o a z → Says t (run (asks t) (another mail (check (suc n) mail) d spec c)) o b z
+        → Says t (run (asks t) (check (suc n) mail (name e) (begun c))) o a z → Says t (run (asks t) (begunCheck mail (check (suc n) mail) d spec c)) o b z
     unfolding checkTarget
     checked-below m q e z i n g =
         let l = target-name (begun c) _ r to b a here m q .0 in
@@ -93,7 +93,7 @@ module _ (t : List ℕ) (mail : Mail) (d spec : List ℕ) (c : Counts) (o : Chec
 
     pub begin-checked : (m : ℕ) → r ≡ Target.Name m → (e z : List ℕ) → e ≡ part to 0 m
         → ((k : ℕ) → 10 ≤ k + begun c .lookups → Says t (run (asks t) (check (suc k) mail (name e) (begun c))) o a z)
-        → (n : ℕ) → 10 ≤ n + c .lookups → Says t (run (asks t) (another mail (check n mail) d spec c)) o b z
+        → (n : ℕ) → 10 ≤ n + c .lookups → Says t (run (asks t) (begunCheck mail (check n mail) d spec c)) o b z
     begin-checked m q e z i g zero k = absurd (omega arith)
     begin-checked m q e z i g (suc n) k = checked-below m q e z i n (g n (omega arith))
 
@@ -217,10 +217,10 @@ includes t (settled y) o b a s r e u = let p = s .checked in rw (e, p .0, p .1, 
 includes t (wanting kind n k) o b a s r e u = let p = s .checked in rw (e, p .0, p .1) (record { outcome = refl; buffer = s .buffer })
 
 pub include-done : (t : List ℕ) (mail : Mail) (d spec : List ℕ) (c : Counts) (o : Checked) (b a : List ℕ)
-    → ((n : ℕ) → 10 ≤ n + c .lookups → Says t (run (asks t) (another mail (check n mail) d spec c)) o b a) → (r : Stepped) → r ≡ includedOf o
+    → ((n : ℕ) → 10 ≤ n + c .lookups → Says t (run (asks t) (begunCheck mail (check n mail) d spec c)) o b a) → (r : Stepped) → r ≡ includedOf o
     → (n : ℕ) → 10 ≤ n + c .lookups → SaysStep (run (asks t) (includeStep mail (check n mail) d spec c)) r b a
 unfolding includeStep
-include-done t mail d spec c o b a s r e n k = rw (run-bind (asks t) (another mail (check n mail) d spec c) includeOf) (includes t _ o b a (s n k) r e (asks t))
+include-done t mail d spec c o b a s r e n k = rw (run-bind (asks t) (begunCheck mail (check n mail) d spec c) includeOf) (includes t _ o b a (s n k) r e (asks t))
 
 -- try_term
 module _ (t : List ℕ) (mail : Mail) (d e : List ℕ) (f : e ≡ d) (w : List ℕ) (x : Term) (c : Counts) (b a : List ℕ) (r : Tried) (p : TriedIs (asks t) mail e w x c b a r) where
@@ -266,7 +266,7 @@ module _ (t : List ℕ) (mail : Mail) (d s : List ℕ) (c : Counts) (r : Modifie
   nothing-left m p q e n k = neutral m p q e (check n mail)
 
   pub redirected : (m : Optional (List ℕ)) → ModifierIs s m r → (from to : ℕ) → r ≡ Modifier.Part from to → (y : List ℕ) → y ≡ part s from to → (i : Checked) (z : List ℕ)
-      → ((n : ℕ) → 10 ≤ n + c .lookups → Says t (run (asks t) (another mail (check n mail) d y c)) i b z) → o ≡ redirectedOf i
+      → ((n : ℕ) → 10 ≤ n + c .lookups → Says t (run (asks t) (begunCheck mail (check n mail) d y c)) i b z) → o ≡ redirectedOf i
       → (n : ℕ) → 10 ≤ n + c .lookups → Says t (run (asks t) (noMatch mail (check n mail) d m c)) o b z
   unfolding ModifierIs noMatch
   redirected absent p from to q y j i z g e n k = let z : _≡_ {A = ℕ} 0 1 = cc in absurd (omega arith)
@@ -275,4 +275,4 @@ module _ (t : List ℕ) (mail : Mail) (d s : List ℕ) (c : Counts) (r : Modifie
       let l : from ≡ p .0 = cc in
       let h : to ≡ p .1 = cc in
       let v : y ≡ x = j ∙ rw (l, h) (p .3) in
-      rw (← v, run-bind (asks t) (another mail (check n mail) d y c) redirectOf) (redirects t _ i b z (g n k) o e (asks t))
+      rw (← v, run-bind (asks t) (begunCheck mail (check n mail) d y c) redirectOf) (redirects t _ i b z (g n k) o e (asks t))

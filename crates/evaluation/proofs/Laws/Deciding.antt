@@ -20,10 +20,10 @@ use Rattle.domain.specs.Normal.{Naming, name, malformed, withoutDot, lowered, n
 use Rattle.domain.specs.declared.Name.{Name}
 use Rattle.table.specs.declared.TableAnswer.{TableAnswer}
 use Rattle.table.specs.declared.TableAnswer.the-variants.{Accepted, TooLong, Malformed, Repeated}
-use Rattle.table.specs.Numbers.{Report, Place, accepted, refused as table-refused, reported as table-reported}
+use Rattle.table.specs.Numbers.{Report, Place, nowhere, byte, accepted, refused as table-refused, reported as table-reported}
 use Rattle.table.specs.Checked.{Checked, Encoded, whole}
 use Rattle.table.specs.Reader.{entriesOf, checkTable}
-use Rattle.table.proofs.Laws.Checks.{checked}
+use Rattle.table.proofs.Laws.Checks.{checked, checked-is}
 use Rattle.table.proofs.Laws.Entries.{entries-complete}
 use Rattle.macros.specs.Expansion.{isSender, isHost, isShort}
 use Rattle.meaning.specs.declared.Counts.{Counts}
@@ -40,9 +40,20 @@ use Rattle.meaning.specs.Inversions.{Gives, Wants, gives-bind, wants-bind, targ
 use Rattle.targets.proofs.Laws.Naming.{Short, name-short, naming-written, naming-malformed}
 use Rattle.evaluation.specs.declared.Answer.{Answer}
 use Rattle.evaluation.specs.Checks.{endedOf}
-use Rattle.evaluation.specs.Numbers.{Outcome, refused, refused-at, settles, answerOf, nameAfter, textAfter, Says}
+use Rattle.evaluation.specs.Numbers.{Outcome, refused, refused-at, settles, reported, answerOf, reportOf, nameAfter, textAfter, Says}
 use Rattle.evaluation.specs.Evaluating.{mailFor, hasRoom, refusalOf, afterTable, evaluated}
 use Rattle.evaluation.specs.Answers.{tableOf, Fit, refusedBy, Answers, no-sender, no-host, long-domain, no-room, bad-table, decides, Answered}
+
+-- an answer's report follows from its case
+report-is : (o : Outcome) → reported (answerOf o) ≡ reportOf o
+unfolding answerOf reportOf
+report-is (refused number) = refl
+report-is (refused-at number place) = refl
+report-is (settles (settled v)) = refl
+report-is (settles (wanting kind n c)) = refl
+
+said : (o : Outcome) (r : Answer) (b a u v : List ℕ) → r ≡ answerOf o → a ≡ nameAfter o b → v ≡ textAfter o u → Says o r b a u v
+said o r b a u v e n t = record { answer = e; report = ap reported e ∙ report-is o; name-buffer = n; text-buffer = t }
 
 -- a given domain's name has at most 253 bytes
 normal-short : (s : List ℕ) → Short (normal s)
@@ -92,7 +103,7 @@ explaining mail r = bind (explanation mail (r .failing) (r .counts)) (λ x. give
 module _ (t : List ℕ) (mail : Mail) (domain : List ℕ) (b a : List ℕ) (o : CheckAnswer) (s : CheckSays t (run (asks t) (evaluation mail domain)) o b a) where
   wants-answer : (x : Settled Verdict) (kind n : ℕ) (c : Counts) (b z u v : List ℕ) → Wants x kind n c b z → v ≡ u → Says (settles x) (Answer.Wanting kind n c) b z u v
   unfolding answerOf nameAfter textAfter
-  wants-answer x kind n c b z u v w e = rw (w .is) (record { answer = ap (λ (m : ℕ). Answer.Wanting kind m c) (w .size-is); name-buffer = w .buffer; text-buffer = e })
+  wants-answer x kind n c b z u v w e = rw (w .is) (said _ _ _ _ _ _ (ap (λ (m : ℕ). Answer.Wanting kind m c) (w .size-is)) (w .buffer) e)
 
   pub decide-wants : (kind n : ℕ) → o .ending ≡ Ending.Wanting kind n → (u : List ℕ) → Says (settles (run (asks t) (verdict mail domain))) (Answer.Wanting kind n (o .counts)) b a u u
   unfolding verdict
@@ -114,7 +125,7 @@ module _ (t : List ℕ) (mail : Mail) (domain : List ℕ) (b a : List ℕ) (o : 
         let g = text-written (o .counts) _ x u u′ a z w n f in
         let f : List ℕ → Check Verdict = λ x. give (record { value = v; counts = o .counts; text = x }) in
         rw (explained-is, gives-bind (asks t) (explanation mail (failingOf t (o .failing)) (o .counts)) f (g .0) (g .1))
-        (record { answer = ap (Answer.Decided v (o .counts)) (g .2); name-buffer = g .4 ∙ kept; text-buffer = g .3 })
+        (said _ _ _ _ _ _ (ap (Answer.Decided v (o .counts)) (g .2)) (g .4 ∙ kept) (g .3))
 
     pub decide-asks : (kind n : ℕ) → x ≡ Explained.Wanting kind n → Says (settles (run (asks t) (verdict mail domain))) (Answer.Wanting kind n (o .counts)) b z u u′
     decide-asks kind n f =
@@ -124,7 +135,7 @@ module _ (t : List ℕ) (mail : Mail) (domain : List ℕ) (b a : List ℕ) (o : 
         (wants-bind (asks t) (explanation mail (failingOf t (o .failing)) (o .counts)) (λ x. give (record { value = v; counts = o .counts; text = x })) kind n (o .counts) a z (g .0)) (g .1))
 
 -- what the definition says, by the table's list of entries
-table-is : (t : List ℕ) → asks t ≡ tableOf (entriesOf t)
+pub table-is : (t : List ℕ) → asks t ≡ tableOf (entriesOf t)
 unfolding asks tableOf
 table-is t = refl
 
@@ -185,7 +196,7 @@ module _ (client : Address) (domain sender helo receiver : List ℕ) (seconds : 
     refused-says : (n : ℕ) → evaluated client domain sender helo receiver seconds table name text ≡ refused n → r ≡ Answer.Refused n → name′ ≡ name → text′ ≡ text
         → Says (evaluated client domain sender helo receiver seconds table name text) r name name′ text text′
     unfolding answerOf nameAfter textAfter
-    refused-says n e h i j = rw e (record { answer = h; name-buffer = i; text-buffer = j })
+    refused-says n e h i j = rw e (said _ _ _ _ _ _ h i j)
 
   pub evaluated-refused : (n : ℕ) → n ≡ refusalOf domain sender helo receiver (length name) (length text) → (n ≡ 0 → ⊥)
       → Says (evaluated client domain sender helo receiver seconds table name text) (Answer.Refused n) name name text text
@@ -222,7 +233,7 @@ module _ (client : Address) (domain sender helo receiver : List ℕ) (seconds : 
       at-says : (number p : ℕ) → evaluated client domain sender helo receiver seconds table name text ≡ refused-at number p
           → Says (evaluated client domain sender helo receiver seconds table name text) (Answer.RefusedAt number p) name name text text
       unfolding answerOf nameAfter textAfter
-      at-says number p i = rw i (record { answer = refl; name-buffer = refl; text-buffer = refl })
+      at-says number p i = rw i (said _ _ _ _ _ _ refl refl refl)
 
       pub evaluated-malformed : (p : ℕ) → a ≡ Malformed p → Says (evaluated client domain sender helo receiver seconds table name text) (Answer.RefusedAt 25 p) name name text text
           × Answered client domain sender helo receiver seconds table (Answer.RefusedAt 25 p) name name text text
@@ -242,3 +253,30 @@ module _ (client : Address) (domain sender helo receiver : List ℕ) (seconds : 
       evaluated-decided m k c i r name′ text′ s =
           let f : evaluated client domain sender helo receiver seconds table name text ≡ settles (run (asks table) (verdict (mailFor client sender helo receiver seconds) domain)) = after-table ∙ rw k in
           both r name′ text′ (rw (f, ← i) s)
+
+  -- so the relation determines the outcome
+  by-refusal : (number : ℕ) (place : Place) (a : TableAnswer) (x : Settled Verdict) → table-refused number place ≡ table-reported a → refusedBy number place ≡ afterTable a x
+  unfolding afterTable
+  by-refusal number place (Accepted n) x e = let z : _≡_ {A = ℕ} 0 1 = cc in absurd (omega arith)
+  by-refusal number place TooLong x e = let i : number ≡ 24 = cc in let j : place ≡ nowhere = cc in rw (i, j)
+  by-refusal number place (Malformed p) x e = let i : number ≡ 25 = cc in let j : place ≡ byte p = cc in rw (i, j)
+  by-refusal number place (Repeated p) x e = let i : number ≡ 26 = cc in let j : place ≡ byte p = cc in rw (i, j)
+
+  by-acceptance : (n : ℕ) (a : TableAnswer) (x : Settled Verdict) → accepted n ≡ table-reported a → settles x ≡ afterTable a x
+  unfolding afterTable
+  by-acceptance n (Accepted m) x e = refl
+  by-acceptance n TooLong x e = let z : _≡_ {A = ℕ} 0 1 = cc in absurd (omega arith)
+  by-acceptance n (Malformed p) x e = let z : _≡_ {A = ℕ} 0 1 = cc in absurd (omega arith)
+  by-acceptance n (Repeated p) x e = let z : _≡_ {A = ℕ} 0 1 = cc in absurd (omega arith)
+
+  pub answers-is : {o : Outcome} → Answers client domain sender helo receiver seconds table name text o → o ≡ evaluated client domain sender helo receiver seconds table name text
+  unfolding evaluated
+  answers-is (no-sender s) = rw s
+  answers-is (no-host s h) = rw (s, h)
+  answers-is (long-domain s h d) = rw (s, h, d)
+  answers-is (no-room s h d r) = rw (s, h, d, r)
+  answers-is (bad-table {number = number} {place = place} f c) =
+      rw (f .sender-fits, f .hosts-fit, f .domain-fits, f .room) (by-refusal number place (checkTable table) _ (checked-is c))
+  answers-is (decides {es = es} f h e) =
+      rw (f .sender-fits, f .hosts-fit, f .domain-fits, f .room, ← entries-complete (e .entries), ← table-is table)
+      (by-acceptance _ (checkTable table) _ (checked-is (whole h e)))

@@ -1,0 +1,39 @@
+-- `scope_cases::checks::check_front` meets its contract.
+use native.Mathlib.Omega.{arith}
+use lib.ListN.{length-take}
+use borrow.Author.Needs.{needs}
+use Rattle.scope_cases.proofs.checks.check_front.Statement.{statement}
+use Rattle.scope_cases.proofs.checks.check_front.Tie as tie
+
+slice-relend-prefix-check-text : tie.Need-slice-relend-prefix-check-text
+slice-relend-prefix-check-text c = search needs
+
+slice-aggregate-check-text : tie.Need-slice-aggregate-check-text
+slice-aggregate-check-text c = simp length-take (omega arith)
+
+check-text-requires : tie.Need-check-text-requires
+check-text-requires c κs = search needs
+
+same-length : tie.Need-same-length
+same-length c = search needs
+
+same-length-2 : tie.Need-same-length-2
+same-length-2 c = search needs
+
+returns : tie.Need-returns
+returns c = search needs
+
+returns-2 : tie.Need-returns-2
+returns-2 c = search needs
+
+pub check-front-spec : {M : Type 1} → statement M
+check-front-spec =
+    tie.close
+    (tie.spec
+    slice-relend-prefix-check-text
+    slice-aggregate-check-text
+    check-text-requires
+    same-length
+    same-length-2
+    returns
+    returns-2)

@@ -1,0 +1,34 @@
+-- `scope_cases::checks::line_start` meets its contract.
+use borrow.Author.Needs.{needs}
+use Prim.Native.Nat.{_-_, _≤_}
+use Rattle.scope_cases.proofs.checks.line_start.Statement.{statement}
+use Rattle.scope_cases.proofs.checks.line_start.Tie as tie
+
+abbrev Inv-loop : tie.InvT-loop
+Inv-loop s k at₀ i₀ at i = i ≤ k
+
+abbrev μ-loop : tie.MeasureT-loop
+μ-loop s k at₀ i₀ at i = k - i
+
+loop-holds : tie.Need-loop-holds Inv-loop μ-loop
+loop-holds c = search needs
+
+next-line-requires : tie.Need-next-line-requires Inv-loop μ-loop
+next-line-requires c κs = search needs
+
+add-i : tie.Need-add-i Inv-loop μ-loop
+add-i c = search needs
+
+loop-less : tie.Need-loop-less Inv-loop μ-loop
+loop-less c = search needs
+
+loop-again : tie.Need-loop-again Inv-loop μ-loop
+loop-again c = search needs
+
+returns : tie.Need-returns Inv-loop μ-loop
+returns c = search needs
+
+pub line-start-spec : {M : Type 1} → statement M
+line-start-spec =
+    tie.close
+    (tie.spec Inv-loop μ-loop loop-holds next-line-requires add-i loop-less loop-again returns)

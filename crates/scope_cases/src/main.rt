@@ -1,0 +1,200 @@
+// Runs the cases of 01's sections "Both sides of each line" and "Errors that look right" and of the list of readings, a line each, and prints a line for
+// each answer, led by the case's label. Bytes stand in hex, `-` for none.
+//
+//     record LABEL RECORD               `accepted` and the place after the version, or `refused`, number, `at`, place
+//     term LABEL RECORD PLACE           `end`; `refused`, number, `at`, place; or place, next place, name, sign, argument led by `:` or `=`, IPv4 length,
+//                                       IPv6 length and the octets of the address, `.` where absent
+//     expand LABEL FORM CLIENT DOMAIN SENDER P TEXT
+//                                       `ok` and the expansion, or `refused` and the number; HELO is helo.example, the receiver empty, t 7
+//     match LABEL CLIENT NETWORK LENGTH
+//                                       1 if they match at that prefix length, else 0
+//     check LABEL INPUT                 what a check answers: number, kind or place and both counts, and the text or name; `input` for a client or t that
+//                                       cannot be read. INPUT is client, domain, sender, HELO, receiver and t, a line each, and the table
+//     lent LABEL NAME TEXT ZEROS INPUT  the same with buffers of these lengths and so many zero bytes after the table
+//
+// FORM is `domain-spec` or `explanation`. Any other line is printed as it is.
+mod checks;
+mod terms;
+
+use address::Address;
+use address::FromOctets;
+use cases::Line;
+use macros::Expanded;
+use macros::Form;
+use records::RecordAnswer;
+use text::bytes::part;
+use text::decimal;
+use text::decimal::Number;
+use text::words;
+
+fn run_record(line: &[u8]) {
+    let mut s = [0u8; 8192];
+    let n = cases::unhex(cases::word(line, 2), &mut s);
+    match records::read_record(part(&s, 0, n)) {
+        RecordAnswer::Accepted(next) => {
+            io::write_all(1, b"accepted ");
+            cases::print_number_line(next);
+        }
+        RecordAnswer::Refused { number, at } => listing::print_refused(number, at),
+    }
+}
+
+// The number that a word writes, or 0.
+fn number_of(word: &[u8]) -> u64 {
+    let Number::Value(v) = decimal::read_decimal(word, 18446744073709551615) else {
+        return 0;
+    };
+    v
+}
+
+fn run_term(line: &[u8]) {
+    let mut s = [0u8; 8192];
+    let n = cases::unhex(cases::word(line, 2), &mut s);
+    terms::run(part(&s, 0, n), number_of(cases::word(line, 3)) as usize);
+}
+
+// The address that a word writes, or 0.0.0.0.
+fn address_of(word: &[u8]) -> Address {
+    let mut a = [0u8; 16];
+    let n = cases::unhex(word, &mut a);
+    let FromOctets::Is(x) = address::from_octets(part(&a, 0, n)) else {
+        return Address::IPv4(0);
+    };
+    x
+}
+
+fn run_match(line: &[u8]) {
+    let client = address_of(cases::word(line, 2));
+    let network = address_of(cases::word(line, 3));
+    if address::matches(client, network, number_of(cases::word(line, 4)) as usize) {
+        cases::print_line(b"1");
+        return;
+    }
+    cases::print_line(b"0");
+}
+
+// The form that a word names.
+fn form_of(word: &[u8]) -> Form {
+    if words::equal(word, b"explanation") {
+        return Form::Explanation;
+    }
+    Form::DomainSpec
+}
+
+// Prints what an expansion answered.
+fn print_expanded(answer: Expanded, out: &[u8]) {
+    match answer {
+        Expanded::Written(n) => {
+            io::write_all(1, b"ok");
+            checks::print_rest(part(out, 0, n));
+        }
+        Expanded::Refused(n) => {
+            io::write_all(1, b"refused ");
+            cases::print_number_line(n as usize);
+        }
+    }
+}
+
+fn run_expand(line: &[u8]) {
+    let mut domain = [0u8; 1024];
+    let mut sender = [0u8; 1024];
+    let mut p = [0u8; 1024];
+    let mut text = [0u8; 8192];
+    let mut out = [0u8; 4096];
+    let d = cases::unhex(cases::word(line, 4), &mut domain);
+    let s = cases::unhex(cases::word(line, 5), &mut sender);
+    let q = cases::unhex(cases::word(line, 6), &mut p);
+    let t = cases::unhex(cases::word(line, 7), &mut text);
+    let answer = macros::expand(
+        form_of(cases::word(line, 2)),
+        part(&text, 0, t),
+        part(&sender, 0, s),
+        b"helo.example",
+        b"",
+        part(&domain, 0, d),
+        part(&p, 0, q),
+        address_of(cases::word(line, 3)),
+        7,
+        &mut out,
+    );
+    print_expanded(answer, &out);
+}
+
+// A number that a word writes, as a length.
+fn length_of(word: &[u8]) -> usize {
+    (number_of(word) % 65537) as usize
+}
+
+fn run_check(line: &[u8]) {
+    checks::run(cases::word(line, 2), 253, 500, 0);
+}
+
+fn run_lent(line: &[u8]) {
+    let name = length_of(cases::word(line, 2));
+    let text = length_of(cases::word(line, 3));
+    let zeros = length_of(cases::word(line, 4));
+    checks::run(cases::word(line, 5), name, text, zeros);
+}
+
+// Runs a case of a kind, once its label is printed.
+fn run_case(kind: &[u8], line: &[u8]) {
+    if words::equal(kind, b"record") {
+        return run_record(line);
+    }
+    if words::equal(kind, b"term") {
+        return run_term(line);
+    }
+    if words::equal(kind, b"expand") {
+        return run_expand(line);
+    }
+    if words::equal(kind, b"match") {
+        return run_match(line);
+    }
+    if words::equal(kind, b"lent") {
+        return run_lent(line);
+    }
+    run_check(line);
+}
+
+// Whether a word is the kind of a case.
+fn is_kind(kind: &[u8]) -> bool {
+    if words::equal(kind, b"check") {
+        return true;
+    }
+    if words::equal(kind, b"lent") {
+        return true;
+    }
+    if words::equal(kind, b"record") {
+        return true;
+    }
+    if words::equal(kind, b"term") {
+        return true;
+    }
+    if words::equal(kind, b"expand") {
+        return true;
+    }
+    words::equal(kind, b"match")
+}
+
+fn run_line(line: &[u8]) {
+    let kind = cases::word(line, 0);
+    if is_kind(kind) {
+        io::write_all(1, cases::word(line, 1));
+        io::write_all(1, b" ");
+        return run_case(kind, line);
+    }
+    cases::print_line(line);
+}
+
+// At most as many lines as the budget says.
+fn main() {
+    let mut line = [0u8; 20000];
+    let mut budget: usize = 1000000;
+    while 0 < budget {
+        let Line::Of(n) = cases::read_line(&mut line) else {
+            return;
+        };
+        run_line(part(&line, 0, n));
+        budget -= 1;
+    }
+}

@@ -1,0 +1,936 @@
+#!/usr/bin/env python3
+"""The cases of the program scope_cases: those of 01's sections "Both sides of each line" and "Errors that look right", and the inputs of the list of
+readings (Q1 to Q53).
+
+    python3 tools/scope_cases.py
+
+writes crates/scope_cases/stdin, the cases, and crates/scope_cases/stdout, what the program must print. Each expected line stands beside its case; it was
+written by hand from 01 and the readings, and none was taken from what a program printed. The gate doesn't run this script.
+
+Unless said otherwise: client 192.0.2.129, domain example.com, sender user@example.com, HELO helo.example, receiver empty, t 7. An expected line of a check
+is number, kind or place (`.` where absent), lookups, voids, and for 3 and 7 the text or name.
+"""
+
+import ipaddress
+import pathlib
+import sys
+
+CRATE = pathlib.Path(__file__).resolve().parent.parent / "crates" / "scope_cases"
+
+# The lengths of the program's buffers for a line, a record or text, and an argument of an expansion.
+LINE, TEXT, ARGUMENT = 20000, 8192, 1024
+
+KINDS = {"A": 1, "PTR": 12, "MX": 15, "TXT": 16, "AAAA": 28, "SPF": 99}
+
+given, printed, labels = [], [], []
+
+
+def need(condition, *why):
+    if not condition:
+        sys.exit(" ".join(map(str, why)))
+
+
+def octets(text):
+    """The bytes of a text; bytes stay what they are."""
+    return text if isinstance(text, bytes) else text.encode("ascii")
+
+
+def hexed(text):
+    return octets(text).hex() or "-"
+
+
+def packed(address):
+    """An address as its octets in hex."""
+    return ipaddress.ip_address(address).packed.hex()
+
+
+def little(number):
+    return number.to_bytes(2, "little")
+
+
+# Entries of a table: kind, status and name, and the items.
+
+
+def A(name, *addresses):
+    return "A", 0, name, [ipaddress.IPv4Address(address).packed for address in addresses]
+
+
+def AAAA(name, *addresses):
+    return "AAAA", 0, name, [ipaddress.IPv6Address(address).packed for address in addresses]
+
+
+def PTR(name, *names):
+    return "PTR", 0, name, names
+
+
+def MX(name, *hosts):
+    return "MX", 0, name, [little(preference) + octets(host) for preference, host in hosts]
+
+
+def TXT(name, *texts):
+    return "TXT", 0, name, texts
+
+
+def SPF(name, *texts):
+    return "SPF", 0, name, texts
+
+
+def failed(kind, name):
+    return kind, 2, name, []
+
+
+def absent(kind, name):
+    """No such name."""
+    return kind, 3, name, []
+
+
+def R(*texts):
+    return TXT("example.com", *texts)
+
+
+def entry(kind, status, name, items):
+    number = KINDS.get(kind, kind)
+    body = little(number) + bytes([status, len(name)]) + octets(name)
+    body += b"".join(little(len(item)) + octets(item) for item in items)
+    return little(len(body)) + body
+
+
+def table_of(entries):
+    """A table; an entry that is given as bytes stands as it is."""
+    return b"".join(one if isinstance(one, bytes) else entry(*one) for one in entries)
+
+
+def input_of(
+    entries, client="192.0.2.129", domain="example.com", sender="user@example.com", helo="helo.example", receiver="", t="7"
+):
+    """The input of a check: six lines and the table."""
+    return b"".join(octets(line) + b"\n" for line in (client, domain, sender, helo, receiver, t)) + table_of(entries)
+
+
+# Kinds of cases.
+
+
+def heading(text):
+    given.append("# " + text)
+    printed.append("# " + text)
+
+
+def case(kind, label, expected, *words):
+    line = " ".join([kind, label, *map(str, words)])
+    need(label not in labels, "two cases have the label", label)
+    need(len(line) <= LINE, label, "is too long")
+    labels.append(label)
+    given.append(line)
+    printed.append(label + " " + expected)
+
+
+def record(label, expected, text):
+    need(len(text) <= TEXT, label, "is too long")
+    case("record", label, expected, hexed(text))
+
+
+def term(label, expected, text, place):
+    need(len(text) <= TEXT, label, "is too long")
+    case("term", label, expected, hexed(text), place)
+
+
+def match(label, expected, client, network, length):
+    case("match", label, expected, packed(client), packed(network), length)
+
+
+def expand(
+    label, expected, text, form="domain-spec", client="192.0.2.129", domain="example.com", sender="user@example.com", p=""
+):
+    need(max(map(len, (domain, sender, p))) <= ARGUMENT and len(text) <= TEXT, label, "is too long")
+    case("expand", label, expected, form, packed(client), *map(hexed, (domain, sender, p, text)))
+
+
+def check(label, expected, *entries, **arguments):
+    case("check", label, expected, hexed(input_of(entries, **arguments)))
+
+
+def check_input(label, expected, text):
+    case("check", label, expected, hexed(text))
+
+
+def lent(label, expected, *entries, name=253, text=500, zeros=0, **arguments):
+    case("lent", label, expected, name, text, zeros, hexed(input_of(entries, **arguments)))
+
+
+def in_grammar(label, *texts):
+    """Records of one term that are accepted: the answer is the place just after the version."""
+    for number, text in enumerate(texts, 1):
+        record(f"{label}-in-{number}", "accepted 6", "v=spf1 " + text)
+
+
+def outside(label, *texts):
+    """Records whose only term is outside the grammar: 32 at the term's first byte."""
+    for number, text in enumerate(texts, 1):
+        record(f"{label}-out-{number}", "refused 32 at 7", "v=spf1 " + text)
+
+
+# The name of the PTR question of 192.0.2.129.
+REV = "129.2.0.192.in-addr.arpa"
+# An address that is not the client's, and the client's.
+OTHER, CLIENT = "10.0.0.1", "192.0.2.129"
+# A record that fails with an explanation.
+FAILS = R("v=spf1 -all exp=e.example")
+
+
+def explains(label, expected, text, **arguments):
+    """A fail with this explanation text; nothing is expected where the text comes to be empty."""
+    check(label, "3 . 0 0 " + expected if expected else "3 . 0 0", FAILS, TXT("e.example", text), **arguments)
+
+
+# 01, "Both sides of each line".
+
+
+def both_sides():
+    heading("both sides of each line: records")
+    record("line-version", "accepted 6", "v=spf1")
+    term("line-version-no-terms", "end", "v=spf1", 6)
+    check("line-version-check", "1 . 0 0", R("v=spf1"))
+    record("line-version-10", "refused 31 at 0", "v=spf10 -all")
+    check("line-version-10-check", "0 . 0 0", R("v=spf10 -all"))
+    record("line-ip4-32", "accepted 6", "v=spf1 ip4:192.0.2.0/32")
+    record("line-ip4-33", "refused 32 at 7", "v=spf1 ip4:192.0.2.0/33")
+    record("line-ip4-032", "refused 32 at 7", "v=spf1 ip4:192.0.2.0/032")
+    check("line-ip4-32-same", "2 . 0 0", R("v=spf1 ip4:192.0.2.129/32 -all"))
+    check("line-ip4-32-next", "3 . 0 0", R("v=spf1 ip4:192.0.2.128/32 -all"))
+    check("line-ip4-33-check", "6 . 0 0", R("v=spf1 ip4:192.0.2.129/33 -all"))
+    record("line-ip6-128", "accepted 6", "v=spf1 ip6:2001:db8::/128")
+    record("line-ip6-129", "refused 32 at 7", "v=spf1 ip6:2001:db8::/129")
+    check("line-ip6-128-same", "2 . 0 0", R("v=spf1 ip6:2001:db8::/128 -all"), client="2001:db8::")
+    check("line-ip6-128-next", "3 . 0 0", R("v=spf1 ip6:2001:db8::/128 -all"), client="2001:db8::1")
+    record("line-modifier-ip4", "accepted 6", "v=spf1 ip4=192.0.2.1")
+    term("line-modifier-ip4-term", "7 20 ip4 . =192.0.2.1 . . .", "v=spf1 ip4=192.0.2.1", 6)
+    check("line-modifier-ip4-ignored", "3 . 0 0", R("v=spf1 ip4=192.0.2.129 -all"))
+    record("line-modifier-sign", "refused 32 at 7", "v=spf1 -x=y")
+    record("line-redirect-twice", "refused 33 at 40", "v=spf1 redirect=a.example exp=b.example redirect=c.example")
+    check("line-redirect-twice-check", "6 . 0 0", R("v=spf1 redirect=a.example exp=b.example redirect=c.example"))
+    record("line-top-label-1", "refused 32 at 7", "v=spf1 a:example.1")
+    record("line-top-label-1-1", "accepted 6", "v=spf1 a:example.1-1")
+    check("line-top-label-1-1-check", "7 1 1 0 example.1-1", R("v=spf1 a:example.1-1 -all"))
+    record("line-digits-0", "refused 32 at 7", "v=spf1 exists:%{d0}.example")
+    record("line-digits-02", "accepted 6", "v=spf1 exists:%{d02}.example")
+    check("line-digits-02-check", "7 1 1 0 example.com.example", R("v=spf1 exists:%{d02}.example -all"))
+    record("line-ip6-seven-groups", "accepted 6", "v=spf1 ip6:1:2:3:4:5:6:7::")
+    record("line-ip6-eight-groups", "refused 32 at 7", "v=spf1 ip6:1:2:3:4:5:6:7:8::")
+
+    heading("both sides of each line: macros of source document 001")
+    strong = {"sender": "strong-bad@email.example.com", "domain": "email.example.com"}
+    expand("line-macro-lr", "ok bad.strong", "%{lr-}", **strong)
+    expand("line-macro-l1r", "ok strong", "%{l1r-}", **strong)
+    expand("line-macro-d2r", "ok example.email", "%{d2r}", **strong)
+    expand("line-macro-lr-explanation", "ok bad.strong", "%{lr-}", form="explanation", **strong)
+    expand("line-macro-l1r-explanation", "ok strong", "%{l1r-}", form="explanation", **strong)
+    expand("line-macro-d2r-explanation", "ok example.email", "%{d2r}", form="explanation", **strong)
+
+    heading("both sides of each line: 192.0.2.129 against 192.0.2.0")
+    match("line-match-24", "1", CLIENT, "192.0.2.0", 24)
+    match("line-match-25", "0", CLIENT, "192.0.2.0", 25)
+    match("line-match-0", "1", CLIENT, "192.0.2.0", 0)
+    match("line-match-0-far", "1", CLIENT, "63.255.253.126", 0)
+    # "families never match each other".
+    match("line-match-0-family", "0", CLIENT, "::192.0.2.129", 0)
+    check("line-match-24-check", "2 . 0 0", R("v=spf1 ip4:192.0.2.0/24 -all"))
+    check("line-match-25-check", "3 . 0 0", R("v=spf1 ip4:192.0.2.0/25 -all"))
+    check("line-match-0-check", "2 . 0 0", R("v=spf1 ip4:63.255.253.126/0 -all"))
+    check("line-match-0-family-check", "3 . 0 0", R("v=spf1 ip6:::/0 -all"))
+
+    heading("both sides of each line: ten redirects in a chain, eleven")
+    chain = [TXT(f"r{n}.example", f"v=spf1 redirect=r{n + 1}.example") for n in range(1, 10)]
+    first, fails = R("v=spf1 redirect=r1.example"), "v=spf1 -all"
+    check("line-redirects-10", "3 . 10 0", first, *chain, TXT("r10.example", fails))
+    eleven = [first, *chain, TXT("r10.example", "v=spf1 redirect=r11.example")]
+    check("line-redirects-11", "6 . 10 0", *eleven, TXT("r11.example", fails))
+    # "the eleventh in the whole check isn't begun": its TXT isn't asked.
+    check("line-redirects-11-unasked", "6 . 10 0", *eleven)
+
+    heading("both sides of each line: two void exists, three")
+    void = absent("A", "a.b")
+    check("line-voids-2", "3 . 2 2", R("v=spf1 exists:a.b exists:a.b -all"), void)
+    check("line-voids-3", "6 . 3 3", R("v=spf1 exists:a.b exists:a.b exists:a.b -all"), void)
+
+
+# 01, "Errors that look right".
+
+
+def look_right():
+    heading("errors that look right: a length of 33 reduced by the machine's shift to 1")
+    # "a length over the width matches nothing": 255.0.0.0 agrees with the client in one bit.
+    match("right-33-one-bit", "0", CLIENT, "255.0.0.0", 33)
+    match("right-33-other-bit", "0", CLIENT, "1.0.0.0", 33)
+    match("right-33-same", "0", CLIENT, CLIENT, 33)
+    match("right-32-same", "1", CLIENT, CLIENT, 32)
+    match("right-1", "1", CLIENT, "255.0.0.0", 1)
+    match("right-64", "0", CLIENT, CLIENT, 64)
+    match("right-65", "0", CLIENT, "255.0.0.0", 65)
+    match("right-256", "0", CLIENT, CLIENT, 256)
+    match("right-280", "0", CLIENT, CLIENT, 280)
+    match("right-129", "0", "2001:db8::1", "2001:db8::1", 129)
+    match("right-128", "1", "2001:db8::1", "2001:db8::1", 128)
+    match("right-ip6-192", "0", "2001:db8::1", "2001:db8::1", 192)
+    match("right-ip6-65", "1", "2001:db8::1", "2001:db8:0:0:7fff::", 65)
+    match("right-ip6-65-out", "0", "2001:db8::1", "2001:db8:0:0:8000::", 65)
+    check("right-33-check", "6 . 0 0", R("v=spf1 ip4:255.0.0.0/33 ?all"))
+
+    heading("errors that look right: an included fail taken as this record's fail")
+    includes = R("v=spf1 include:i.example ?all")
+
+    def included(label, expected, text):
+        check("right-include-" + label, expected, includes, TXT("i.example", text))
+
+    included("fail", "1 . 1 0", "v=spf1 -all")
+    included("softfail", "1 . 1 0", "v=spf1 ~all")
+    included("neutral", "1 . 1 0", "v=spf1 ?all")
+    included("no-match", "1 . 1 0", "v=spf1")
+    included("pass", "2 . 1 0", "v=spf1 +all")
+    included("permerror", "6 . 1 0", "v=spf1 moo")
+    included("none", "6 . 1 0", "no record")
+    check("right-include-temperror", "5 . 1 0", includes, failed("TXT", "i.example"))
+    # "Fail at the outermost check, or through redirects only, fetches exp": e.example, which is missing, isn't asked.
+    included("fail-exp", "1 . 1 0", "v=spf1 -all exp=e.example")
+    check("right-include-fail-then-fail", "3 . 1 0", R("v=spf1 include:i.example -all"), TXT("i.example", "v=spf1 -all exp=e.example"))
+    check("right-include-pass-minus", "3 . 1 0", R("v=spf1 -include:i.example +all"), TXT("i.example", "v=spf1 +all"))
+    check("right-include-redirect-fail", "1 . 2 0", includes, TXT("i.example", "v=spf1 redirect=r.example"), TXT("r.example", "v=spf1 -all"))
+
+    heading("errors that look right: a redirect to a domain without a record answered neutral")
+    redirects = R("v=spf1 redirect=r.example")
+    check("right-redirect-absent", "6 . 1 0", redirects, absent("TXT", "r.example"))
+    check("right-redirect-empty", "6 . 1 0", redirects, TXT("r.example"))
+    check("right-redirect-other-text", "6 . 1 0", redirects, TXT("r.example", "v=spf10 -all"))
+    # A record without a match is neutral; a failed question is temperror.
+    check("right-redirect-neutral", "1 . 1 0", redirects, TXT("r.example", "v=spf1"))
+    check("right-redirect-failed", "5 . 1 0", redirects, failed("TXT", "r.example"))
+
+    heading("errors that look right: a match found before a later bad term was read")
+    record("right-bad-term", "refused 32 at 12", "v=spf1 +all moo")
+    check("right-bad-term-check", "6 . 0 0", R("v=spf1 +all moo"))
+    check("right-bad-term-ip4", "6 . 0 0", R("v=spf1 ip4:192.0.2.129 ip4:192.0.2.0/33"))
+    check("right-bad-term-redirects", "6 . 0 0", R("v=spf1 +all redirect=a.b redirect=c.d"))
+    check("right-bad-term-nothing-asked", "6 . 0 0", R("v=spf1 a:a.b moo"))
+    check("right-bad-term-included", "6 . 1 0", R("v=spf1 include:i.example +all"), TXT("i.example", "v=spf1 +all moo"))
+
+    heading("errors that look right: over-long names cut by bytes, not labels")
+    # A label of 60 bytes and its dot: 61.
+    label = "y" * 60 + "."
+    check("right-name-253", "7 1 1 0 " + label * 4 + "abcde.com", R("v=spf1 exists:" + label * 4 + "abcde.com -all"))
+    check("right-name-254", "7 1 1 0 " + label * 3 + "abcdef.com", R("v=spf1 exists:" + label * 4 + "abcdef.com -all"))
+    check("right-name-315", "7 1 1 0 " + label * 3 + "abcdef.com", R("v=spf1 exists:" + label * 5 + "abcdef.com -all"))
+    check("right-name-include", "7 16 1 0 " + label * 3 + "abcdef.com", R("v=spf1 include:" + label * 4 + "abcdef.com -all"))
+    check("right-name-redirect", "7 16 1 0 " + label * 3 + "abcdef.com", R("v=spf1 redirect=" + label * 4 + "abcdef.com"))
+    check("right-name-exp", "7 16 0 0 " + label * 3 + "abcdef.com", R("v=spf1 -all exp=" + label * 4 + "abcdef.com"))
+
+
+# The readings, part 1.
+
+
+def part_one():
+    heading("Q1: a term keeps an unknown modifier's name as it stands")
+    term("Q1-name", "7 14 Foo . =Bar . . .", "v=spf1 Foo=Bar", 6)
+
+    heading("Q2: a readable t")
+
+    def seconds(label, expected, t):
+        check("Q2-" + label, expected, FAILS, TXT("e.example", "%{t}"), t=t)
+
+    seconds("leading-zeros", "3 . 0 0 7", "007")
+    seconds("leading-zeros-many", "3 . 0 0 7", "0" * 30 + "7")
+    seconds("zero", "3 . 0 0 0", "0")
+    seconds("zeros", "3 . 0 0 0", "000")
+    seconds("largest", "3 . 0 0 18446744073709551615", "18446744073709551615")
+    seconds("over", "input", "18446744073709551616")
+    seconds("plus", "input", "+7")
+    seconds("blank-before", "input", " 7")
+    seconds("blank-after", "input", "7 ")
+    seconds("minus", "input", "-1")
+    seconds("empty", "input", "")
+    seconds("return", "input", "7\r")
+
+    heading("Q3: lines that are missing")
+    check_input("Q3-t-ends-input", "7 16 0 0 example.com", "192.0.2.129\nexample.com\nu@x\n\n\n7")
+    check_input("Q3-empty-table", "7 16 0 0 example.com", "192.0.2.129\nexample.com\nu@x\n\n\n7\n")
+    check_input("Q3-before-t", "input", "192.0.2.129\nexample.com\nu@x\n\n\n")
+    check_input("Q3-before-helo", "input", "192.0.2.129\nexample.com\nu@x\n")
+    check_input("Q3-nothing", "input", "")
+
+    heading("Q4: a fail with an empty text")
+    check("Q4-empty-text", "3 . 0 0", R("v=spf1 -all"))
+
+    heading("Q5: upper-case R as transformer; escaping depends on the letter only")
+    record("Q5-accepted", "accepted 6", "v=spf1 exists:%{dR}.example")
+    check("Q5-reverses", "7 1 1 0 com.example.example", R("v=spf1 exists:%{dR}.example -all"))
+    expand("Q5-not-escaped", "ok a/b", "%{lR}", sender="a/b@x.y")
+    expand("Q5-escaped", "ok a%2Fb", "%{Lr}", sender="a/b@x.y")
+
+    heading("Q6: over 500 bytes is said of the expanded text")
+    explains("Q6-long-before", "com" * 80, "%{d00000001}" * 80)
+    explains("Q6-long-after", "", "%{d}" * 46)
+    explains("Q6-500", "example.com" * 45 + "12345", "%{d}" * 45 + "12345")
+    explains("Q6-501", "", "%{d}" * 45 + "123456")
+
+    heading("Q7: p's questions of an explanation that is too long anyway")
+    check("Q7-asked", "7 12 0 0 " + REV, FAILS, TXT("e.example", "y" * 501 + "%{p}"))
+    check("Q7-answered", "3 . 0 0", FAILS, TXT("e.example", "y" * 501 + "%{p}"), absent("PTR", REV))
+    check("Q7-outside", "3 . 0 0", FAILS, TXT("e.example", "%{p}%{"))
+    check("Q7-outside-digits", "3 . 0 0", FAILS, TXT("e.example", "%{p}%{d0}"))
+    check("Q7-outside-byte", "3 . 0 0", FAILS, TXT("e.example", b"%{p}\xe9"))
+
+    heading("Q8: ptr's target is made like a question name")
+    target = "x." * 121 + "example.com"
+    shortened = R("v=spf1 ptr:" + "x." * 130 + "%{d} -all")
+    check("Q8-shortened", "2 . 1 0", shortened, PTR(REV, target), A(target, CLIENT))
+    check("Q8-asks", "7 12 1 0 " + REV, shortened)
+    check("Q8-lowered", "2 . 1 0", R("v=spf1 ptr:EXAMPLE.com. -all"), PTR(REV, "h.example.com"), A("h.example.com", CLIENT))
+    # A malformed target doesn't match, counts its term and asks nothing of its own.
+    check("Q8-malformed", "3 . 1 0", R("v=spf1 ptr:a..b -all"))
+
+    heading("Q9: the name is shortened first and the rest is judged")
+    check("Q9-space", "7 1 1 0 " + "x." * 125 + "com", R("v=spf1 exists:%_." + "x." * 130 + "com -all"))
+    check("Q9-empty-label", "7 1 1 0 " + "x." * 125 + "com", R("v=spf1 exists:." + "x." * 130 + "com -all"))
+    check("Q9-long-label", "7 1 1 0 " + "x." * 125 + "com", R("v=spf1 exists:" + "y" * 64 + "." + "x." * 130 + "com -all"))
+    check("Q9-space-stays", "3 . 1 0", R("v=spf1 exists:" + "x." * 130 + "%_.com -all"))
+
+    heading("Q10: the trailing dot is within the 4,096")
+    helo = "y" * 255
+    check("Q10-4097-with-dot", "3 . 1 0", R("v=spf1 exists:" + "%{h}" * 16 + "12345678901x.com. -all"), helo=helo)
+    check("Q10-4096-with-dot", "7 1 1 0 com", R("v=spf1 exists:" + "%{h}" * 16 + "1234567890x.com. -all"), helo=helo)
+    check("Q10-4096", "7 1 1 0 com", R("v=spf1 exists:" + "%{h}" * 16 + "12345678901x.com -all"), helo=helo)
+    check("Q10-4097", "3 . 1 0", R("v=spf1 exists:" + "%{h}" * 16 + "123456789012x.com -all"), helo=helo)
+    # Over 4,096 is a malformed domain for include and redirect, and a malformed case for exp.
+    check("Q10-include", "6 . 1 0", R("v=spf1 include:" + "%{h}" * 16 + "123456789012x.a.com -all"), helo=helo)
+    check("Q10-redirect", "6 . 1 0", R("v=spf1 redirect=" + "%{h}" * 16 + "123456789012x.a.com"), helo=helo)
+    check("Q10-exp", "3 . 0 0", R("v=spf1 -all exp=" + "%{h}" * 16 + "123456789012x.a.com"), helo=helo)
+
+    heading("Q11: include, redirect and exp with a malformed target")
+    check("Q11-include", "6 . 1 0", R("v=spf1 include:a..b -all"))
+    check("Q11-redirect", "6 . 1 0", R("v=spf1 redirect=a..b"))
+    check("Q11-exp", "3 . 0 0", R("v=spf1 -all exp=a..b"))
+    for name in ("a", "mx", "ptr", "exists"):
+        check("Q11-" + name, "3 . 1 0", R(f"v=spf1 {name}:a..b -all"))
+
+    heading("Q12: single-label targets")
+    com = TXT("com", "v=spf1 +all")
+    check("Q12-include", "6 . 1 0", R("v=spf1 include:%{d1} -all"), com)
+    check("Q12-redirect", "6 . 1 0", R("v=spf1 redirect=%{d1}"), com)
+    check("Q12-a", "7 1 1 0 com", R("v=spf1 a:%{d1} -all"))
+    check("Q12-mx", "7 15 1 0 com", R("v=spf1 mx:%{d1} -all"))
+    check("Q12-exists", "7 1 1 0 com", R("v=spf1 exists:%{d1} -all"))
+    check("Q12-ptr", "2 . 1 0", R("v=spf1 ptr:%{d1} -all"), PTR(REV, "x.com"), A("x.com", CLIENT))
+    check("Q12-exp", "7 16 0 0 com", R("v=spf1 -all exp=%{d1}"))
+    check("Q12-exists-p", "7 1 1 0 unknown", R("v=spf1 exists:%{p} -all"), absent("PTR", REV))
+    check("Q12-include-p", "6 . 1 0", R("v=spf1 include:%{p} -all"), absent("PTR", REV), TXT("unknown", "v=spf1 +all"))
+
+    heading("Q13: p's questions of include, redirect and exp")
+    check("Q13-include", "7 12 1 0 " + REV, R("v=spf1 include:%{p}..x.y -all"))
+    check("Q13-include-answered", "6 . 1 0", R("v=spf1 include:%{p}..x.y -all"), absent("PTR", REV))
+    check("Q13-redirect", "7 12 1 0 " + REV, R("v=spf1 redirect=%{p}.x"))
+    check("Q13-redirect-answered", "7 16 1 0 unknown.x", R("v=spf1 redirect=%{p}.x"), absent("PTR", REV))
+    check("Q13-exp", "7 12 0 0 " + REV, R("v=spf1 -all exp=%{p}..x.y"))
+    for name in ("a", "mx", "ptr", "exists"):
+        check("Q13-" + name, "7 12 1 0 " + REV, R(f"v=spf1 {name}:%{{p}}..x.y -all"))
+        check(f"Q13-{name}-answered", "3 . 1 0", R(f"v=spf1 {name}:%{{p}}..x.y -all"), absent("PTR", REV))
+
+    heading("Q14: an MX item is a preference, then a name or nothing")
+    check("Q14-no-bytes", "25 0 0 0", ("MX", 0, "example.com", [b""]), R("v=spf1 mx -all"))
+    check("Q14-one-byte", "25 0 0 0", ("MX", 0, "example.com", [b"\x0a"]), R("v=spf1 mx -all"))
+    check("Q14-two-bytes", "3 . 1 0", ("MX", 0, "example.com", [b"\x0a\x00"]), R("v=spf1 mx -all"))
+
+    heading("Q15: an MX preference is little-endian")
+    check("Q15-order", "7 1 1 0 c.d", R("v=spf1 mx -all"), ("MX", 0, "example.com", [b"\x00\x01a.b", b"\x02\x00c.d"]))
+
+    heading("Q16: the public expansion is the expansion as it is")
+    expand("Q16-not-shortened", "ok " + "x." * 300 + "com", "x." * 300 + "com")
+    expand("Q16-dot-kept", "ok a.b.", "a.b.")
+    expand("Q16-not-lowered", "ok A.Bc", "A.Bc")
+    # 41 is the only limit; the program's buffer has 4,096 bytes.
+    expand("Q16-4096", "ok " + "x." * 2046 + "comm", "x." * 2046 + "comm")
+    expand("Q16-4097", "refused 41", "x." * 2047 + "com")
+
+    heading("Q17: a given p value")
+    expand("Q17-empty", "ok", "%{p}", p="")
+    expand("Q17-given", "ok h.example", "%{p}", p="h.example")
+    expand("Q17-255", "ok example.com", "%{d}", p="p" * 255)
+    expand("Q17-256", "refused 22", "%{d}", p="p" * 256)
+
+    heading("Q18: an SPF entry with items")
+    txt = R("v=spf1 -all")
+    check("Q18-no-record", "0 . 0 0", SPF("example.com", "other"), txt)
+    check("Q18-failed", "3 . 0 0", failed("SPF", "example.com"), txt)
+    check("Q18-absent", "3 . 0 0", absent("SPF", "example.com"), txt)
+    check("Q18-no-items", "3 . 0 0", SPF("example.com"), txt)
+    check("Q18-record", "2 . 0 0", SPF("example.com", "v=spf1 +all"), txt)
+    check("Q18-record-alone", "2 . 0 0", SPF("example.com", "v=spf1 +all"))
+    check("Q18-record-txt-failed", "2 . 0 0", SPF("example.com", "v=spf1 +all"), failed("TXT", "example.com"))
+    check("Q18-records", "6 . 0 0", SPF("example.com", "v=spf1 +all", "v=spf1 +all"), txt)
+    check("Q18-one-of-two", "2 . 0 0", SPF("example.com", "other", "v=spf1 +all"), txt)
+    check("Q18-failed-alone", "7 16 0 0 example.com", failed("SPF", "example.com"))
+    check("Q18-included", "2 . 1 0", R("v=spf1 include:i.example -all"), SPF("i.example", "v=spf1 +all"))
+
+    heading("Q19: ptr asks names outside the target too")
+    check("Q19-asked", "7 1 1 0 x.y", R("v=spf1 ptr -all"), PTR(REV, "x.y"))
+    check("Q19-validated", "3 . 1 0", R("v=spf1 ptr -all"), PTR(REV, "x.y"), A("x.y", CLIENT))
+
+
+# The readings, part 2.
+
+
+def limits():
+    heading("Q21: counts at the limits")
+    other = A("example.com", OTHER)
+    ten = "v=spf1 " + "a " * 10
+    check("Q21-lookups", "6 . 10 0", R("v=spf1 a a a a a a a a a a a -all"), other)
+    check("Q21-lookups-10", "3 . 10 0", R(ten + "-all"), other)
+    for name in ("include:i.example", "mx", "ptr", "exists:a.b", "redirect=r.example"):
+        check("Q21-eleventh-" + name.partition(":")[0].partition("=")[0], "6 . 10 0", R(ten + name), other)
+    check("Q21-eleventh-p", "6 . 10 0", R(ten + "exists:%{p}.x -all"), other)
+    check("Q21-tenth-p", "7 12 10 0 " + REV, R("v=spf1 " + "a " * 9 + "exists:%{p}.x -all"), other)
+    check("Q21-eleventh-matches", "6 . 10 0", R(ten + "a:b.example -all"), other, A("b.example", CLIENT))
+    check("Q21-tenth-matches", "2 . 10 0", R("v=spf1 " + "a " * 9 + "a:b.example -all"), other, A("b.example", CLIENT))
+    nine = TXT("i.example", "v=spf1 " + "a " * 9 + "-all")
+    check("Q21-shared", "6 . 10 0", R("v=spf1 include:i.example a -all"), nine, A("i.example", OTHER), other)
+    check("Q21-shared-10", "3 . 10 0", R("v=spf1 include:i.example -all"), nine, A("i.example", OTHER))
+    check("Q21-in-include", "6 . 10 0", R("v=spf1 include:i.example ?all"), TXT("i.example", ten + "-all"), A("i.example", OTHER))
+    check("Q21-uncounted", "3 . 0 0", R("v=spf1 " + "ip4:10.0.0.1 " * 11 + "ip6:::1 x=y -all"))
+    void = absent("A", "a.b")
+    check("Q21-voids", "6 . 3 3", R("v=spf1 exists:a.b exists:a.b exists:a.b -all"), void)
+    check("Q21-voids-in-include", "6 . 4 3", R("v=spf1 include:i.example ?all"), TXT("i.example", "v=spf1 exists:a.b exists:a.b exists:a.b"), void)
+    check("Q21-voids-shared", "6 . 4 3", R("v=spf1 exists:a.b include:i.example exists:a.b -all"), TXT("i.example", "v=spf1 exists:a.b"), void)
+
+    heading("Q22: counts with 7")
+    check("Q22-a", "7 1 1 0 example.com", R("v=spf1 a -all"))
+    check("Q22-include", "7 16 1 0 i.example", R("v=spf1 include:i.example -all"))
+    check("Q22-redirect", "7 16 1 0 r.example", R("v=spf1 redirect=r.example"))
+    check("Q22-in-include", "7 1 2 0 i.example", R("v=spf1 include:i.example -all"), TXT("i.example", "v=spf1 a -all"))
+    check("Q22-in-redirect", "7 15 2 0 r.example", R("v=spf1 redirect=r.example"), TXT("r.example", "v=spf1 mx -all"))
+    check("Q22-voids", "7 1 2 1 example.com", R("v=spf1 exists:a.b a -all"), void)
+    check("Q22-first", "7 16 0 0 example.com")
+    check("Q22-aaaa", "7 28 1 0 example.com", R("v=spf1 a -all"), client="::1")
+    check("Q22-ptr", "7 12 1 0 " + REV, R("v=spf1 ptr -all"))
+    check("Q22-ptr-ip6", "7 12 1 0 1." + "0." * 23 + "8.b.d.0.1.0.0.2.ip6.arpa", R("v=spf1 ptr -all"), client="2001:db8::1")
+    check("Q22-exists-ip6", "7 1 1 0 a.b", R("v=spf1 exists:a.b -all"), client="::1")
+
+    heading("Q23: voids")
+    a, mx, ptr = R("v=spf1 a -all"), R("v=spf1 mx -all"), R("v=spf1 ptr -all")
+    check("Q23-aaaa-no-items", "3 . 1 1", a, AAAA("example.com"), client="::1")
+    check("Q23-a-no-items", "3 . 1 1", a, A("example.com"))
+    check("Q23-a-absent", "3 . 1 1", a, absent("A", "example.com"))
+    check("Q23-include", "6 . 1 0", R("v=spf1 include:i.example -all"), absent("TXT", "i.example"))
+    check("Q23-redirect", "6 . 1 0", R("v=spf1 redirect=r.example"), absent("TXT", "r.example"))
+    check("Q23-mx", "3 . 1 1", mx, absent("MX", "example.com"))
+    check("Q23-mx-no-items", "3 . 1 1", mx, MX("example.com"))
+    check("Q23-mx-host", "3 . 1 0", mx, MX("example.com", (10, "m.example")), absent("A", "m.example"))
+    check("Q23-ptr", "3 . 1 1", ptr, absent("PTR", REV))
+    check("Q23-ptr-no-items", "3 . 1 1", ptr, PTR(REV))
+    check("Q23-ptr-name", "3 . 1 0", ptr, PTR(REV, "h.example.com"), absent("A", "h.example.com"))
+    check("Q23-ptr-p", "3 . 1 1", R("v=spf1 ptr:%{p}.x -all"), absent("PTR", REV))
+    check("Q23-p", "2 . 1 0", R("v=spf1 exists:%{p}.x -all"), absent("PTR", REV), A("unknown.x", "127.0.0.2"))
+    check("Q23-p-and-own", "3 . 1 1", R("v=spf1 exists:%{p}.x -all"), absent("PTR", REV), absent("A", "unknown.x"))
+    check("Q23-p-name", "3 . 1 1", R("v=spf1 exists:%{p}.x -all"), PTR(REV, "h.y"), absent("A", "h.y"), absent("A", "unknown.x"))
+    check("Q23-failed-a", "5 . 1 0", a, failed("A", "example.com"))
+    check("Q23-failed-mx", "5 . 1 0", mx, failed("MX", "example.com"))
+    check("Q23-failed-exists", "5 . 1 0", R("v=spf1 exists:a.b -all"), failed("A", "a.b"))
+    check("Q23-failed-ptr", "3 . 1 0", ptr, failed("PTR", REV))
+    check("Q23-failed-ptr-name", "3 . 1 0", ptr, PTR(REV, "h.example.com"), failed("A", "h.example.com"))
+    check("Q23-same-entry-twice", "3 . 2 2", R("v=spf1 a a -all"), absent("A", "example.com"))
+    check("Q23-same-entry-thrice", "6 . 3 3", R("v=spf1 a a a -all"), absent("A", "example.com"))
+
+    heading("Q24: mx")
+    nameless = (10, "")
+    hosts = [(10, f"m{n}.example") for n in range(1, 12)]
+    check("Q24-eleven-nameless", "6 . 1 0", mx, MX("example.com", *[nameless] * 11))
+    check("Q24-ten-nameless", "3 . 1 0", mx, MX("example.com", *[nameless] * 10))
+    check("Q24-one-nameless", "3 . 1 0", mx, MX("example.com", nameless))
+    check("Q24-eleven", "6 . 1 0", mx, MX("example.com", *hosts), A("m1.example", CLIENT))
+    others = [A(f"m{n}.example", OTHER) for n in range(1, 10)]
+    check("Q24-ten", "2 . 1 0", mx, MX("example.com", *hosts[:10]), *others, A("m10.example", CLIENT))
+    check("Q24-failed", "5 . 1 0", mx, MX("example.com", (10, "m.example")), failed("A", "m.example"))
+    two = MX("example.com", (20, "b.example"), (10, "a.example"))
+    check("Q24-preference", "7 1 1 0 a.example", mx, two)
+    check("Q24-match-before-failed", "2 . 1 0", mx, two, A("a.example", CLIENT), failed("A", "b.example"))
+    check("Q24-failed-before-match", "5 . 1 0", mx, two, failed("A", "a.example"), A("b.example", CLIENT))
+    check("Q24-tie", "7 1 1 0 b.example", mx, MX("example.com", (10, "b.example"), (10, "a.example")))
+    check("Q24-nameless-first", "7 1 1 0 a.example", mx, MX("example.com", (5, ""), (10, "a.example")))
+
+
+def names():
+    heading("Q25: a name's bytes")
+    for number, name in enumerate(("[192.0.2.1]", "a@b.c", "*.x", "a%2fb.c", "_spf.example.com"), 1):
+        check(f"Q25-domain-{number}", "7 16 0 0 " + name, domain=name)
+    check("Q25-exists", "7 1 1 0 *.~!$.x", R("v=spf1 exists:*.~!$.x -all"))
+
+    heading("Q26: escapes in question names are lowered")
+    check("Q26-lowered", "7 1 1 0 a%2fb.example", R("v=spf1 exists:%{L}.example -all"), sender="a/b@x.y")
+    expand("Q26-public", "ok a%2Fb.example", "%{L}.example", sender="a/b@x.y")
+
+    heading("Q27: the check's own domain isn't shortened")
+    # Three labels of 63 bytes with their dots: 192.
+    front = ("y" * 63 + ".") * 3
+    check("Q27-253", "7 16 0 0 " + front + "y" * 61, domain=front + "y" * 61)
+    check("Q27-253-and-dot", "7 16 0 0 " + front + "y" * 61, domain=front + "y" * 61 + ".")
+    check("Q27-254", "0 . 0 0", domain=front + "y" * 62)
+    check("Q27-254-and-dot", "0 . 0 0", domain=front + "y" * 62 + ".")
+    check("Q27-255", "0 . 0 0", domain=front + "y" * 63)
+    check("Q27-256", "22 . 0 0", domain=front + "y" * 63 + ".")
+    check("Q27-label-63", "7 16 0 0 " + "y" * 63 + ".com", domain="y" * 63 + ".com")
+    check("Q27-label-64", "0 . 0 0", domain="y" * 64 + ".com")
+    for label, name in (("empty", ""), ("dot", "."), ("single-and-dot", "com."), ("single", "com"), ("two-dots", "a.b.."), ("space", "a b.c")):
+        check("Q27-" + label, "0 . 0 0", TXT("com", "v=spf1 +all"), domain=name)
+    check("Q27-25-first", "25 0 0 0", b"\x00", domain="com")
+    check("Q27-26-first", "26 9 0 0", absent("A", "a.b"), absent("A", "a.b"), domain="")
+    check("Q27-d", "3 . 0 0 example.com", FAILS, TXT("e.example", "%{d}"), domain="EXAMPLE.Com.")
+
+    heading("Q28: two trailing dots")
+    check("Q28-a", "3 . 1 0", R("v=spf1 a:%{h} -all"), A("a.b", CLIENT), helo="a.b..")
+    check("Q28-a-one-dot", "7 1 1 0 a.b", R("v=spf1 a:%{h} -all"), helo="a.b.")
+    check("Q28-include", "6 . 1 0", R("v=spf1 include:%{h} -all"), TXT("a.b", "v=spf1 +all"), helo="a.b..")
+    check("Q28-include-one-dot", "2 . 1 0", R("v=spf1 include:%{h} -all"), TXT("a.b", "v=spf1 +all"), helo="a.b.")
+    check("Q28-redirect", "6 . 1 0", R("v=spf1 redirect=%{h}"), TXT("a.b", "v=spf1 +all"), helo="a.b..")
+    check("Q28-exp", "3 . 0 0", R("v=spf1 -all exp=%{h}"), TXT("a.b", "why"), helo="a.b..")
+
+    heading("Q29: shortening can leave a single label")
+    check("Q29-a", "7 1 1 0 com", R("v=spf1 a:" + "y" * 260 + ".com -all"))
+    check("Q29-include", "6 . 1 0", R("v=spf1 include:" + "y" * 260 + ".com -all"), TXT("com", "v=spf1 +all"))
+    check("Q29-one-label", "3 . 1 0", R("v=spf1 a:%{h} -all"), helo="y" * 255)
+    check("Q29-label-64", "3 . 1 0", R("v=spf1 a:" + "y" * 64 + ".com -all"))
+    check("Q29-label-63", "7 1 1 0 " + "y" * 63 + ".com", R("v=spf1 a:" + "y" * 63 + ".com -all"))
+
+    heading("Q30: trailing dots and parts")
+    check("Q30-h1", "3 . 1 0", R("v=spf1 exists:%{h1}.example -all"), helo="mx.example.")
+    check("Q30-h2", "3 . 1 0", R("v=spf1 exists:%{h2}.example -all"), helo="mx.example.")
+    check("Q30-d1", "7 1 1 0 com.example", R("v=spf1 exists:%{d1}.example -all"), domain="example.com.")
+    expand("Q30-public-d1", "ok", "%{d1}", domain="A.B.")
+    expand("Q30-public-d2", "ok B.", "%{d2}", domain="A.B.")
+    expand("Q30-public-d", "ok A.B.", "%{d}", domain="A.B.")
+
+
+def grammar():
+    heading("Q31: how a domain-spec ends")
+    in_grammar("Q31", "exists:a.%%", "a:%_", "a:.com", "a:a..b", "a:a.b.", "exists:%-", "a:%{d}")
+    outside("Q31", "a:%%_", "a:%{d}.", "a:%{d}com", "a:a.b..", "a:example.com:8080", "a:com")
+    check("Q31-percent", "7 1 1 0 a.%", R("v=spf1 exists:a.%% -all"))
+    check("Q31-space", "3 . 1 0", R("v=spf1 a:%_ -all"))
+    check("Q31-20", "7 1 1 0 %20", R("v=spf1 a:%- -all"))
+    check("Q31-empty-first", "3 . 1 0", R("v=spf1 a:.com -all"))
+    check("Q31-empty-middle", "3 . 1 0", R("v=spf1 a:a..b -all"))
+
+    heading("Q32: slashes")
+    term("Q32-within", "7 15 a + :a/24.c 32 128 .", "v=spf1 a:a/24.c", 6)
+    term("Q32-within-and-length", "7 18 a + :x.y/1.z 8 128 .", "v=spf1 a:x.y/1.z/8", 6)
+    outside("Q32", "a:a.b/", "a/24/64")
+    check("Q32-asks", "7 1 1 0 a/24.c", R("v=spf1 a:a/24.c -all"))
+    check("Q32-length-8", "2 . 1 0", R("v=spf1 a:x.y/1.z/8 -all"), A("x.y/1.z", "192.255.255.255"))
+
+    heading("Q33: the version")
+    record("Q33-letters", "accepted 6", "v=SpF1")
+    record("Q33-leading-space", "refused 31 at 0", " v=spf1")
+    record("Q33-tab", "refused 31 at 0", "v=spf1\t-all")
+    record("Q33-followed", "refused 31 at 0", "v=spf1-all")
+    record("Q33-twice", "accepted 6", "v=spf1 v=spf1")
+    term("Q33-twice-term", "7 13 v . =spf1 . . .", "v=spf1 v=spf1", 6)
+    check("Q33-letters-check", "3 . 0 0", R("V=sPf1 -all"))
+    for label, text in (("leading-space", " v=spf1 -all"), ("tab", "v=spf1\t-all"), ("followed", "v=spf1-all"), ("empty", "")):
+        check(f"Q33-{label}-check", "0 . 0 0", R(text))
+        check(f"Q33-{label}-beside", "3 . 0 0", R(text, "v=spf1 -all"))
+    check("Q33-several", "6 . 0 0", R("v=spf1 -all", "V=SPF1"))
+    check("Q33-several-bad", "6 . 0 0", R("v=spf1 moo", "v=spf1 -all"))
+
+    heading("Q34: unknown modifiers")
+    in_grammar("Q34", "x=", "a-b_c.9=y", "redirect.=x", "exp-=x", "x=%{c}%{r}%{t}", "X=%{C}")
+    outside("Q34", "=x", "1x=y", "REDIRECT=x", "x=%{d0}", "exp=%{c}", "redirect=%{r}", "exists:%{t}.x", "Exp=", "x=a%", "x!=y", "exp=%{t}", "redirect=%{c}")
+    expand("Q34-public", "refused 40", "%{c}")
+    expand("Q34-public-explanation", "ok 192.0.2.129", "%{c}", form="explanation")
+    check("Q34-ignored", "3 . 0 0", R("v=spf1 redirect.=r.example exp-=e.example x= -all"))
+
+    heading("Q35: 33 against 32 at one place")
+    record("Q35-32", "refused 32 at 15", "v=spf1 exp=a.b exp=foo")
+    record("Q35-33", "refused 33 at 15", "v=spf1 exp=a.b exp=c.d")
+    record("Q35-33-first", "refused 33 at 15", "v=spf1 exp=a.b exp=c.d moo")
+    record("Q35-32-first", "refused 32 at 7", "v=spf1 moo exp=a.b exp=c.d")
+
+    heading("Q36: reading one term")
+    text = "v=spf1 -all  mx//64"
+    term("Q36-first", "7 11 all - . . . .", text, 6)
+    term("Q36-at-its-place", "7 11 all - . . . .", text, 7)
+    term("Q36-in-term", "8 11 all + . . . .", text, 8)
+    term("Q36-in-name", "refused 32 at 9", text, 9)
+    term("Q36-spaces", "13 19 mx + . 32 64 .", text, 11)
+    term("Q36-version", "0 6 v . =spf1 . . .", text, 0)
+    term("Q36-end", "end", text, 19)
+    term("Q36-trailing", "end", "v=spf1  ", 6)
+    term("Q36-beyond", "refused 34 at 20", text, 20)
+    term("Q36-far-beyond", "refused 34 at 18446744073709551615", text, 18446744073709551615)
+    term("Q36-no-31", "0 3 all + . . . .", "all", 0)
+    term("Q36-no-33", "8 15 exp . =c.d . . .", "exp=a.b exp=c.d", 7)
+    term("Q36-30-first", "refused 30 at 0", "x" * 4097, 4098)
+
+
+def tables():
+    heading("Q37: 25 and 26")
+    # This entry has 2 + 2 + 1 + 1 + 11 + 2 + 11 = 30 bytes; an absent a.b has 2 + 2 + 1 + 1 + 3 = 9.
+    first, void = R("v=spf1 -all"), absent("A", "a.b")
+    check("Q37-well-formed", "3 . 0 0", first, void)
+    check("Q37-left-over", "25 30 0 0", first, b"\x00")
+    check("Q37-left-over-later", "25 39 0 0", first, void, b"\x07")
+    check("Q37-beyond-end", "25 30 0 0", first, entry(*void)[:-1])
+    check("Q37-longer-length", "25 30 0 0", first, b"\x08\x00" + entry(*void)[2:])
+    check("Q37-26", "26 39 0 0", first, void, first)
+    check("Q37-26-other-answer", "26 30 0 0", first, absent("TXT", "example.com"))
+    check("Q37-other-kind", "3 . 0 0", first, void, absent("AAAA", "a.b"))
+    check("Q37-second-malformed", "25 30 0 0", first, ("TXT", 1, "example.com", []))
+    check("Q37-26-then-25", "26 30 0 0", first, first, b"\x00")
+    check("Q37-25-then-26", "25 30 0 0", first, ("A", 1, "a.b", []), first)
+    # 512 entries of 9 bytes: 4,608.
+    many = [absent("A", f"{n:03}") for n in range(512)]
+    check("Q37-512", "7 16 0 0 example.com", *many)
+    check("Q37-513th", "25 4608 0 0", *many, absent("A", "512"))
+    check("Q37-513th-pair", "25 4608 0 0", *many, many[0])
+    check("Q37-513th-byte", "25 4608 0 0", *many, b"\x00")
+    check("Q37-512-second-of-pair", "26 4599 0 0", *many[:511], many[0])
+    malformed = (
+        ("name-upper", ("A", 3, "A.b", [])),
+        ("name-dot", ("A", 3, "a.b.", [])),
+        ("name-empty", ("A", 3, "", [])),
+        ("name-space", ("A", 3, "a b", [])),
+        ("name-label-64", ("A", 3, "y" * 64 + ".b", [])),
+        ("name-254", ("A", 3, ("y" * 63 + ".") * 3 + "y" * 62, [])),
+        ("ptr-upper", ("PTR", 0, "a.b", ["A.b"])),
+        ("ptr-dot", ("PTR", 0, "a.b", ["a.b."])),
+        ("ptr-empty", ("PTR", 0, "a.b", [""])),
+        ("mx-upper", ("MX", 0, "a.b", [b"\x0a\x00A.b"])),
+        ("mx-dot", ("MX", 0, "a.b", [b"\x0a\x00a.b."])),
+        ("failed-items", ("A", 2, "a.b", [b"\x0a\x00\x00\x01"])),
+        ("absent-items", ("A", 3, "a.b", [b"\x0a\x00\x00\x01"])),
+        ("kind", (2, 0, "a.b", [])),
+        ("status", ("A", 1, "a.b", [])),
+        ("status-4", ("A", 4, "a.b", [])),
+        ("a-3", ("A", 0, "a.b", [b"\x0a\x00\x00"])),
+        ("aaaa-4", ("AAAA", 0, "a.b", [b"\x0a\x00\x00\x01"])),
+        ("text-4097", ("TXT", 0, "a.b", ["y" * 4097])),
+    )
+    for label, one in malformed:
+        check("Q37-" + label, "25 30 0 0", first, one)
+    # An item whose length of 5 goes beyond its entry.
+    check("Q37-item-beyond", "25 30 0 0", first, b"\x09\x00\x10\x00\x00\x03a.b\x05\x00")
+    check("Q37-text-4096", "3 . 0 0", first, TXT("a.b", "y" * 4096))
+    # The empty table has 0 bytes; 65,535 zero bytes are a malformed entry, 65,536 too long a table, which has no place.
+    lent("Q37-65535", "25 0 0 0", zeros=65535)
+    lent("Q37-65535-later", "25 30 0 0", first, zeros=65505)
+    lent("Q37-65536", "24 . 0 0", zeros=65536)
+    lent("Q37-65536-later", "24 . 0 0", first, zeros=65506)
+
+
+def explanations():
+    heading("Q38: exp")
+    why = TXT("e.example", "why")
+    check("Q38-spf-entry", "7 16 0 0 e.example", FAILS, SPF("e.example", "why"))
+    check("Q38-spf-and-txt", "3 . 0 0 why", FAILS, SPF("e.example", "no"), why)
+    explains("Q38-any-text", "any words, 192.0.2.129", "any words, %{i}")
+    explains("Q38-version", "v=spf1 -all", "v=spf1 -all")
+    check("Q38-two", "3 . 0 0", FAILS, TXT("e.example", "why", "no"))
+    check("Q38-two-equal", "3 . 0 0", FAILS, TXT("e.example", "why", "why"))
+    check("Q38-empty-item", "3 . 0 0", FAILS, TXT("e.example", ""))
+    check("Q38-no-items", "3 . 0 0", FAILS, TXT("e.example"))
+    check("Q38-absent", "3 . 0 0", FAILS, absent("TXT", "e.example"))
+    check("Q38-failed", "3 . 0 0", FAILS, failed("TXT", "e.example"))
+    explains("Q38-outside", "", "100%")
+    explains("Q38-byte", "", b"caf\xe9")
+    explains("Q38-tab", "", "a\tb")
+    explains("Q38-c-r-t", "192.0.2.129 unknown 7", "%{c} %{r} %{t}")
+    explains("Q38-percents", "%   %20", "%% %_ %-")
+    redirects, fails = R("v=spf1 redirect=r.example"), TXT("r.example", "v=spf1 -all exp=e.example")
+    check("Q38-redirected-d", "3 . 1 0 r.example", redirects, fails, TXT("e.example", "%{d}"))
+    check("Q38-redirected-missing", "7 16 1 0 e.example", redirects, fails)
+    check("Q38-redirecting-exp", "3 . 1 0", R("v=spf1 redirect=r.example exp=e.example"), TXT("r.example", "v=spf1 -all"), why)
+    check("Q38-exp-of-each", "3 . 1 0 why", R("v=spf1 exp=f.example redirect=r.example"), fails, why, TXT("f.example", "no"))
+    check("Q38-target-d", "7 16 1 0 x.r.example", redirects, TXT("r.example", "v=spf1 -all exp=x.%{d}"))
+    check("Q38-before", "3 . 0 0 why", R("v=spf1 exp=e.example -all"), why)
+    check("Q38-after", "3 . 0 0 why", FAILS, why)
+    matches = TXT("i.example", "v=spf1 +all exp=f.example")
+    check("Q38-include-matches", "3 . 1 0 why", R("v=spf1 -include:i.example exp=e.example"), matches, why)
+    check("Q38-included-fail", "3 . 1 0", R("v=spf1 include:i.example -all"), TXT("i.example", "v=spf1 -all exp=e.example"))
+    check("Q38-counts", "3 . 1 1 why", R("v=spf1 a -all exp=e.example"), absent("A", "example.com"), why)
+    check("Q38-void-uncounted", "3 . 2 2", R("v=spf1 a a -all exp=e.example"), absent("A", "example.com"), absent("TXT", "e.example"))
+    for sign, number in (("+", 2), ("?", 1), ("~", 4)):
+        check(f"Q38-not-for-{number}", f"{number} . 0 0", R(f"v=spf1 {sign}all exp=e.example"))
+    check("Q38-order-p-target", "7 12 0 0 " + REV, R("v=spf1 -all exp=%{p}.x"))
+    check("Q38-order-p-name", "7 1 0 0 h.y", R("v=spf1 -all exp=%{p}.x"), PTR(REV, "h.y"))
+    check("Q38-order-txt", "7 16 0 0 h.y.x", R("v=spf1 -all exp=%{p}.x"), PTR(REV, "h.y"), A("h.y", CLIENT))
+    check("Q38-order-p-text", "7 12 0 0 " + REV, FAILS, TXT("e.example", "%{p}"))
+    check("Q38-order-p-text-name", "7 1 0 0 h.y", FAILS, TXT("e.example", "%{p}"), PTR(REV, "h.y"))
+    check("Q38-p-text", "3 . 0 0 h.y", FAILS, TXT("e.example", "%{p}"), PTR(REV, "h.y"), A("h.y", CLIENT))
+
+
+def clients():
+    heading("Q39: IPv4-mapped clients")
+    mapped, low = "::ffff:192.0.2.129", "::192.0.2.129"
+    check("Q39-mapped-ip6", "3 . 0 0", R("v=spf1 ip6:::ffff:192.0.2.129 -all"), client=mapped)
+    check("Q39-mapped-ip6-0", "3 . 0 0", R("v=spf1 ip6:::/0 -all"), client=mapped)
+    check("Q39-mapped-ip4", "2 . 0 0", R("v=spf1 ip4:192.0.2.129 -all"), client=mapped)
+    check("Q39-mapped-a", "7 1 1 0 example.com", R("v=spf1 a -all"), client=mapped)
+    check("Q39-mapped-ptr", "7 12 1 0 " + REV, R("v=spf1 ptr -all"), client=mapped)
+    explains("Q39-mapped-macros", "192.0.2.129 192.0.2.129 in-addr", "%{c} %{i} %{v}", client=mapped)
+    check("Q39-low-ip4", "3 . 0 0", R("v=spf1 ip4:192.0.2.129 -all"), client=low)
+    check("Q39-low-ip6", "2 . 0 0", R("v=spf1 ip6:::192.0.2.129 -all"), client=low)
+    check("Q39-low-a", "7 28 1 0 example.com", R("v=spf1 a -all"), client=low)
+    expand("Q39-public", "ok 192.0.2.129.in-addr", "%{i}.%{v}", client=mapped)
+    expand("Q39-public-c", "ok 192.0.2.129", "%{c}", form="explanation", client=mapped)
+    expand("Q39-public-low", "ok 0:0:0:0:0:0:c000:281 ip6", "%{c} %{v}", form="explanation", client=low)
+
+    heading("Q40: ip6 texts")
+    in_grammar("Q40", "ip6:0db8::", "ip6:ABCD::EF", "ip6:1:2:3:4:5:6:7::", "ip6:::1:2:3:4:5:6:7", "ip6:1:2:3:4:5::1.2.3.4", "ip6:::", "ip6:::1.2.3.4")
+    outside("Q40", "ip6:00db8::", "ip6:1:2:3:4:5:6::1.2.3.4", "ip6:::1.2.3.04", "ip6:1.2.3.4", "ip6:fe80::1%eth0", "ip6:[::1]", "ip6:1::2::3")
+    term("Q40-letters", "7 19 ip6 + :ABCD::EF . 128 abcd" + "0" * 24 + "00ef", "v=spf1 ip6:ABCD::EF", 6)
+    term("Q40-host-bits", "7 25 ip4 + :192.0.2.129 24 . c0000281", "v=spf1 ip4:192.0.2.129/24", 6)
+    unreadable = ("[::1]", "fe80::1%eth0", "192.0.2", "192.0.2.0129", "", "192.0.2.129/32", "1:2:3:4:5:6:7:8::")
+    for number, client in enumerate(unreadable, 1):
+        check(f"Q40-client-{number}", "input", R("v=spf1 -all"), client=client)
+    check("Q40-client-letters", "2 . 0 0", R("v=spf1 ip6:abcd::EF -all"), client="ABCD::ef")
+    check("Q40-client-eight", "2 . 0 0", R("v=spf1 ip6:1:2:3:4:5:6:7:: -all"), client="1:2:3:4:5:6:7:0")
+
+
+def values():
+    heading("Q41: senders")
+    shown = "<%{s}> <%{l}> <%{o}>"
+    explains("Q41-no-local", "<postmaster@x.y> <postmaster> <x.y>", shown, sender="x.y")
+    explains("Q41-empty-local", "<postmaster@x.y> <postmaster> <x.y>", shown, sender="@x.y")
+    explains("Q41-empty-domain", "<u@> <u> <>", shown, sender="u@")
+    explains("Q41-last-at", "<a@b@c.d> <a@b> <c.d>", shown, sender="a@b@c.d")
+    explains("Q41-space", "<a b@x.y> <a b> <x.y>", shown, sender="a b@x.y")
+    check("Q41-empty-domain-exists", "3 . 1 0", R("v=spf1 exists:%{o}.x -all"), sender="u@")
+    check("Q41-space-exists", "3 . 1 0", R("v=spf1 exists:%{l}.x -all"), sender="a b@x.y")
+    check("Q41-none", "20 . 0 0", FAILS, sender="")
+    check("Q41-320", "3 . 0 0", R("v=spf1 -all"), sender="u" * 308 + "@example.com")
+    check("Q41-321", "20 . 0 0", R("v=spf1 -all"), sender="u" * 309 + "@example.com")
+    check("Q41-byte-127", "20 . 0 0", R("v=spf1 -all"), sender="\x7f@example.com")
+    check("Q41-byte-31", "20 . 0 0", R("v=spf1 -all"), sender="\x1f@example.com")
+
+    heading("Q42: HELO and receiver")
+    check("Q42-empty-helo", "3 . 2 0", R("v=spf1 a:%{h} exists:%{h}.x -all"), helo="")
+    explains("Q42-h", "<>", "<%{h}>", helo="")
+    explains("Q42-r-empty", "unknown unknown unknown unknown", "%{r} %{rr} %{r1} %{R}")
+    explains("Q42-r", "b.a/c a/c.b a/c b.a%2Fc", "%{r} %{rr} %{r1} %{R}", receiver="b.a/c")
+    check("Q42-helo-255", "3 . 0 0", R("v=spf1 -all"), helo="y" * 255)
+    check("Q42-helo-256", "21 . 0 0", R("v=spf1 -all"), helo="y" * 256)
+    check("Q42-helo-space", "21 . 0 0", R("v=spf1 -all"), helo="a b")
+    check("Q42-receiver-256", "21 . 0 0", R("v=spf1 -all"), receiver="y" * 256)
+    check("Q42-receiver-space", "21 . 0 0", R("v=spf1 -all"), receiver="a b")
+
+    heading("Q43: splitting")
+    explains("Q43-empty-parts", "a..b", "%{l+}", sender="a++b@x.y")
+    check("Q43-empty-parts-exists", "3 . 1 0", R("v=spf1 exists:%{l+}.x -all"), sender="a++b@x.y")
+    explains("Q43-dot-unlisted", "example.com", "%{d1-}")
+    expand("Q43-dot-unlisted-list", "ok b.c", "%{d1-}", domain="a-b.c")
+    expand("Q43-dot-listed", "ok c", "%{d1-.}", domain="a-b.c")
+    expand("Q43-all-listed", "ok a.b.c", "%{d-.}", domain="a-b.c")
+    explains("Q43-many", "example.com", "%{d99999999999999999999}")
+    explains("Q43-zeros", "com", "%{d" + "0" * 40 + "1}")
+    # 2^64 + 1 and 2^32 + 1 take all parts.
+    explains("Q43-2-64-and-1", "example.com", "%{d18446744073709551617}")
+    explains("Q43-2-32-and-1", "example.com", "%{d4294967297}")
+
+
+def terms():
+    heading("Q44: redirect and all")
+    check("Q44-before", "3 . 0 0", R("v=spf1 redirect=r.example -all"))
+    check("Q44-after", "3 . 0 0", R("v=spf1 -all redirect=r.example"))
+    check("Q44-neutral", "1 . 0 0", R("v=spf1 redirect=r.example ?all"))
+    check("Q44-other-match", "2 . 0 0", R("v=spf1 redirect=r.example ip4:192.0.2.129"))
+    check("Q44-used", "7 16 1 0 r.example", R("v=spf1 redirect=r.example ip4:10.0.0.1"))
+
+    heading("Q45: p")
+    exists = R("v=spf1 exists:%{p}.x -all")
+    own = A("example.com", CLIENT)
+    check("Q45-all-asked", "7 1 1 0 other.example", exists, PTR(REV, "example.com", "other.example"), own)
+    check("Q45-in-order", "7 1 1 0 z.y", exists, PTR(REV, "z.y", "example.com"))
+    # z.y, m.example.com and n.example.com are validated.
+    z, below = A("z.y", CLIENT), [A("m.example.com", OTHER, CLIENT), A("n.example.com", CLIENT)]
+    check("Q45-current", "7 1 1 0 example.com.x", exists, PTR(REV, "z.y", "m.example.com", "example.com"), z, *below, own)
+    check("Q45-below", "7 1 1 0 m.example.com.x", exists, PTR(REV, "z.y", "m.example.com", "n.example.com"), z, *below)
+    check("Q45-not-below", "7 1 1 0 z.y.x", exists, PTR(REV, "z.y", "mexample.com"), z, A("mexample.com", CLIENT))
+    check("Q45-first", "7 1 1 0 z.y.x", exists, PTR(REV, "w.y", "z.y", "b.c"), A("w.y", OTHER), z, A("b.c", CLIENT))
+    check("Q45-unvalidated", "7 1 1 0 unknown.x", exists, PTR(REV, "example.com"), A("example.com", OTHER))
+    check("Q45-failed", "7 1 1 0 b.c.x", exists, PTR(REV, "example.com", "b.c"), failed("A", "example.com"), A("b.c", CLIENT))
+    check("Q45-failed-ptr", "7 1 1 0 unknown.x", exists, failed("PTR", REV))
+    included = TXT("i.example", "v=spf1 exists:%{p}.x -all")
+    names_of_both = PTR(REV, "example.com", "i.example")
+    check("Q45-included", "7 1 2 0 i.example.x", R("v=spf1 include:i.example -all"), included, names_of_both, own, A("i.example", CLIENT))
+    ten, tens = [f"n{n}.y" for n in range(10)], [A(f"n{n}.y", OTHER) for n in range(9)]
+    check("Q45-eleventh", "7 1 1 0 unknown.x", exists, PTR(REV, *ten, "example.com"), *tens, A("n9.y", OTHER))
+    check("Q45-eleventh-answered", "7 1 1 0 unknown.x", exists, PTR(REV, *ten, "example.com"), *tens, A("n9.y", OTHER), own)
+    check("Q45-tenth", "7 1 1 0 n9.y.x", exists, PTR(REV, *ten, "example.com"), *tens, A("n9.y", CLIENT))
+    check("Q45-tenth-asked", "7 1 1 0 n9.y", exists, PTR(REV, *ten, "example.com"), *tens)
+    check("Q45-ip6", "7 28 1 0 z.y", exists, PTR("1." + "0." * 23 + "8.b.d.0.1.0.0.2.ip6.arpa", "z.y"), client="2001:db8::1")
+    # ptr, other than p, asks until one matches, of the first 10 names.
+    ptr = R("v=spf1 ptr -all")
+    check("Q45-ptr-until", "2 . 1 0", ptr, PTR(REV, "m.example.com", "other.example"), A("m.example.com", CLIENT))
+    check("Q45-ptr-eleventh", "3 . 1 0", ptr, PTR(REV, *ten, "example.com"), *tens, A("n9.y", OTHER), own)
+
+    heading("Q46: a later SPF entry may change a decided result")
+    check("Q46-before", "3 . 0 0", R("v=spf1 -all"))
+    check("Q46-after", "2 . 0 0", R("v=spf1 -all"), SPF("example.com", "v=spf1 +all"))
+
+
+# The readings, part 3.
+
+
+def edges():
+    heading("Q47: limits of lines and records")
+    record("Q47-4096", "accepted 6", "v=spf1" + " " * 4090)
+    record("Q47-4097", "refused 30 at 0", "v=spf1" + " " * 4091)
+    record("Q47-4097-no-version", "refused 30 at 0", "x" * 4097)
+    check("Q47-client", "input", R("v=spf1 -all"), client="0" * 100)
+
+    heading("Q48: an unreadable client or t wins over 20 to 26")
+    check("Q48-client-20", "input", client="x", sender="")
+    check("Q48-t-22", "input", t="x", domain="y" * 256)
+    check("Q48-client-25", "input", b"\x00", client="x")
+    check("Q48-t-26", "input", absent("A", "a.b"), absent("A", "a.b"), t="x")
+    lent("Q48-t-24", "input", t="x", zeros=65536)
+
+    heading("Q49: only byte 10 ends a line")
+    record("Q49-record", "refused 32 at 7", "v=spf1 a\r")
+    record("Q49-newline", "refused 31 at 0", "v=spf1\n")
+    check("Q49-client", "input", R("v=spf1 -all"), client="192.0.2.129\r")
+    check("Q49-domain", "0 . 0 0", R("v=spf1 -all"), domain="example.com\r")
+    check("Q49-sender", "20 . 0 0", R("v=spf1 -all"), sender="user@example.com\r")
+    check("Q49-helo", "21 . 0 0", R("v=spf1 -all"), helo="helo.example\r")
+    check("Q49-receiver", "21 . 0 0", R("v=spf1 -all"), receiver="\r")
+
+    heading("Q50: an absent argument and an empty value")
+    term("Q50-absent", "7 8 a + . 32 128 .", "v=spf1 a x=", 6)
+    term("Q50-empty", "9 11 x . = . . .", "v=spf1 a x=", 8)
+
+    heading("Q51: the end and 24 have no place")
+    term("Q51-end", "end", "v=spf1 a", 8)
+    lent("Q51-24", "24 . 0 0", zeros=65536)
+
+    heading("Q52: lent buffers")
+    long_text = [FAILS, TXT("e.example", "%{d}" * 45 + "123456")]
+    lent("Q52-name-252", "23 . 0 0", R("v=spf1 -all"), name=252)
+    lent("Q52-text-499", "23 . 0 0", R("v=spf1 -all"), text=499)
+    lent("Q52-none", "23 . 0 0", R("v=spf1 -all"), name=0, text=0)
+    lent("Q52-least", "3 . 0 0", R("v=spf1 -all"))
+    lent("Q52-larger", "3 . 0 0", *long_text, name=1000, text=1000)
+    lent("Q52-larger-name", "7 16 0 0 example.com", name=1000, text=1000)
+
+    heading("the order of 20 to 26")
+    bad = {"sender": "", "helo": "a b", "domain": "y" * 256, "name": 252, "zeros": 65536}
+    for number, good in ((20, None), (21, "sender"), (22, "helo"), (23, "domain"), (24, "name"), (25, "zeros")):
+        bad.pop(good, None)
+        lent(f"order-{number}", f"{number} {'0' if number == 25 else '.'} 0 0", b"\x00", **bad)
+
+
+def main():
+    heading("the cases of 01's sections `Both sides of each line` and `Errors that look right`, and of the readings")
+    for section in (both_sides, look_right, part_one, limits, names, grammar, tables, explanations, clients, values, terms, edges):
+        section()
+    need(all(line.isascii() for line in given + printed), "a line is not ASCII")
+    (CRATE / "stdin").write_text("\n".join(given) + "\n", encoding="ascii")
+    (CRATE / "stdout").write_text("\n".join(printed) + "\n", encoding="ascii")
+    print(len(labels), "cases")
+
+
+if __name__ == "__main__":
+    main()
