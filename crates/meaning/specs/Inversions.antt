@@ -18,7 +18,8 @@ use Rattle.meaning.specs.declared.Span.{Span}
 use Rattle.meaning.specs.declared.Lookup.{Lookup}
 use Rattle.meaning.specs.declared.Checked.{Checked}
 use Rattle.meaning.specs.declared.Explained.{Explained}
-use Rattle.meaning.specs.Tree.{Table, Check, Settled, settled, wanting, bind, then, run, run-bind}
+use Rattle.meaning.specs.Tree.{Table, Check, Settled, settled, wanting, bind, run}
+use Rattle.meaning.specs.Runs.{bind-wants}
 use Rattle.meaning.specs.Mechanisms.{Match, yes, no, stop, Step}
 use Rattle.meaning.specs.Evaluation.{Result, Selection, ends, one}
 use Rattle.meaning.specs.Outcomes.{wantedBuffer, matchedOf, steppedOf, SaysStep, TargetIs, SaysTarget, PIs, SaysP, spanOf, LookupIs, SaysLookup, failingOf, CheckedIs, Says, ExplainedIs, textBuffer, SaysText}
@@ -38,13 +39,7 @@ pub record Gives {A : Type 0} (x : Settled A) (a : A) (before after : List ℕ) 
 -- what is wanted before a check goes on is wanted
 pub wants-bind : {A B : Type 0} (t : Table) (m : Check A) (f : A → Check B) (kind size : ℕ) (c : Counts) (b a : List ℕ)
     → Wants (run t m) kind size c b a → Wants (run t (bind m f)) kind size c b a
-unfolding then
-wants-bind t m f kind size c b a w = record { asked = w .asked; is = run-bind t m f ∙ rw (w .is); size-is = w .size-is; buffer = w .buffer }
-
--- a check that goes on with what the first one gives
-pub gives-bind : {A B : Type 0} (t : Table) (m : Check A) (f : A → Check B) (x : A) → run t m ≡ settled x → run t (bind m f) ≡ run t (f x)
-unfolding then
-gives-bind t m f x e = run-bind t m f ∙ rw e
+wants-bind t m f kind size c b a w = record { asked = w .asked; is = bind-wants t m f kind (w .asked) c (w .is); size-is = w .size-is; buffer = w .buffer }
 
 -- a term
 pub step-yes : (x : Settled Step) (r : Stepped) (b a : List ℕ) → SaysStep x r b a → r .matched ≡ Matched.Yes → Gives x (record { match = yes; counts = r .counts }) b a

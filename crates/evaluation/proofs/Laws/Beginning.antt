@@ -33,7 +33,8 @@ use Rattle.meaning.specs.Tables.{asks}
 use Rattle.meaning.specs.Mechanisms.{Mail, Match, yes, no, stop, Step, target, begun, counting}
 use Rattle.meaning.specs.Evaluation.{Result, Sub, Selection, ends, one, ended, checkTarget, begunCheck, includeMatch, includeOf, includeStep, termStep, noneIsPermerror, redirectOf, noMatch, tryTerms, termsOf, readOutcome, recordLookup, afterLookup, checkName, check}
 use Rattle.meaning.specs.Outcomes.{wantedBuffer, matchedOf, steppedOf, SaysStep, SaysTarget, spanOf, SaysLookup, failingOf, CheckedIs, Says}
-use Rattle.meaning.specs.Inversions.{Gives, Wants, gives-bind, wants-bind, says-gives, says-wants, target-name, target-malformed, target-wants, lookup-ends, lookup-one, lookup-wants, checked-result, checked-wants, gives-says, wants-says}
+use Rattle.meaning.specs.Runs.{bind-is}
+use Rattle.meaning.specs.Inversions.{Gives, Wants, wants-bind, says-gives, says-wants, target-name, target-malformed, target-wants, lookup-ends, lookup-one, lookup-wants, checked-result, checked-wants, gives-says, wants-says}
 use Rattle.selection.specs.declared.modifiers.Modifier.{Modifier}
 use Rattle.mechanisms.specs.declared.Tried.{Tried}
 use Rattle.selection.specs.Modifiers.{ModifierIs}
@@ -73,7 +74,7 @@ module _ (t : List ℕ) (mail : Mail) (d spec : List ℕ) (c : Counts) (o : Chec
     unfolding checkTarget
     begin-malformed q e n k =
         let g = target-malformed (begun c) _ r to b a here q in
-        rw (begun-is (check n mail) h, gives-bind (asks t) (target mail d spec (begun c)) (λ x. check n mail x (begun c)) malformed (g .is), ← g .kept) (none-below n k e)
+        rw (begun-is (check n mail) h, bind-is (asks t) (target mail d spec (begun c)) (λ x. check n mail x (begun c)) malformed (g .is), ← g .kept) (none-below n k e)
 
     pub begin-wants : (kind m : ℕ) → r ≡ Target.Wanting kind m → o ≡ wantingOf kind m (begun c) → (n : ℕ) → 10 ≤ n + c .lookups
         → Says t (run (asks t) (begunCheck mail (check n mail) d spec c)) o b a
@@ -89,7 +90,7 @@ module _ (t : List ℕ) (mail : Mail) (d spec : List ℕ) (c : Counts) (o : Chec
     checked-below m q e z i n g =
         let l = target-name (begun c) _ r to b a here m q .0 in
         let j : e ≡ take m to = i ∙ front-part to m in
-        rw (begun-is (check (suc n) mail) h, gives-bind (asks t) (target mail d spec (begun c)) (λ x. check (suc n) mail x (begun c)) (name (take m to)) (l .is), ← j, ← l .kept) g
+        rw (begun-is (check (suc n) mail) h, bind-is (asks t) (target mail d spec (begun c)) (λ x. check (suc n) mail x (begun c)) (name (take m to)) (l .is), ← j, ← l .kept) g
 
     pub begin-checked : (m : ℕ) → r ≡ Target.Name m → (e z : List ℕ) → e ≡ part to 0 m
         → ((k : ℕ) → 10 ≤ k + begun c .lookups → Says t (run (asks t) (check (suc k) mail (name e) (begun c))) o a z)

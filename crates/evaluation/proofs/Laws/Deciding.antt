@@ -36,7 +36,8 @@ use Rattle.meaning.specs.Tables.{asks}
 use Rattle.meaning.specs.Mechanisms.{Mail}
 use Rattle.meaning.specs.Evaluation.{Result, ended, checkName, check, noCounts, evaluation, explanation, Verdict, verdict}
 use Rattle.meaning.specs.Outcomes.{mailOf, wantedBuffer, TargetIs, failingOf, CheckedIs, Says as CheckSays, SaysText}
-use Rattle.meaning.specs.Inversions.{Gives, Wants, gives-bind, wants-bind, target-name, checked-result, checked-wants, text-written, text-wants}
+use Rattle.meaning.specs.Runs.{bind-is}
+use Rattle.meaning.specs.Inversions.{Gives, Wants, wants-bind, target-name, checked-result, checked-wants, text-written, text-wants}
 use Rattle.targets.proofs.Laws.Naming.{Short, name-short, naming-written, naming-malformed}
 use Rattle.evaluation.specs.declared.Answer.{Answer}
 use Rattle.evaluation.specs.Checks.{endedOf}
@@ -114,7 +115,7 @@ module _ (t : List ℕ) (mail : Mail) (domain : List ℕ) (b a : List ℕ) (o : 
     explained-is : run (asks t) (verdict mail domain)
         ≡ run (asks t) (bind (explanation mail (failingOf t (o .failing)) (o .counts)) (λ x. give (record { value = v; counts = o .counts; text = x })))
     unfolding verdict
-    explained-is = gives-bind (asks t) (evaluation mail domain) _ (record { value = v; counts = o .counts; failing = failingOf t (o .failing) }) (checked-result t _ o b a s v e .is)
+    explained-is = bind-is (asks t) (evaluation mail domain) _ (record { value = v; counts = o .counts; failing = failingOf t (o .failing) }) (checked-result t _ o b a s v e .is)
 
     kept : a ≡ b
     kept = checked-result t _ o b a s v e .kept
@@ -124,7 +125,7 @@ module _ (t : List ℕ) (mail : Mail) (domain : List ℕ) (b a : List ℕ) (o : 
     decide-explained n f =
         let g = text-written (o .counts) _ x u u′ a z w n f in
         let f : List ℕ → Check Verdict = λ x. give (record { value = v; counts = o .counts; text = x }) in
-        rw (explained-is, gives-bind (asks t) (explanation mail (failingOf t (o .failing)) (o .counts)) f (g .0) (g .1))
+        rw (explained-is, bind-is (asks t) (explanation mail (failingOf t (o .failing)) (o .counts)) f (g .0) (g .1))
         (said _ _ _ _ _ _ (ap (Answer.Decided v (o .counts)) (g .2)) (g .4 ∙ kept) (g .3))
 
     pub decide-asks : (kind n : ℕ) → x ≡ Explained.Wanting kind n → Says (settles (run (asks t) (verdict mail domain))) (Answer.Wanting kind n (o .counts)) b z u u′

@@ -22,7 +22,8 @@ use Rattle.meaning.specs.Tables.{asks}
 use Rattle.meaning.specs.Mechanisms.{Mail, target}
 use Rattle.meaning.specs.Evaluation.{modifierOf, failingAt, termsOf, explained, explainReply, explainName, explanation}
 use Rattle.meaning.specs.Outcomes.{failingOf, TargetIs, SaysTarget, SaysText}
-use Rattle.meaning.specs.Inversions.{wants-bind, gives-bind, target-name, target-malformed, target-wants}
+use Rattle.meaning.specs.Runs.{bind-is}
+use Rattle.meaning.specs.Inversions.{wants-bind, target-name, target-malformed, target-wants}
 use Rattle.answers.proofs.Laws.Asked.{run-missing, run-failed, run-items}
 use Rattle.selection.specs.Modifiers.{ModifierIs}
 use Rattle.selection.specs.declared.modifiers.Modifier.{Modifier}
@@ -94,14 +95,14 @@ module _ (mail : Mail) (c : Counts) (t d spec : List ℕ) (r : Target) (to b a :
   unfolding fetched
   fetch-name n e y u u′ a′ w =
       let g = target-name c _ r to b a says n e .0 in
-      rw (gives-bind (asks t) (target mail d spec c) (explainName mail d c) (name (take n to)) (g .is), ← (g .kept)) w
+      rw (bind-is (asks t) (target mail d spec c) (explainName mail d c) (name (take n to)) (g .is), ← (g .kept)) w
 
   pub fetch-malformed : r ≡ Target.Malformed → (u : List ℕ) → SaysText c (run (asks t) (fetched mail d spec c)) (Explained.Text 0) u u b a
   unfolding fetched explainName run
   fetch-malformed e u =
       let g = target-malformed c _ r to b a says e in
       text-empty c (run (asks t) (fetched mail d spec c)) u b a
-      (record { is = gives-bind (asks t) (target mail d spec c) (explainName mail d c) malformed (g .is); kept = g .kept })
+      (record { is = bind-is (asks t) (target mail d spec c) (explainName mail d c) malformed (g .is); kept = g .kept })
 
   pub fetch-wanting : (kind size : ℕ) → r ≡ Target.Wanting kind size → (u : List ℕ) → SaysText c (run (asks t) (fetched mail d spec c)) (Explained.Wanting kind size) u u b a
   unfolding fetched

@@ -31,7 +31,8 @@ use Rattle.meaning.specs.Tables.{asks}
 use Rattle.meaning.specs.Mechanisms.{Mail, pValue, expansion, givesExpansion, expanded}
 use Rattle.meaning.specs.Evaluation.{most-text, shown, givesShown, explained}
 use Rattle.meaning.specs.Outcomes.{mailOf, wantedBuffer, SaysP, ExplainedIs, textBuffer, SaysText}
-use Rattle.meaning.specs.Inversions.{Gives, Wants, wants-bind, gives-bind, p-current, p-listed, p-unknown, p-wants}
+use Rattle.meaning.specs.Runs.{bind-is}
+use Rattle.meaning.specs.Inversions.{Gives, Wants, wants-bind, p-current, p-listed, p-unknown, p-wants}
 use Rattle.explanation.specs.Stages.{Shows, printed, withP}
 
 -- an explanation that is settled, one that is empty, and one that is wanted
@@ -117,8 +118,8 @@ module _ (mail : Mail) (c : Counts) (t d s b a : List ℕ) where
   unfolding withP givesExpansion givesShown run
   with-value p g =
       let m = bind (pValue (mail .client) d c) (givesExpansion mail d Explanation s) in
-      let y : run (asks t) m ≡ settled (expansion mail d Explanation s p) = gives-bind (asks t) (pValue (mail .client) d c) (givesExpansion mail d Explanation s) p (g .is) in
-      record { is = gives-bind (asks t) m givesShown (expansion mail d Explanation s p) y; kept = g .kept }
+      let y : run (asks t) m ≡ settled (expansion mail d Explanation s p) = bind-is (asks t) (pValue (mail .client) d c) (givesExpansion mail d Explanation s) p (g .is) in
+      record { is = bind-is (asks t) m givesShown (expansion mail d Explanation s p) y; kept = g .kept }
 
 module _ (client : Address) (sender helo receiver : List ℕ) (seconds : ℕ) (c : Counts) (t d s b a : List ℕ) (v : PValue)
     (says : SaysP c d t (run (asks t) (pValue client d c)) v b a) where

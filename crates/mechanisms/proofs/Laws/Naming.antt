@@ -18,7 +18,8 @@ use Rattle.meaning.specs.declared.Target.{Target}
 use Rattle.meaning.specs.Tree.{Table, Check, run}
 use Rattle.meaning.specs.Mechanisms.{Mail, Step, no, stop, step, targetOr, begun, counting, withName, naming, named, askA, askMx, askPtr, askExists}
 use Rattle.meaning.specs.Outcomes.{wantedBuffer, matchedOf, steppedOf, SaysStep, SaysTarget}
-use Rattle.meaning.specs.Inversions.{Gives, Wants, gives-bind, wants-bind, says-gives, says-wants, target-name, target-malformed, target-wants}
+use Rattle.meaning.specs.Runs.{bind-is}
+use Rattle.meaning.specs.Inversions.{Gives, Wants, wants-bind, says-gives, says-wants, target-name, target-malformed, target-wants}
 use Rattle.mechanisms.specs.declared.Question.{Question}
 use Rattle.mechanisms.specs.Terms.{asker}
 
@@ -36,7 +37,7 @@ module _ (t : Table) (mail : Mail) (d : List ℕ) (spec : Optional (List ℕ)) (
     unfolding naming withName run steppedOf wantedBuffer matchedOf
     named-malformed e =
         let g = target-malformed (begun c) _ r to b a s e in
-        rw (begun-is h, gives-bind t (targetOr mail d spec (begun c)) (withName (go (begun c)) (begun c)) malformed (g .is)) (record { outcome = refl; buffer = g .kept })
+        rw (begun-is h, bind-is t (targetOr mail d spec (begun c)) (withName (go (begun c)) (begun c)) malformed (g .is)) (record { outcome = refl; buffer = g .kept })
 
     pub named-wants : (kind n : ℕ) → r ≡ Target.Wanting kind n
         → SaysStep (run t (named mail d spec go c)) (record { matched = Matched.Stop (Ending.Wanting kind n); counts = begun c }) b a
@@ -51,7 +52,7 @@ module _ (t : Table) (mail : Mail) (d : List ℕ) (spec : Optional (List ℕ)) (
     named-asks n e m i o z w =
         let g = target-name (begun c) _ r to b a s n e .0 in
         let j : m ≡ take n to = i ∙ front-part to n in
-        rw (begun-is h, gives-bind t (targetOr mail d spec (begun c)) (withName (go (begun c)) (begun c)) (name (take n to)) (g .is), ← j, ← g .kept) w
+        rw (begun-is h, bind-is t (targetOr mail d spec (begun c)) (withName (go (begun c)) (begun c)) (name (take n to)) (g .is), ← j, ← g .kept) w
 
 -- by the mechanism
 module _ (t : Table) (client : Address) (n : ℕ) (c : Counts) (m : List ℕ) (q : Question) (o : Stepped) (b a : List ℕ) where

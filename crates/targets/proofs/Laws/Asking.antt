@@ -23,7 +23,8 @@ use Rattle.meaning.specs.Tree.{Reply, failed, items, Table, ask, Settled, settl
 use Rattle.meaning.specs.Tables.{replyBy, asks}
 use Rattle.meaning.specs.Mechanisms.{addressKind, includesClient, withValid, validated, namesOf, chosen, holdsName, firstBelow, firstOr, givesChosen, pReply, pValue}
 use Rattle.meaning.specs.Outcomes.{wantedBuffer, PIs, SaysP}
-use Rattle.meaning.specs.Inversions.{Wants, wants-bind, gives-bind}
+use Rattle.meaning.specs.Runs.{bind-is}
+use Rattle.meaning.specs.Inversions.{Wants, wants-bind}
 use Rattle.answers.proofs.Laws.Asked.{run-missing, run-entry, run-failed, run-items}
 use Rattle.targets.specs.declared.Choice.{Choice}
 use Rattle.targets.specs.declared.Choice.the-variants.{Nobody}
@@ -102,7 +103,7 @@ module _ (client : Address) (c : Counts) (t d s b out : List ℕ) (choice : Choi
   settled-at ns p q r v =
       let z : run (asks t) (validated client c (take 10 (itemsOf s)) []) ≡ settled (w .found) = sym (w .rest) ∙ rw (← p, q) in
       let y : run (asks t) (pReply client d c (items (itemsOf (part t start end)))) ≡ settled (chosen d (w .found)) =
-      rw (← e) (gives-bind (asks t) (validated client c (take 10 (itemsOf s)) []) (givesChosen d) (w .found) z)
+      rw (← e) (bind-is (asks t) (validated client c (take 10 (itemsOf s)) []) (givesChosen d) (w .found) z)
       in
       rw (y, v) (record { value = picks-value c d t choice (w .found) (w .picks); buffer = w .kept })
 

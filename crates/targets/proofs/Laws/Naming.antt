@@ -35,7 +35,8 @@ use Rattle.meaning.specs.Tree.{bind, Settled, settled, run}
 use Rattle.meaning.specs.Tables.{asks}
 use Rattle.meaning.specs.Mechanisms.{Mail, pValue, expansion, givesExpansion, expanded, givesName, target, targetOr}
 use Rattle.meaning.specs.Outcomes.{mailOf, wantedBuffer, TargetIs, SaysTarget, SaysP}
-use Rattle.meaning.specs.Inversions.{Gives, Wants, wants-bind, gives-bind, p-current, p-listed, p-unknown, p-wants}
+use Rattle.meaning.specs.Runs.{bind-is}
+use Rattle.meaning.specs.Inversions.{Gives, Wants, wants-bind, p-current, p-listed, p-unknown, p-wants}
 use Rattle.targets.specs.Choosing.{targetWithP}
 
 -- a name has at most 253 bytes
@@ -142,8 +143,8 @@ module _ (mail : Mail) (c : Counts) (t d spec b a : List ℕ) where
   unfolding targetWithP givesExpansion givesName run
   with-value p g =
       let m = bind (pValue (mail .client) d c) (givesExpansion mail d DomainSpec spec) in
-      let y : run (asks t) m ≡ settled (expansion mail d DomainSpec spec p) = gives-bind (asks t) (pValue (mail .client) d c) (givesExpansion mail d DomainSpec spec) p (g .is) in
-      record { is = gives-bind (asks t) m givesName (expansion mail d DomainSpec spec p) y; kept = g .kept }
+      let y : run (asks t) m ≡ settled (expansion mail d DomainSpec spec p) = bind-is (asks t) (pValue (mail .client) d c) (givesExpansion mail d DomainSpec spec) p (g .is) in
+      record { is = bind-is (asks t) m givesName (expansion mail d DomainSpec spec p) y; kept = g .kept }
 
 module _ (client : Address) (sender helo receiver : List ℕ) (seconds : ℕ) (c : Counts) (t d spec b a : List ℕ) (v : PValue)
     (says : SaysP c d t (run (asks t) (pValue client d c)) v b a) where
