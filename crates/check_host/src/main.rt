@@ -3,15 +3,8 @@
 //
 // A missing line is an empty one. No line and no table is cut to a length that would be allowed: of each, one byte more than its limit is kept.
 
-use address::Address;
-use evaluation::Answer;
-use evaluation::evaluate;
-use meaning::Counts;
-use networks::Network;
 use text::bytes;
 use text::bytes::part;
-use text::decimal;
-use text::decimal::Number;
 
 // A byte of a line, or the line's end.
 enum Byte {
@@ -100,80 +93,21 @@ fn skip_rest() {
     }
 }
 
-fn print_line(s: &[u8]) {
-    io::write_all(1, s);
-    io::write_all(1, b"\n");
-}
-
-fn print_counts(lookups: u8, voids: u8) {
-    io::write_all(1, b" ");
-    io::print_decimal(1, lookups as u64);
-    io::write_all(1, b" ");
-    io::print_decimal(1, voids as u64);
-    io::write_all(1, b"\n");
-}
-
-// Prints a number without a kind or place, and the counts.
-fn print_number(number: u8, lookups: u8, voids: u8) {
-    io::print_decimal(1, number as u64);
-    io::write_all(1, b" .");
-    print_counts(lookups, voids);
-}
-
-// Prints a number, its kind or place, and the counts.
-fn print_placed(number: u8, place: u64, lookups: u8, voids: u8) {
-    io::print_decimal(1, number as u64);
-    io::write_all(1, b" ");
-    io::print_decimal(1, place);
-    print_counts(lookups, voids);
-}
-
-// Prints a result, and for 3 its text.
-fn print_decided(value: u8, counts: Counts, text: &[u8]) {
-    print_number(value, counts.lookups, counts.voids);
-    if value == 3 {
-        print_line(text);
-    }
-}
-
-// Prints a question that has no entry.
-fn print_wanting(kind: u16, counts: Counts, name: &[u8]) {
-    print_placed(7, kind as u64, counts.lookups, counts.voids);
-    print_line(name);
-}
-
-fn print_answer(answer: Answer, name: &[u8], text: &[u8]) {
-    match answer {
-        Answer::Decided {
-            value,
-            counts,
-            text: size,
-        } => print_decided(value, counts, part(text, 0, size)),
-        Answer::Wanting {
-            kind,
-            length: size,
-            counts,
-        } => print_wanting(kind, counts, part(name, 0, size)),
-        Answer::Refused(number) => print_number(number, 0, 0),
-        Answer::RefusedAt { number, at } => print_placed(number, at as u64, 0, 0),
-    }
-}
-
 // Reads the table, checks and prints. A table over 65,535 bytes is handed on with one byte too many.
 fn check(
-    client: Address,
+    client: &[u8],
     domain: &[u8],
     sender: &[u8],
     helo: &[u8],
     receiver: &[u8],
-    seconds: u64,
+    seconds: &[u8],
 ) {
     let mut table = [0u8; 65536];
     let mut name = [0u8; 253];
     let mut text = [0u8; 500];
     let n = io::read_full(0, &mut table);
     skip_rest();
-    let answer = evaluate(
+    checking::check_lines(
         client,
         domain,
         sender,
@@ -184,33 +118,6 @@ fn check(
         &mut name,
         &mut text,
     );
-    print_answer(answer, &name, &text);
-}
-
-// What is printed for a client or t that cannot be read, whatever else the input holds.
-fn print_input() {
-    skip_rest();
-    print_line(b"input");
-}
-
-// Reads client and t as they are written, and checks.
-fn check_lines(
-    client: &[u8],
-    domain: &[u8],
-    sender: &[u8],
-    helo: &[u8],
-    receiver: &[u8],
-    seconds: &[u8],
-) {
-    let Network::Is(a) = networks::read_address(client) else {
-        print_input();
-        return;
-    };
-    let Number::Value(v) = decimal::read_decimal(seconds, 18446744073709551615) else {
-        print_input();
-        return;
-    };
-    check(a, domain, sender, helo, receiver, v);
 }
 
 // Each buffer has one byte more than its line may have: an address at most 45, a number below 2^64 at most 20 digits.
@@ -227,7 +134,7 @@ fn main() {
     let helo_end = read_line(&mut helo, Kind::Text);
     let receiver_end = read_line(&mut receiver, Kind::Text);
     let seconds_end = read_line(&mut seconds, Kind::Number);
-    check_lines(
+    check(
         part(&client, 0, client_end),
         part(&domain, 0, domain_end),
         part(&sender, 0, sender_end),

@@ -1,4 +1,4 @@
-// Prints a record: a header and a line for each term, or its refusal.
+// Prints what is read of a record: a header and a line for each term, a term alone, or a refusal.
 use address::Address;
 use records::RecordAnswer;
 use records::Term;
@@ -7,7 +7,7 @@ use text::bytes;
 use text::writing;
 
 // Prints a prefix length, with a space before it.
-fn print_length(n: u8) {
+pub fn print_length(n: u8) {
     io::write_all(1, b" ");
     io::print_decimal(1, n as u64);
 }
@@ -82,7 +82,7 @@ fn print_modifier(name: &[u8], argument: &[u8]) {
 }
 
 // Prints all of a term but its place; w is its text.
-fn print_term(term: Term, w: &[u8], argument: &[u8]) {
+fn print_parts(term: Term, w: &[u8], argument: &[u8]) {
     match term {
         Term::All { sign } => print_plain(b"all", sign, argument),
         Term::Include {
@@ -127,6 +127,16 @@ fn print_term(term: Term, w: &[u8], argument: &[u8]) {
     }
 }
 
+// Prints all but the place of a term that was read at a place of a record, and the line's end.
+pub fn print_term(record: &[u8], at: usize, next: usize, term: Term) {
+    print_parts(
+        term,
+        bytes::part(record, at, next),
+        records::argument(record, at, next, term),
+    );
+    io::write_all(1, b"\n");
+}
+
 // Prints a refusal: its number and its place.
 pub fn print_refused(number: u8, at: usize) {
     io::write_all(1, b"refused ");
@@ -151,14 +161,31 @@ fn print_terms(record: &[u8], start: usize) {
         };
         io::print_decimal(1, place as u64);
         io::write_all(1, b" ");
-        print_term(
-            term,
-            bytes::part(record, place, next),
-            records::argument(record, place, next, term),
-        );
-        io::write_all(1, b"\n");
+        print_term(record, place, next, term);
         at = next;
         budget -= 1;
+    }
+}
+
+// Prints what the term reader answers where it has no term: the end or a refusal.
+pub fn print_no_term(answer: TermAnswer) {
+    match answer {
+        TermAnswer::Refused { number, at } => print_refused(number, at),
+        _ => {
+            io::write_all(1, b"end\n");
+        }
+    }
+}
+
+// Prints what the record reader answers: `accepted` and the place after the version, or a refusal.
+pub fn print_reading(record: &[u8]) {
+    match records::read_record(record) {
+        RecordAnswer::Accepted(next) => {
+            io::write_all(1, b"accepted ");
+            io::print_decimal(1, next as u64);
+            io::write_all(1, b"\n");
+        }
+        RecordAnswer::Refused { number, at } => print_refused(number, at),
     }
 }
 

@@ -29,7 +29,7 @@ pub mod Askable
 pub mod Agreement
 -- Growth: a settled result stays when the table only gains entries that answer no peek.
 pub mod Growth
--- Steps: what a term comes to, and what it makes of the check.
+-- Steps: one term and then the others; the counts after a term.
 pub mod Steps
 -- Reached: which checks an evaluation reaches, and that a record outside the grammar is never evaluated.
 pub mod Reached

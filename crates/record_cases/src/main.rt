@@ -11,7 +11,6 @@
 use address::Address;
 use cases::Line;
 use networks::Network;
-use records::RecordAnswer;
 use records::Term;
 use records::TermAnswer;
 use text::bytes::part;
@@ -22,13 +21,7 @@ use text::words;
 fn run_record(line: &[u8]) {
     let mut s = [0u8; 8192];
     let n = cases::unhex(cases::word(line, 1), &mut s);
-    match records::read_record(part(&s, 0, n)) {
-        RecordAnswer::Accepted(next) => {
-            io::write_all(1, b"accepted ");
-            cases::print_number_line(next);
-        }
-        RecordAnswer::Refused { number, at } => listing::print_refused(number, at),
-    }
+    listing::print_reading(part(&s, 0, n));
 }
 
 // Prints a byte string in hex with a space before it.
@@ -41,11 +34,6 @@ fn print_spaced(s: &[u8]) {
 fn print_sign(sign: u8) {
     let one = [sign];
     print_spaced(&one);
-}
-
-fn print_length(n: u8) {
-    io::write_all(1, b" ");
-    io::print_decimal(1, n as u64);
 }
 
 // An argument that may be absent.
@@ -68,8 +56,8 @@ fn print_hosts(name: &[u8], sign: u8, argument: &[u8], four: u8, six: u8) {
     print_spaced(name);
     print_sign(sign);
     print_optional(argument);
-    print_length(four);
-    print_length(six);
+    listing::print_length(four);
+    listing::print_length(six);
     io::write_all(1, b" .");
 }
 
@@ -79,7 +67,7 @@ fn print_network(sign: u8, argument: &[u8], address: Address, length: u8) {
             print_spaced(b"ip4");
             print_sign(sign);
             print_spaced(argument);
-            print_length(length);
+            listing::print_length(length);
             io::write_all(1, b" .");
             print_spaced(&address::octets4(v));
         }
@@ -88,7 +76,7 @@ fn print_network(sign: u8, argument: &[u8], address: Address, length: u8) {
             print_sign(sign);
             print_spaced(argument);
             io::write_all(1, b" .");
-            print_length(length);
+            listing::print_length(length);
             print_spaced(&address::octets16(high, low));
         }
     }
@@ -147,17 +135,9 @@ fn print_term(term: Term, w: &[u8], argument: &[u8]) {
     }
 }
 
-// The end, or a refusal.
-fn print_no_term(answer: TermAnswer) {
-    match answer {
-        TermAnswer::Refused { number, at } => listing::print_refused(number, at),
-        _ => cases::print_line(b"end"),
-    }
-}
-
 fn print_term_answer(s: &[u8], answer: TermAnswer) {
     let TermAnswer::Is { at, next, term } = answer else {
-        return print_no_term(answer);
+        return listing::print_no_term(answer);
     };
     io::write_all(1, b"term ");
     io::print_decimal(1, at as u64);

@@ -1,27 +1,26 @@
-// Runs the cases of 01's sections "Both sides of each line" and "Errors that look right" and of the list of readings, a line each, and prints a line for
-// each answer, led by the case's label. Bytes stand in hex, `-` for none.
+// Runs the cases of 01's sections "Both sides of each line" and "Errors that look right" and of the list of readings, a line each, and prints what is
+// answered to each, led by the case's label. Bytes stand in hex, `-` for none.
 //
 //     record LABEL RECORD               `accepted` and the place after the version, or `refused`, number, `at`, place
-//     term LABEL RECORD PLACE           `end`; `refused`, number, `at`, place; or place, next place, name, sign, argument led by `:` or `=`, IPv4 length,
-//                                       IPv6 length and the octets of the address, `.` where absent
+//     term LABEL RECORD PLACE           `end`; `refused`, number, `at`, place; or place, next place and the term as the record printer shows it
 //     expand LABEL FORM CLIENT DOMAIN SENDER P TEXT
 //                                       `ok` and the expansion, or `refused` and the number; HELO is helo.example, the receiver empty, t 7
 //     match LABEL CLIENT NETWORK LENGTH
 //                                       1 if they match at that prefix length, else 0
-//     check LABEL INPUT                 what a check answers: number, kind or place and both counts, and the text or name; `input` for a client or t that
-//                                       cannot be read. INPUT is client, domain, sender, HELO, receiver and t, a line each, and the table
+//     check LABEL INPUT                 what a check answers: number, kind or place and both counts, and for 3 and 7 the text or name on a second line;
+//                                       `input` for a client or t that cannot be read. INPUT is client, domain, sender, HELO, receiver and t, a line
+//                                       each, and the table
 //     lent LABEL NAME TEXT ZEROS INPUT  the same with buffers of these lengths and so many zero bytes after the table
 //
 // FORM is `domain-spec` or `explanation`. Any other line is printed as it is.
 mod checks;
-mod terms;
 
 use address::Address;
 use address::FromOctets;
 use cases::Line;
 use macros::Expanded;
 use macros::Form;
-use records::RecordAnswer;
+use records::TermAnswer;
 use text::bytes::part;
 use text::decimal;
 use text::decimal::Number;
@@ -30,13 +29,7 @@ use text::words;
 fn run_record(line: &[u8]) {
     let mut s = [0u8; 8192];
     let n = cases::unhex(cases::word(line, 2), &mut s);
-    match records::read_record(part(&s, 0, n)) {
-        RecordAnswer::Accepted(next) => {
-            io::write_all(1, b"accepted ");
-            cases::print_number_line(next);
-        }
-        RecordAnswer::Refused { number, at } => listing::print_refused(number, at),
-    }
+    listing::print_reading(part(&s, 0, n));
 }
 
 // The number that a word writes, or 0.
@@ -47,10 +40,23 @@ fn number_of(word: &[u8]) -> u64 {
     v
 }
 
+// Reads the term of a record at a place and prints what is answered.
+fn print_term_at(s: &[u8], place: usize) {
+    let answer = records::read_term(s, place);
+    let TermAnswer::Is { at, next, term } = answer else {
+        return listing::print_no_term(answer);
+    };
+    io::print_decimal(1, at as u64);
+    io::write_all(1, b" ");
+    io::print_decimal(1, next as u64);
+    io::write_all(1, b" ");
+    listing::print_term(s, at, next, term);
+}
+
 fn run_term(line: &[u8]) {
     let mut s = [0u8; 8192];
     let n = cases::unhex(cases::word(line, 2), &mut s);
-    terms::run(part(&s, 0, n), number_of(cases::word(line, 3)) as usize);
+    print_term_at(part(&s, 0, n), number_of(cases::word(line, 3)) as usize);
 }
 
 // The address that a word writes, or 0.0.0.0.
@@ -81,12 +87,20 @@ fn form_of(word: &[u8]) -> Form {
     Form::DomainSpec
 }
 
+// Prints a text with a space before it, if there is one, and the line's end.
+fn print_rest(text: &[u8]) {
+    if 0 < text.len() {
+        io::write_all(1, b" ");
+    }
+    cases::print_line(text);
+}
+
 // Prints what an expansion answered.
 fn print_expanded(answer: Expanded, out: &[u8]) {
     match answer {
         Expanded::Written(n) => {
             io::write_all(1, b"ok");
-            checks::print_rest(part(out, 0, n));
+            print_rest(part(out, 0, n));
         }
         Expanded::Refused(n) => {
             io::write_all(1, b"refused ");

@@ -4,10 +4,10 @@ use Rattle.listing.proofs.print_terms.Statement.{statement}
 use Rattle.listing.proofs.print_terms.Tie as tie
 
 abbrev Inv-loop : tie.InvT-loop
-Inv-loop «record» start at₀ budget₀ t8 t9 at budget = Unit {0}
+Inv-loop «record» start at₀ budget₀ t8 at budget = Unit {0}
 
 abbrev μ-loop : tie.MeasureT-loop
-μ-loop «record» start at₀ budget₀ t8 t9 at budget = budget
+μ-loop «record» start at₀ budget₀ t8 at budget = budget
 
 loop-holds : tie.Need-loop-holds Inv-loop μ-loop
 loop-holds c = tt
@@ -30,20 +30,8 @@ slice-aggregate-write-all c = search needs
 write-all-requires : tie.Need-write-all-requires Inv-loop μ-loop
 write-all-requires c κs = search needs
 
-part-requires : tie.Need-part-requires Inv-loop μ-loop
-part-requires c κs = search needs
-
-argument-requires : tie.Need-argument-requires Inv-loop μ-loop
-argument-requires c κs = search needs
-
 print-term-requires : tie.Need-print-term-requires Inv-loop μ-loop
 print-term-requires c κs = search needs
-
-slice-aggregate-write-all-2 : tie.Need-slice-aggregate-write-all-2 Inv-loop μ-loop
-slice-aggregate-write-all-2 c = search needs
-
-write-all-requires-2 : tie.Need-write-all-requires-2 Inv-loop μ-loop
-write-all-requires-2 c κs = search needs
 
 sub-budget : tie.Need-sub-budget Inv-loop μ-loop
 sub-budget c = search needs
@@ -70,11 +58,7 @@ print-terms-spec =
     print-decimal-requires
     slice-aggregate-write-all
     write-all-requires
-    part-requires
-    argument-requires
     print-term-requires
-    slice-aggregate-write-all-2
-    write-all-requires-2
     sub-budget
     loop-less
     loop-again

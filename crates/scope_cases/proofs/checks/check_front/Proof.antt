@@ -23,6 +23,12 @@ same-length-2 c = search needs
 returns : tie.Need-returns
 returns c = search needs
 
+slice-aggregate-print-line : tie.Need-slice-aggregate-print-line
+slice-aggregate-print-line c = search needs
+
+print-line-requires : tie.Need-print-line-requires
+print-line-requires c κs = search needs
+
 returns-2 : tie.Need-returns-2
 returns-2 c = search needs
 
@@ -36,4 +42,6 @@ check-front-spec =
     same-length
     same-length-2
     returns
+    slice-aggregate-print-line
+    print-line-requires
     returns-2)

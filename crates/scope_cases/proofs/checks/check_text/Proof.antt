@@ -5,14 +5,14 @@ use borrow.Author.Needs.{needs}
 use Rattle.scope_cases.proofs.checks.check_text.Statement.{statement}
 use Rattle.scope_cases.proofs.checks.check_text.Tie as tie
 
-slice-relend-prefix-check : tie.Need-slice-relend-prefix-check
-slice-relend-prefix-check c = search needs
+slice-relend-prefix-check-input : tie.Need-slice-relend-prefix-check-input
+slice-relend-prefix-check-input c = search needs
 
-slice-aggregate-check : tie.Need-slice-aggregate-check
-slice-aggregate-check c = simp length-take (omega arith)
+slice-aggregate-check-input : tie.Need-slice-aggregate-check-input
+slice-aggregate-check-input c = simp length-take (omega arith)
 
-check-requires : tie.Need-check-requires
-check-requires c κs = search needs
+check-input-requires : tie.Need-check-input-requires
+check-input-requires c κs = search needs
 
 same-length : tie.Need-same-length
 same-length c = search needs
@@ -23,6 +23,12 @@ same-length-2 c = search needs
 returns : tie.Need-returns
 returns c = search needs
 
+slice-aggregate-print-line : tie.Need-slice-aggregate-print-line
+slice-aggregate-print-line c = search needs
+
+print-line-requires : tie.Need-print-line-requires
+print-line-requires c κs = search needs
+
 returns-2 : tie.Need-returns-2
 returns-2 c = search needs
 
@@ -30,10 +36,12 @@ pub check-text-spec : {M : Type 1} → statement M
 check-text-spec =
     tie.close
     (tie.spec
-    slice-relend-prefix-check
-    slice-aggregate-check
-    check-requires
+    slice-relend-prefix-check-input
+    slice-aggregate-check-input
+    check-input-requires
     same-length
     same-length-2
     returns
+    slice-aggregate-print-line
+    print-line-requires
     returns-2)

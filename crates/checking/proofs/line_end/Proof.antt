@@ -1,9 +1,9 @@
--- `scope_cases::checks::line_end` meets its contract.
+-- `checking::line_end` meets its contract.
 use borrow.Author.Needs.{needs}
 use Prim.Native.Nat.{_-_}
 use lib.ListN.{length}
-use Rattle.scope_cases.proofs.checks.line_end.Statement.{statement}
-use Rattle.scope_cases.proofs.checks.line_end.Tie as tie
+use Rattle.checking.proofs.line_end.Statement.{statement}
+use Rattle.checking.proofs.line_end.Tie as tie
 
 abbrev Inv-loop : tie.InvT-loop
 Inv-loop s from i₀ i = Unit {0}

@@ -1,8 +1,8 @@
--- `scope_cases::checks::line_start` meets its contract.
+-- `checking::line_start` meets its contract.
 use borrow.Author.Needs.{needs}
 use Prim.Native.Nat.{_-_, _≤_}
-use Rattle.scope_cases.proofs.checks.line_start.Statement.{statement}
-use Rattle.scope_cases.proofs.checks.line_start.Tie as tie
+use Rattle.checking.proofs.line_start.Statement.{statement}
+use Rattle.checking.proofs.line_start.Tie as tie
 
 abbrev Inv-loop : tie.InvT-loop
 Inv-loop s k at₀ i₀ at i = i ≤ k
