@@ -1,0 +1,96 @@
+/* Measures the stack that an evaluation uses, on the inputs that need most: a thread's stack is filled with a pattern, and what an evaluation has left
+ * of it is counted. */
+#define _GNU_SOURCE
+#include <pthread.h>
+#include <stdio.h>
+#include <string.h>
+#include <sys/mman.h>
+
+#include "../embed/talavorn.h"
+#include "table.h"
+
+enum { ROOM = 8 << 20, PATTERN = 0xa5 };
+
+static struct table table;
+static const char *helo = "h.example";
+
+static void *nothing(void *unused)
+{
+    return unused;
+}
+
+static void *evaluate(void *unused)
+{
+    static uint8_t name[253], text[500], client[4] = { 10, 0, 0, 1 };
+    static size_t values[TALAVORN_VALUES];
+#define TEXT(s) (const uint8_t *)(s), strlen(s)
+    talavorn_evaluate(client, 4, TEXT("d0.example"), TEXT("user@example.com"), TEXT(helo), TEXT("r.example"), 7, table.bytes, table.size, name, sizeof name,
+                      text, sizeof text, values);
+    return unused;
+}
+
+/* The bytes of the stack that a thread touches. */
+static size_t touched(void *(*start)(void *))
+{
+    size_t i = 0;
+    pthread_attr_t attributes;
+    pthread_t thread;
+    uint8_t *stack = mmap(NULL, ROOM, PROT_READ | PROT_WRITE, MAP_PRIVATE | MAP_ANONYMOUS, -1, 0);
+    if (stack == MAP_FAILED)
+        return 0;
+    memset(stack, PATTERN, ROOM);
+    pthread_attr_init(&attributes);
+    pthread_attr_setstack(&attributes, stack, ROOM);
+    if (pthread_create(&thread, &attributes, start, NULL) == 0)
+        pthread_join(thread, NULL);
+    while (i < ROOM && stack[i] == PATTERN)
+        i++;
+    munmap(stack, ROOM);
+    return ROOM - i;
+}
+
+/* A chain of records, each going on to the next, and then one of 4,096 bytes or fewer: begun with some text, and filled up with another. */
+static void make(int depth, const char *next, const char *begin, const char *fill)
+{
+    static char record[4200];
+    char name[32];
+    table.size = 0;
+    for (int i = 0; i < depth; i++) {
+        sprintf(name, "d%d.example", i);
+        sprintf(record, "v=spf1 %sd%d.example", next, i + 1);
+        add_text(&table, name, record);
+    }
+    sprintf(name, "d%d.example", depth);
+    strcpy(record, begin);
+    while (strlen(record) + strlen(fill) <= 4096)
+        strcat(record, fill);
+    add_text(&table, name, record);
+}
+
+static void show(const char *what)
+{
+    printf("%-60s %8zu\n", what, touched(evaluate) - touched(nothing));
+}
+
+int main(void)
+{
+    static char labels[256], begin[128] = "v=spf1 exists:";
+    printf("%-60s %8s\n", "stack, the deepest inputs", "bytes");
+    make(0, "", "v=spf1 -all", " ");
+    show("no terms but -all");
+    make(0, "", "v=spf1", " a");
+    show("a record of 2,045 terms");
+    make(10, "include:", "v=spf1", " a");
+    show("the same behind ten includes");
+    make(10, "redirect=", "v=spf1", " a");
+    show("the same behind ten redirects");
+    for (int i = 0; i < 127; i++)
+        strcat(labels, "x.");
+    strcat(labels, "y");
+    helo = labels;
+    for (int i = 0; i < 16; i++)
+        strcat(begin, "%{h}");
+    make(9, "redirect=", begin, " ");
+    show("a name of 4,080 bytes and 2,048 labels, behind nine redirects");
+    return 0;
+}

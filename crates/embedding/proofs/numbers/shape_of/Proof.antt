@@ -1,0 +1,137 @@
+-- `numbers::shape_of` meets its contract. From the laws of Rows.
+use Rattle.embedding.specs.Numbers.{shapeOf}
+use Rattle.embedding.proofs.Laws.Rows.{shape-by, name-room}
+use borrow.Author.Needs.{needs}
+use Rattle.embedding.proofs.numbers.shape_of.Statement.{statement}
+use Rattle.embedding.proofs.numbers.shape_of.Tie as tie
+
+enum-known-term : tie.Need-enum-known-term
+enum-known-term c = search needs
+
+plain-requires : tie.Need-plain-requires
+plain-requires c κs = search needs
+
+enum-known-term-2 : tie.Need-enum-known-term-2
+enum-known-term-2 c = search needs
+
+plain-requires-2 : tie.Need-plain-requires-2
+plain-requires-2 c κs = search needs
+
+enum-known-term-3 : tie.Need-enum-known-term-3
+enum-known-term-3 c = search needs
+
+enum-known-term-4 : tie.Need-enum-known-term-4
+enum-known-term-4 c = search needs
+
+enum-known-term-5 : tie.Need-enum-known-term-5
+enum-known-term-5 c = search needs
+
+plain-requires-3 : tie.Need-plain-requires-3
+plain-requires-3 c κs = search needs
+
+enum-known-term-6 : tie.Need-enum-known-term-6
+enum-known-term-6 c = search needs
+
+network-requires : tie.Need-network-requires
+network-requires c κs = search needs
+
+enum-known-term-7 : tie.Need-enum-known-term-7
+enum-known-term-7 c = search needs
+
+plain-requires-4 : tie.Need-plain-requires-4
+plain-requires-4 c κs = search needs
+
+enum-known-term-8 : tie.Need-enum-known-term-8
+enum-known-term-8 c = search needs
+
+plain-requires-5 : tie.Need-plain-requires-5
+plain-requires-5 c κs = search needs
+
+enum-known-term-9 : tie.Need-enum-known-term-9
+enum-known-term-9 c = search needs
+
+plain-requires-6 : tie.Need-plain-requires-6
+plain-requires-6 c κs = search needs
+
+enum-known-term-10 : tie.Need-enum-known-term-10
+enum-known-term-10 c = search needs
+
+add-plain : tie.Need-add-plain
+add-plain c = record { fits = name-room _ _ _ _ (c .before .term10 .given .1) (c .before .before .before .pre) (c .before .before .before .fits .size .fits) }
+
+plain-requires-7 : tie.Need-plain-requires-7
+plain-requires-7 c κs = search needs
+
+returns : tie.Need-returns
+unfolding shapeOf
+returns c = search shape-by
+
+returns-2 : tie.Need-returns-2
+unfolding shapeOf
+returns-2 c = search shape-by
+
+returns-3 : tie.Need-returns-3
+unfolding shapeOf
+returns-3 c = search shape-by
+
+returns-4 : tie.Need-returns-4
+unfolding shapeOf
+returns-4 c = search shape-by
+
+returns-5 : tie.Need-returns-5
+unfolding shapeOf
+returns-5 c = search shape-by
+
+returns-6 : tie.Need-returns-6
+unfolding shapeOf
+returns-6 c = search shape-by
+
+returns-7 : tie.Need-returns-7
+unfolding shapeOf
+returns-7 c = search shape-by
+
+returns-8 : tie.Need-returns-8
+unfolding shapeOf
+returns-8 c = search shape-by
+
+returns-9 : tie.Need-returns-9
+unfolding shapeOf
+returns-9 c = search shape-by
+
+returns-10 : tie.Need-returns-10
+unfolding shapeOf
+returns-10 c = search shape-by
+
+pub shape-of-spec : {M : Type 1} → statement M
+shape-of-spec =
+    tie.close
+    (tie.spec
+    enum-known-term
+    plain-requires
+    enum-known-term-2
+    plain-requires-2
+    enum-known-term-3
+    enum-known-term-4
+    enum-known-term-5
+    plain-requires-3
+    enum-known-term-6
+    network-requires
+    enum-known-term-7
+    plain-requires-4
+    enum-known-term-8
+    plain-requires-5
+    enum-known-term-9
+    plain-requires-6
+    enum-known-term-10
+    add-plain
+    plain-requires-7
+    returns
+    returns-2
+    returns-3
+    returns-4
+    returns-5
+    returns-6
+    returns-7
+    returns-8
+    returns-9
+    returns-10)

@@ -1,0 +1,53 @@
+#!/bin/sh
+# compare.sh CALLER..: runs each caller and the proved program check_host on the same inputs, and compares what they print. The inputs are check_host's
+# stored one and those made below; INPUTS may name further files. The status is 0 only if all agree.
+set -u
+cd "$(dirname "$0")/.." || exit 2
+proved=target/bin/check_host
+[ -x "$proved" ] || { echo "compare.sh: no $proved: run 'rt check check_host'" >&2; exit 2; }
+dir=$(mktemp -d) || exit 2
+trap 'rm -rf "$dir"' EXIT
+
+# mail CLIENT DOMAIN SENDER HELO RECEIVER T: six lines
+mail() { for line in "$@"; do printf '%s\n' "$line"; done; }
+usual() { mail 192.0.2.129 example.com user@example.com mail.example.com mx.relay.example 1700000000; }
+# repeat N TEXT: the text N times
+repeat() { i=0; while [ "$i" -lt "$1" ]; do printf '%s' "$2"; i=$((i + 1)); done; }
+# a TXT entry of example.com with the record `v=spf1 -all`, and one of status 3
+record() { printf '\034\000\020\000\000\013example.com\013\000v=spf1 -all'; }
+gone() { printf '\017\000\020\000\003\013example.com'; }
+
+cp crates/check_host/stdin "$dir/stored"
+: >"$dir/empty"
+usual >"$dir/no_table"
+{ usual; record; } >"$dir/fail"
+{ usual; gone; } >"$dir/none"
+{ usual; record; gone; } >"$dir/repeated"
+{ usual; record; printf '\001'; } >"$dir/malformed"
+{ usual; repeat 4097 0123456789abcdef; } >"$dir/long_table"
+{ mail ::ffff:192.0.2.129 example.com user@example.com '' '' 007; record; } >"$dir/mapped"
+{ mail 2001:db8::1 example.com. @example.com h.example '' 0; record; } >"$dir/six"
+mail 192.0.2.01 example.com user@example.com h '' 7 >"$dir/bad_client"
+mail 192.0.2.129 example.com user@example.com h '' +7 >"$dir/bad_t"
+mail 192.0.2.129 example.com user@example.com h '' 18446744073709551616 >"$dir/large_t"
+mail 192.0.2.129 example.com user@example.com h '' 00018446744073709551615 >"$dir/largest_t"
+mail 192.0.2.129 example.com '' h '' 7 >"$dir/no_sender"
+mail 192.0.2.129 example.com u@x 'a b' '' 7 >"$dir/bad_helo"
+mail 192.0.2.129 "$(repeat 128 a.)" u@x h '' 7 >"$dir/long_domain"
+mail 192.0.2.129 "$(repeat 126 a.)b" u@x h '' 7 >"$dir/longest_name"
+printf '192.0.2.129\nexample.com\nu@x\n\n\n7' >"$dir/no_last_newline"
+
+agree=0 differ=0
+for input in "$dir"/[a-z]* ${INPUTS-}; do
+    "$proved" <"$input" >"$dir/.proved"
+    for caller in "$@"; do
+        if "$caller" <"$input" >"$dir/.got" && cmp -s "$dir/.proved" "$dir/.got"; then
+            agree=$((agree + 1))
+        else
+            differ=$((differ + 1))
+            echo "differs: $caller on $(basename "$input")"
+        fi
+    done
+done
+echo "$agree agree, $differ differ"
+[ "$differ" -eq 0 ] && [ "$agree" -gt 0 ]
