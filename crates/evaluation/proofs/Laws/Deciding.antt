@@ -98,9 +98,6 @@ module _ (domain : List ℕ) (r : Name) (p : r ≡ nameAnswer (normal domain)) w
   given-malformed t mail b o e h = rw (malformed-is (normal domain) p e, h) (record { checked = (refl, refl, refl); buffer = refl })
 
 -- decide
-explaining : Mail → Result → Check Verdict
-explaining mail r = bind (explanation mail (r .failing) (r .counts)) (λ x. give (record { value = r .value; counts = r .counts; text = x }))
-
 module _ (t : List ℕ) (mail : Mail) (domain : List ℕ) (b a : List ℕ) (o : CheckAnswer) (s : CheckSays t (run (asks t) (evaluation mail domain)) o b a) where
   wants-answer : (x : Settled Verdict) (kind n : ℕ) (c : Counts) (b z u v : List ℕ) → Wants x kind n c b z → v ≡ u → Says (settles x) (Answer.Wanting kind n c) b z u v
   unfolding answerOf nameAfter textAfter

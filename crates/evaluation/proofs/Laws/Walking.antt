@@ -211,9 +211,6 @@ walk-less s i a p at next x q h = let m = next-less s i a p at next x q (length 
 
 -- the counts keep within the bounds
 module _ (t : List ℕ) (mail : Mail) (d s : List ℕ) (first : ℕ) (b : List ℕ) (c₀ : Counts) (out : List ℕ) (i : ℕ) (c : Counts) (w : Walk t mail d s first b c₀ out i c) where
-  pub walk-grows : c₀ .lookups ≤ c .lookups
-  walk-grows = w .grows
-
   pub walk-small : c .lookups ≤ 10
   walk-small = w .small
 
