@@ -14,7 +14,7 @@ use Rattle.networks.specs.Reader6.{readAddress}
 use Rattle.networks.specs.Answers.{NetworkAnswer, Written}
 use Rattle.table.specs.Numbers.{reported as table-reported}
 use Rattle.table.specs.Reader.{checkTable}
-use Rattle.table.specs.Checked.{Checked}
+use Rattle.table.specs.Answers.{TableAnswers}
 use Rattle.macros.specs.declared.Form.{Form}
 use Rattle.macros.specs.Expansion.{Given}
 use Rattle.macros.specs.Numbers.{Outcome as Expansion, refused as expansion-refused, answerOf as expandedOf, bufferOf}
@@ -98,7 +98,7 @@ pub record MatchSays (client network : FromOctets) (bits r : ℕ) : Type 0 where
 -- a check of a table
 pub record TableSays (t numbers : List ℕ) : Type 0 where
   pub answer : numbers ≡ tableNumbers (table-reported (checkTable t))
-  pub checked : Checked t (table-reported (checkTable t))
+  pub checked : TableAnswers t (table-reported (checkTable t))
 
 -- reading an address
 pub record AddressSays (s : List ℕ) (r : ℕ) (octets octets′ : List ℕ) : Type 0 where

@@ -9,7 +9,7 @@ use Rattle.address.specs.declared.Address.{Address}
 use Rattle.table.specs.Layout.{Entry}
 use Rattle.table.specs.Lookup.{lookup}
 use Rattle.table.specs.Numbers.{Place, nowhere, byte, refused as table-refused}
-use Rattle.table.specs.Checked.{Checked, Encoded, most-bytes}
+use Rattle.table.specs.Answers.{TableAnswers, Encoded, most-bytes}
 use Rattle.macros.specs.Expansion.{isSender, isHost, isShort}
 use Rattle.meaning.specs.Tree.{Table, run}
 use Rattle.meaning.specs.Tables.{replyOf}
@@ -43,7 +43,7 @@ pub data Answers (client : Address) (domain sender helo receiver : List ℕ) (se
       → Answers client domain sender helo receiver seconds table name text (refused 22)
   no-room : isSender sender ≡ true → (isHost helo && isHost receiver) ≡ true → isShort domain ≡ true → hasRoom name text ≡ false
       → Answers client domain sender helo receiver seconds table name text (refused 23)
-  bad-table : {number : ℕ} {place : Place} → Fit domain sender helo receiver name text → Checked table (table-refused number place)
+  bad-table : {number : ℕ} {place : Place} → Fit domain sender helo receiver name text → TableAnswers table (table-refused number place)
       → Answers client domain sender helo receiver seconds table name text (refusedBy number place)
   decides : {es : List Entry} → Fit domain sender helo receiver name text → length table ≤ most-bytes → Encoded table es
       → Answers client domain sender helo receiver seconds table name text (settles (run (tableOf es) (verdict (mailFor client sender helo receiver seconds) domain)))

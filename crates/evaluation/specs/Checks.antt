@@ -6,17 +6,17 @@ use lib.Dec.{eqb}
 use Rattle.records.specs.declared.Term.{Term}
 use Rattle.meaning.specs.declared.Counts.{Counts}
 use Rattle.meaning.specs.declared.Ending.{Ending}
-use Rattle.meaning.specs.declared.Failing.{Failing}
+use Rattle.meaning.specs.declared.FailingPlace.{FailingPlace}
 use Rattle.meaning.specs.declared.Matched.{Matched}
 use Rattle.meaning.specs.declared.Stepped.{Stepped}
 use Rattle.meaning.specs.declared.Span.{Span}
 use Rattle.meaning.specs.declared.Checked.{Checked}
 
 abbrev pub endedOf : ℕ → Counts → Checked
-endedOf v c = record { ending = Ending.Result v; counts = c; failing = Failing.Nowhere }
+endedOf v c = record { ending = Ending.Result v; counts = c; failing = FailingPlace.Nowhere }
 
 abbrev pub wantingOf : ℕ → ℕ → Counts → Checked
-wantingOf kind n c = record { ending = Ending.Wanting kind n; counts = c; failing = Failing.Nowhere }
+wantingOf kind n c = record { ending = Ending.Wanting kind n; counts = c; failing = FailingPlace.Nowhere }
 
 -- the sign of a term; a modifier has none
 unfoldable pub signOf : Term → ℕ
@@ -35,7 +35,7 @@ signOf (Term.Unknown name to) = 0
 unfoldable pub signedOf : ℕ → Span → Span → ℕ → Counts → Checked
 signedOf sign domain text first c =
     cond (eqb sign 43) (endedOf 2 c)
-    (cond (eqb sign 45) (record { ending = Ending.Result 3; counts = c; failing = Failing.In domain text first })
+    (cond (eqb sign 45) (record { ending = Ending.Result 3; counts = c; failing = FailingPlace.In domain text first })
     (cond (eqb sign 126) (endedOf 4 c) (endedOf 1 c)))
 
 -- a redirect's result

@@ -17,7 +17,7 @@ use Rattle.records.specs.declared.RecordAnswer.{RecordAnswer}
 use Rattle.records.proofs.Laws.Claim.{claim}
 use Rattle.meaning.specs.declared.Counts.{Counts}
 use Rattle.meaning.specs.Tree.{settled, run}
-use Rattle.meaning.specs.Tables.{asks}
+use Rattle.meaning.specs.Tables.{tableIn}
 use Rattle.meaning.specs.Evaluation.{noCounts, Verdict, verdict}
 use Rattle.meaning.specs.Reached.{Selects, Reaches, unproduced, verdict-never-evaluated}
 use Rattle.evaluation.specs.Numbers.{Outcome, settles}
@@ -27,7 +27,7 @@ use Rattle.evaluation.specs.Answers.{Fit}
 -- an evaluation of arguments that fit, with an accepted table, is what the table settles
 pub fit-evaluated : (client : Address) (domain sender helo receiver : List ℕ) (seconds : ℕ) (table name text : List ℕ) (n : ℕ) → Fit domain sender helo receiver name text
     → checkTable table ≡ Accepted n
-    → evaluated client domain sender helo receiver seconds table name text ≡ settles (run (asks table) (verdict (mailFor client sender helo receiver seconds) domain))
+    → evaluated client domain sender helo receiver seconds table name text ≡ settles (run (tableIn table) (verdict (mailFor client sender helo receiver seconds) domain))
 unfolding evaluated afterTable
 fit-evaluated client domain sender helo receiver seconds table name text n f e = rw (f .sender-fits, f .hosts-fit, f .domain-fits, f .room, e)
 
@@ -44,7 +44,7 @@ pub record Demand3 (s : List ℕ) : Type 0 where
   pub never : ((ts : List Placed) → Record s ts → ⊥)
       → (client : Address) (domain sender helo receiver : List ℕ) (seconds : ℕ) (table name text : List ℕ) (n : ℕ)
       → Fit domain sender helo receiver name text → checkTable table ≡ Accepted n
-      → (m : ℕ) (e : List ℕ) (k : Counts) → Reaches (asks table) (mailFor client sender helo receiver seconds) 11 (normal domain) noCounts m e k → Selects (asks table) e s
+      → (m : ℕ) (e : List ℕ) (k : Counts) → Reaches (tableIn table) (mailFor client sender helo receiver seconds) 11 (normal domain) noCounts m e k → Selects (tableIn table) e s
       → evaluated client domain sender helo receiver seconds table name text ≡ settles (settled (record { value = 6; counts = k; text = [] }))
 
 pub demand3 : (s : List ℕ) → length s ≤ 4096 → Demand3 s
@@ -54,5 +54,5 @@ demand3 s h = record {
   walks = claim s h .walks;
   never = λ ill client domain sender helo receiver seconds table name text n fit accepted m e k reached selects.
       fit-evaluated client domain sender helo receiver seconds table name text n fit accepted
-      ∙ ap settles (verdict-never-evaluated (asks table) (mailFor client sender helo receiver seconds) domain s reached selects (unproduced ill));
+      ∙ ap settles (verdict-never-evaluated (tableIn table) (mailFor client sender helo receiver seconds) domain s reached selects (unproduced ill));
 }

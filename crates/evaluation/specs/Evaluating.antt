@@ -11,7 +11,7 @@ use Rattle.table.specs.declared.TableAnswer.the-variants.{Accepted, TooLong, Ma
 use Rattle.table.specs.Reader.{checkTable}
 use Rattle.macros.specs.Expansion.{isSender, isHost, isShort}
 use Rattle.meaning.specs.Tree.{Settled, run}
-use Rattle.meaning.specs.Tables.{asks}
+use Rattle.meaning.specs.Tables.{tableIn}
 use Rattle.meaning.specs.Mechanisms.{Mail}
 use Rattle.meaning.specs.Evaluation.{Verdict, verdict}
 use Rattle.meaning.specs.Outcomes.{mailOf}
@@ -49,7 +49,7 @@ evaluated client domain sender helo receiver seconds table name text =
     (cond (isHost helo && isHost receiver)
     (cond (isShort domain)
     (cond (hasRoom name text)
-    (afterTable (checkTable table) (run (asks table) (verdict (mailFor client sender helo receiver seconds) domain)))
+    (afterTable (checkTable table) (run (tableIn table) (verdict (mailFor client sender helo receiver seconds) domain)))
     (refused 23))
     (refused 22))
     (refused 21))

@@ -6,18 +6,18 @@ ghost use Rattle.domain.specs.Normal.{name};
 ghost use Rattle.records.specs.Numbers.{saidOf};
 ghost use Rattle.records.specs.Reader.{readRecord};
 ghost use Rattle.meaning.specs.Tree.{run};
-ghost use Rattle.meaning.specs.Tables.{asks};
+ghost use Rattle.meaning.specs.Tables.{tableIn};
 ghost use Rattle.meaning.specs.Evaluation.{begunCheck, includeStep, termStep, modifierOf, noMatch, tryTerms, termsOf, readOutcome, check};
-ghost use Rattle.meaning.specs.Outcomes.{mailOf, spanOf, SaysStep, Says};
+ghost use Rattle.meaning.specs.Outcomes.{mailOf, spanOf, SaysStep, SaysCheck};
 ghost use Rattle.evaluation.specs.Checks.{endedOf, wantingOf, signOf, signedOf, redirectedOf, includedNow, includedOf};
 ghost use Rattle.text.specs.Texts.{bytes};
 use address::Address;
 use meaning::Checked;
 use meaning::Counts;
 use meaning::Ending;
-use meaning::Failing;
-use meaning::Lookup;
+use meaning::FailingPlace;
 use meaning::Matched;
+use meaning::Selected;
 use meaning::Span;
 use meaning::Stepped;
 use meaning::Target;
@@ -36,7 +36,7 @@ pub fn ended(value: u8, counts: Counts) -> Checked
     Checked {
         ending: Ending::Result(value),
         counts,
-        failing: Failing::Nowhere,
+        failing: FailingPlace::Nowhere,
     }
 }
 
@@ -47,7 +47,7 @@ fn wanting(kind: u16, size: usize, counts: Counts) -> Checked
     Checked {
         ending: Ending::Wanting { kind, length: size },
         counts,
-        failing: Failing::Nowhere,
+        failing: FailingPlace::Nowhere,
     }
 }
 
@@ -110,7 +110,7 @@ fn sign_result(sign: u8, domain: Span, text: Span, first: usize, counts: Counts)
         return Checked {
             ending: Ending::Result(3),
             counts,
-            failing: Failing::In {
+            failing: FailingPlace::In {
                 domain,
                 text,
                 terms: first,
@@ -144,15 +144,15 @@ pub fn check_domain(
 ) -> Checked
     requires { ⌜ (length (now sender) ≤ 320) × (length (now domain) ≤ 253) × (counts .lookups ≤ 10) × (counts .voids ≤ 2) ⌝ }
     ensures { λ r. ⌜ ((n : ℕ) → 10 ≤ n + counts .lookups →
-        Says (now (table .entry)) (run (asks (now (table .entry))) (check (suc n) (mailOf client (now (sender .entry)) (now (helo .entry)) (now (receiver .entry)) seconds) (name (now (domain .entry))) counts)) r (now (out .entry)) (now (out .exit))) ⌝ }
+        SaysCheck (now (table .entry)) (run (tableIn (now (table .entry))) (check (suc n) (mailOf client (now (sender .entry)) (now (helo .entry)) (now (receiver .entry)) seconds) (name (now (domain .entry))) counts)) r (now (out .entry)) (now (out .exit))) ⌝ }
 {
     if domain::count_labels(domain) <= 1 {
         return ended(0, counts);
     }
     match selection::select_record(table, domain, counts, out) {
-        Lookup::Ends(value) => ended(value, counts),
-        Lookup::Wanting { kind, length: n } => wanting(kind, n, counts),
-        Lookup::One {
+        Selected::Ends(value) => ended(value, counts),
+        Selected::Wanting { kind, length: n } => wanting(kind, n, counts),
+        Selected::One {
             domain: place,
             text,
         } => evaluate_record(
@@ -185,7 +185,7 @@ fn evaluate_record(
 ) -> Checked
     requires { ⌜ (length (now sender) ≤ 320) × (length (spanOf (now table) domain) ≤ 253) × (counts .lookups ≤ 10) × (counts .voids ≤ 2) ⌝ }
     ensures { λ r. ⌜ ((n : ℕ) → 10 ≤ n + counts .lookups →
-        Says (now (table .entry)) (run (asks (now (table .entry))) (readOutcome (mailOf client (now (sender .entry)) (now (helo .entry)) (now (receiver .entry)) seconds) (check n (mailOf client (now (sender .entry)) (now (helo .entry)) (now (receiver .entry)) seconds)) (spanOf (now (table .entry)) domain) (spanOf (now (table .entry)) text) (readRecord (spanOf (now (table .entry)) text)) counts)) r (now (out .entry)) (now (out .exit))) ⌝ }
+        SaysCheck (now (table .entry)) (run (tableIn (now (table .entry))) (readOutcome (mailOf client (now (sender .entry)) (now (helo .entry)) (now (receiver .entry)) seconds) (check n (mailOf client (now (sender .entry)) (now (helo .entry)) (now (receiver .entry)) seconds)) (spanOf (now (table .entry)) domain) (spanOf (now (table .entry)) text) (readRecord (spanOf (now (table .entry)) text)) counts)) r (now (out .entry)) (now (out .exit))) ⌝ }
 {
     match records::read_record(bytes::part(table, text.from, text.to)) {
         RecordAnswer::Refused { number: _, at: _ } => ended(6, counts),
@@ -221,7 +221,7 @@ fn try_terms(
 ) -> Checked
     requires { ⌜ (length (now sender) ≤ 320) × (length (spanOf (now table) domain) ≤ 253) × (counts .lookups ≤ 10) × (counts .voids ≤ 2) ⌝ }
     ensures { λ r. ⌜ ((n : ℕ) → 10 ≤ n + counts .lookups →
-        Says (now (table .entry)) (run (asks (now (table .entry))) (tryTerms (mailOf client (now (sender .entry)) (now (helo .entry)) (now (receiver .entry)) seconds) (check n (mailOf client (now (sender .entry)) (now (helo .entry)) (now (receiver .entry)) seconds)) (spanOf (now (table .entry)) domain) (termsOf (spanOf (now (table .entry)) text) first) (termsOf (spanOf (now (table .entry)) text) first) counts)) r (now (out .entry)) (now (out .exit))) ⌝ }
+        SaysCheck (now (table .entry)) (run (tableIn (now (table .entry))) (tryTerms (mailOf client (now (sender .entry)) (now (helo .entry)) (now (receiver .entry)) seconds) (check n (mailOf client (now (sender .entry)) (now (helo .entry)) (now (receiver .entry)) seconds)) (spanOf (now (table .entry)) domain) (termsOf (spanOf (now (table .entry)) text) first) (termsOf (spanOf (now (table .entry)) text) first) counts)) r (now (out .entry)) (now (out .exit))) ⌝ }
 {
     let s = bytes::part(table, text.from, text.to);
     let mut at = first;
@@ -270,7 +270,7 @@ fn try_terms(
                 return Checked {
                     ending,
                     counts: c,
-                    failing: Failing::Nowhere,
+                    failing: FailingPlace::Nowhere,
                 };
             }
             Matched::No => {
@@ -310,7 +310,7 @@ fn no_match(
 ) -> Checked
     requires { ⌜ (length (now sender) ≤ 320) × (length (spanOf (now table) domain) ≤ 253) × (counts .lookups ≤ 10) × (counts .voids ≤ 2) ⌝ }
     ensures { λ r. ⌜ ((n : ℕ) → 10 ≤ n + counts .lookups →
-        Says (now (table .entry)) (run (asks (now (table .entry))) (noMatch (mailOf client (now (sender .entry)) (now (helo .entry)) (now (receiver .entry)) seconds) (check n (mailOf client (now (sender .entry)) (now (helo .entry)) (now (receiver .entry)) seconds)) (spanOf (now (table .entry)) domain) (modifierOf (bytes "redirect") (termsOf (now (s .entry)) first)) counts)) r (now (out .entry)) (now (out .exit))) ⌝ }
+        SaysCheck (now (table .entry)) (run (tableIn (now (table .entry))) (noMatch (mailOf client (now (sender .entry)) (now (helo .entry)) (now (receiver .entry)) seconds) (check n (mailOf client (now (sender .entry)) (now (helo .entry)) (now (receiver .entry)) seconds)) (spanOf (now (table .entry)) domain) (modifierOf (bytes "redirect") (termsOf (now (s .entry)) first)) counts)) r (now (out .entry)) (now (out .exit))) ⌝ }
 {
     let Modifier::Part { from, to } = modifiers::find_redirect(s, first) else {
         return ended(1, counts);
@@ -346,7 +346,7 @@ fn try_term(
 ) -> Stepped
     requires { ⌜ (length (now sender) ≤ 320) × (length (spanOf (now table) domain) ≤ 253) × (counts .lookups ≤ 10) × (counts .voids ≤ 2) ⌝ }
     ensures { λ r. ⌜ ((n : ℕ) → 10 ≤ n + counts .lookups →
-        SaysStep (run (asks (now (table .entry))) (termStep (mailOf client (now (sender .entry)) (now (helo .entry)) (now (receiver .entry)) seconds) (check n (mailOf client (now (sender .entry)) (now (helo .entry)) (now (receiver .entry)) seconds)) (spanOf (now (table .entry)) domain) (saidOf (now (w .entry)) term) (saidOf (now (w .entry)) term .sign) counts)) r (now (out .entry)) (now (out .exit))) ⌝ }
+        SaysStep (run (tableIn (now (table .entry))) (termStep (mailOf client (now (sender .entry)) (now (helo .entry)) (now (receiver .entry)) seconds) (check n (mailOf client (now (sender .entry)) (now (helo .entry)) (now (receiver .entry)) seconds)) (spanOf (now (table .entry)) domain) (saidOf (now (w .entry)) term) (saidOf (now (w .entry)) term .sign) counts)) r (now (out .entry)) (now (out .exit))) ⌝ }
 {
     match mechanisms::try_plain(
         client,
@@ -392,7 +392,7 @@ fn include(
 ) -> Stepped
     requires { ⌜ (length (now sender) ≤ 320) × (length (spanOf (now table) domain) ≤ 253) × (counts .lookups ≤ 10) × (counts .voids ≤ 2) ⌝ }
     ensures { λ r. ⌜ ((n : ℕ) → 10 ≤ n + counts .lookups →
-        SaysStep (run (asks (now (table .entry))) (includeStep (mailOf client (now (sender .entry)) (now (helo .entry)) (now (receiver .entry)) seconds) (check n (mailOf client (now (sender .entry)) (now (helo .entry)) (now (receiver .entry)) seconds)) (spanOf (now (table .entry)) domain) (now (spec .entry)) counts)) r (now (out .entry)) (now (out .exit))) ⌝ }
+        SaysStep (run (tableIn (now (table .entry))) (includeStep (mailOf client (now (sender .entry)) (now (helo .entry)) (now (receiver .entry)) seconds) (check n (mailOf client (now (sender .entry)) (now (helo .entry)) (now (receiver .entry)) seconds)) (spanOf (now (table .entry)) domain) (now (spec .entry)) counts)) r (now (out .entry)) (now (out .exit))) ⌝ }
 {
     let o = begin_check(
         client,
@@ -424,7 +424,7 @@ fn begin_check(
 ) -> Checked
     requires { ⌜ (length (now sender) ≤ 320) × (length (spanOf (now table) domain) ≤ 253) × (counts .lookups ≤ 10) × (counts .voids ≤ 2) ⌝ }
     ensures { λ r. ⌜ ((n : ℕ) → 10 ≤ n + counts .lookups →
-        Says (now (table .entry)) (run (asks (now (table .entry))) (begunCheck (mailOf client (now (sender .entry)) (now (helo .entry)) (now (receiver .entry)) seconds) (check n (mailOf client (now (sender .entry)) (now (helo .entry)) (now (receiver .entry)) seconds)) (spanOf (now (table .entry)) domain) (now (spec .entry)) counts)) r (now (out .entry)) (now (out .exit))) ⌝ }
+        SaysCheck (now (table .entry)) (run (tableIn (now (table .entry))) (begunCheck (mailOf client (now (sender .entry)) (now (helo .entry)) (now (receiver .entry)) seconds) (check n (mailOf client (now (sender .entry)) (now (helo .entry)) (now (receiver .entry)) seconds)) (spanOf (now (table .entry)) domain) (now (spec .entry)) counts)) r (now (out .entry)) (now (out .exit))) ⌝ }
 {
     let used = counts.lookups;
     if 10 <= used {

@@ -4,10 +4,10 @@ ghost use mathlib.Core.Path.{_≡_};
 ghost use mathlib.Core.Bool.{_&&_};
 ghost use lib.ListN.{length};
 ghost use Rattle.meaning.specs.Tree.{run};
-ghost use Rattle.meaning.specs.Tables.{asks};
+ghost use Rattle.meaning.specs.Tables.{tableIn};
 ghost use Rattle.macros.specs.Expansion.{isHost};
 ghost use Rattle.meaning.specs.Evaluation.{evaluation, verdict};
-ghost use Rattle.meaning.specs.Outcomes.{mailOf, Says as CheckSays};
+ghost use Rattle.meaning.specs.Outcomes.{mailOf, SaysCheck};
 ghost use Rattle.evaluation.specs.Numbers.{settles, Says};
 ghost use Rattle.evaluation.specs.Evaluating.{refusalOf, evaluated};
 ghost use Rattle.evaluation.specs.Answers.{Answered};
@@ -97,7 +97,7 @@ fn check_given(
     out: &mut [u8],
 ) -> Checked
     requires { ⌜ length (now sender) ≤ 320 ⌝ }
-    ensures { λ r. ⌜ CheckSays (now (table .entry)) (run (asks (now (table .entry))) (evaluation (mailOf client (now (sender .entry)) (now (helo .entry)) (now (receiver .entry)) seconds) (now (domain .entry)))) r (now (out .entry)) (now (out .exit)) ⌝ }
+    ensures { λ r. ⌜ SaysCheck (now (table .entry)) (run (tableIn (now (table .entry))) (evaluation (mailOf client (now (sender .entry)) (now (helo .entry)) (now (receiver .entry)) seconds) (now (domain .entry)))) r (now (out .entry)) (now (out .exit)) ⌝ }
 {
     let none = Counts {
         lookups: 0,
@@ -133,7 +133,7 @@ fn decide(
     text: &mut [u8],
 ) -> Answer
     requires { ⌜ length (now sender) ≤ 320 ⌝ }
-    ensures { λ r. ⌜ Says (settles (run (asks (now (table .entry))) (verdict (mailOf client (now (sender .entry)) (now (helo .entry)) (now (receiver .entry)) seconds) (now (domain .entry))))) r (now (name .entry)) (now (name .exit)) (now (text .entry)) (now (text .exit)) ⌝ }
+    ensures { λ r. ⌜ Says (settles (run (tableIn (now (table .entry))) (verdict (mailOf client (now (sender .entry)) (now (helo .entry)) (now (receiver .entry)) seconds) (now (domain .entry))))) r (now (name .entry)) (now (name .exit)) (now (text .entry)) (now (text .exit)) ⌝ }
 {
     let o = check_given(client, sender, helo, receiver, seconds, table, domain, name);
     let counts = o.counts;

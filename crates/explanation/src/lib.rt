@@ -5,7 +5,7 @@ ghost use lib.ListN.{length};
 ghost use Rattle.domain.specs.Normal.{name};
 ghost use Rattle.macros.specs.declared.Form.the-variants.{Explanation};
 ghost use Rattle.meaning.specs.Tree.{run};
-ghost use Rattle.meaning.specs.Tables.{asks};
+ghost use Rattle.meaning.specs.Tables.{tableIn};
 ghost use Rattle.meaning.specs.Mechanisms.{expansion};
 ghost use Rattle.meaning.specs.Evaluation.{shown, explained, explainName, explanation};
 ghost use Rattle.meaning.specs.Outcomes.{mailOf, failingOf, SaysText};
@@ -15,7 +15,7 @@ use macros::Expanded;
 use macros::Form;
 use meaning::Counts;
 use meaning::Explained;
-use meaning::Failing;
+use meaning::FailingPlace;
 use meaning::PValue;
 use meaning::Target;
 use selection::modifiers;
@@ -87,7 +87,7 @@ fn explain_with_p(
     out: &mut [u8],
 ) -> Explained
     requires { ⌜ length (now sender) ≤ 320 ⌝ }
-    ensures { λ r. ⌜ SaysText counts (run (asks (now (table .entry))) (withP (mailOf client (now (sender .entry)) (now (helo .entry)) (now (receiver .entry)) seconds) (now (domain .entry)) (now (s .entry)) counts)) r (now (text .entry)) (now (text .exit)) (now (out .entry)) (now (out .exit)) ⌝ }
+    ensures { λ r. ⌜ SaysText counts (run (tableIn (now (table .entry))) (withP (mailOf client (now (sender .entry)) (now (helo .entry)) (now (receiver .entry)) seconds) (now (domain .entry)) (now (s .entry)) counts)) r (now (text .entry)) (now (text .exit)) (now (out .entry)) (now (out .exit)) ⌝ }
 {
     match targets::find_p(client, table, domain, counts, out) {
         PValue::Current => Explained::Text(write_shown(
@@ -142,7 +142,7 @@ fn explain_text(
     out: &mut [u8],
 ) -> Explained
     requires { ⌜ length (now sender) ≤ 320 ⌝ }
-    ensures { λ r. ⌜ SaysText counts (run (asks (now (table .entry))) (explained (mailOf client (now (sender .entry)) (now (helo .entry)) (now (receiver .entry)) seconds) (now (domain .entry)) counts (now (s .entry) ∷ []))) r (now (text .entry)) (now (text .exit)) (now (out .entry)) (now (out .exit)) ⌝ }
+    ensures { λ r. ⌜ SaysText counts (run (tableIn (now (table .entry))) (explained (mailOf client (now (sender .entry)) (now (helo .entry)) (now (receiver .entry)) seconds) (now (domain .entry)) counts (now (s .entry) ∷ []))) r (now (text .entry)) (now (text .exit)) (now (out .entry)) (now (out .exit)) ⌝ }
 {
     if macros::read_macro_string(Form::Explanation, s) {
         if macros::uses_p(Form::Explanation, s) {
@@ -190,7 +190,7 @@ fn explain_name(
     out: &mut [u8],
 ) -> Explained
     requires { ⌜ length (now sender) ≤ 320 ⌝ }
-    ensures { λ r. ⌜ SaysText counts (run (asks (now (table .entry))) (explainName (mailOf client (now (sender .entry)) (now (helo .entry)) (now (receiver .entry)) seconds) (now (domain .entry)) counts (name (now (target .entry))))) r (now (text .entry)) (now (text .exit)) (now (out .entry)) (now (out .exit)) ⌝ }
+    ensures { λ r. ⌜ SaysText counts (run (tableIn (now (table .entry))) (explainName (mailOf client (now (sender .entry)) (now (helo .entry)) (now (receiver .entry)) seconds) (now (domain .entry)) counts (name (now (target .entry))))) r (now (text .entry)) (now (text .exit)) (now (out .entry)) (now (out .exit)) ⌝ }
 {
     let found = table::find(table, 16, target);
     let Found::Entry { status, start, end } = found else {
@@ -240,7 +240,7 @@ fn fetch(
     out: &mut [u8],
 ) -> Explained
     requires { ⌜ length (now sender) ≤ 320 ⌝ }
-    ensures { λ r. ⌜ SaysText counts (run (asks (now (table .entry))) (fetched (mailOf client (now (sender .entry)) (now (helo .entry)) (now (receiver .entry)) seconds) (now (domain .entry)) (now (spec .entry)) counts)) r (now (text .entry)) (now (text .exit)) (now (out .entry)) (now (out .exit)) ⌝ }
+    ensures { λ r. ⌜ SaysText counts (run (tableIn (now (table .entry))) (fetched (mailOf client (now (sender .entry)) (now (helo .entry)) (now (receiver .entry)) seconds) (now (domain .entry)) (now (spec .entry)) counts)) r (now (text .entry)) (now (text .exit)) (now (out .entry)) (now (out .exit)) ⌝ }
 {
     let mut target = [0u8; 253];
     match targets::make_target(
@@ -282,15 +282,15 @@ pub fn explain(
     receiver: &[u8],
     seconds: u64,
     table: &[u8],
-    failing: Failing,
+    failing: FailingPlace,
     counts: Counts,
     text: &mut [u8],
     out: &mut [u8],
 ) -> Explained
     requires { ⌜ length (now sender) ≤ 320 ⌝ }
-    ensures { λ r. ⌜ SaysText counts (run (asks (now (table .entry))) (explanation (mailOf client (now (sender .entry)) (now (helo .entry)) (now (receiver .entry)) seconds) (failingOf (now (table .entry)) failing) counts)) r (now (text .entry)) (now (text .exit)) (now (out .entry)) (now (out .exit)) ⌝ }
+    ensures { λ r. ⌜ SaysText counts (run (tableIn (now (table .entry))) (explanation (mailOf client (now (sender .entry)) (now (helo .entry)) (now (receiver .entry)) seconds) (failingOf (now (table .entry)) failing) counts)) r (now (text .entry)) (now (text .exit)) (now (out .entry)) (now (out .exit)) ⌝ }
 {
-    let Failing::In {
+    let FailingPlace::In {
         domain,
         text: place,
         terms,

@@ -34,7 +34,7 @@ use Rattle.records.specs.declared.RecordAnswer.{RecordAnswer}
 use Rattle.meaning.specs.declared.Counts.{Counts}
 use Rattle.meaning.specs.Tree.{Reply, failed, items, Table, Check, give, ask, peek, Settled, settled, wanting, bind, answered, run}
 use Rattle.meaning.specs.Reversed.{reversed-ok}
-use Rattle.meaning.specs.Tables.{replyBy, replyOf, asks}
+use Rattle.meaning.specs.Tables.{replyBy, replyOf, tableIn}
 use Rattle.meaning.specs.Mechanisms.{Mail, Match, yes, no, stop, Step, step, addressKind, anyMatches, includesClient, withValid, validated, most-names, namesOf, givesChosen, pReply, pValue, givesExpansion, expanded, givesName, target, targetOr, most-lookups, most-voids, begun, voided, counting, withName, naming, named, orVoid, matched, aReply, askA, aStep, existsReply, askExists, existsStep, insertHost, byPreference, hostReply, askHosts, most-hosts, mxItems, mxReply, askMx, mxStep, nameReply, askNames, ptrReply, askPtr, ptrStep}
 use Rattle.meaning.specs.Evaluation.{Failing, Result, Sub, ended, checkTarget, begunCheck, includeOf, includeStep, bytesOr, numberOr, lengthFor, networkStep, mechanismStep, termStep, signResult, modifierOf, signed, noneIsPermerror, redirectOf, noMatch, afterStep, tryTerms, termsOf, readOutcome, versioned, Selection, ends, one, selection, textReply, textLookup, spfItems, spfReply, recordLookup, afterLookup, checkName, check, noCounts, evaluation, givesShown, explained, explainReply, explainName, explanation, Verdict, verdict}
 
@@ -455,10 +455,10 @@ lookup-fits (more {e = e} {es = es} w p) kind d =
     subst (λ (k : ℕ). ReplyFits k (replyBy (e .status) (e .items))) i (reply-fits (e .kind) (e .status) (e .items) (encoded-items w)))
     (λ _. lookup-fits p kind d)
 
-pub entries-fit : {t : List ℕ} {es : List Entry} → Entries t es → Fitting (asks t)
-unfolding asks OptionalFits
+pub entries-fit : {t : List ℕ} {es : List Entry} → Entries t es → Fitting (tableIn t)
+unfolding tableIn OptionalFits
 entries-fit p kind d r e = subst (OptionalFits kind) (rw (entries-complete p) at e) (lookup-fits p kind d)
 
 -- with a table that encodes entries: every question that is lacking is one that the table can answer, and only a fail has a text
-pub verdict-settles : {t : List ℕ} {es : List Entry} → Entries t es → (mail : Mail) (domain : List ℕ) → Settles TextOfFail (run (asks t) (verdict mail domain))
-verdict-settles {t} p mail domain = askable-run TextOfFail (asks t) (entries-fit p) (verdict mail domain) (verdict-askable mail domain)
+pub verdict-settles : {t : List ℕ} {es : List Entry} → Entries t es → (mail : Mail) (domain : List ℕ) → Settles TextOfFail (run (tableIn t) (verdict mail domain))
+verdict-settles {t} p mail domain = askable-run TextOfFail (tableIn t) (entries-fit p) (verdict mail domain) (verdict-askable mail domain)

@@ -165,33 +165,33 @@ verdict-always mail domain =
     (explanation-asks (Bounded noCounts) mail (r .failing) (r .counts) (b .fetched)) (λ x _. b .reported))
 
 -- the counts at a missing question, and those with a result's value
-pub record Asked (c : Counts) : Type 0 where
+pub record AskedBounds (c : Counts) : Type 0 where
   pub lookups-ten : c .lookups ≤ 10
   pub voids-two : c .voids ≤ 2
 
-pub record Answered (value : ℕ) (c : Counts) : Type 0 where
+pub record AnsweredBounds (value : ℕ) (c : Counts) : Type 0 where
   pub lookups-ten : c .lookups ≤ 10
   pub voids-three : c .voids ≤ 3
   pub third : 2 < c .voids → value ≡ 6
 
-asked-of : (c k : Counts) → Bounded c k → Asked k
+asked-of : (c k : Counts) → Bounded c k → AskedBounds k
 asked-of c k b = record { lookups-ten = b .lookups-small; voids-two = b .voids-small }
 
-answered-of : (c : Counts) (v : ℕ) (k : Counts) → Reported c v k → Answered v k
+answered-of : (c : Counts) (v : ℕ) (k : Counts) → Reported c v k → AnsweredBounds v k
 answered-of c v k r = record { lookups-ten = r .lookups-small; voids-three = r .voids-most; third = r .third }
 
 -- whatever the table, the mail and the domain
-pub evaluation-bounded : (t : Table) (mail : Mail) (domain : List ℕ) → Holds Asked (λ r. Answered (r .value) (r .counts)) (run t (evaluation mail domain))
+pub evaluation-bounded : (t : Table) (mail : Mail) (domain : List ℕ) → Holds AskedBounds (λ r. AnsweredBounds (r .value) (r .counts)) (run t (evaluation mail domain))
 unfolding evaluation
 evaluation-bounded t mail domain =
-    always-run Asked (λ r. Answered (r .value) (r .counts)) t (check 11 mail (normal domain) noCounts)
-    (always-weaken (Bounded noCounts) Asked (ResultBounded noCounts) _ (asked-of noCounts) (λ r b. answered-of noCounts (r .value) (r .counts) (b .reported))
+    always-run AskedBounds (λ r. AnsweredBounds (r .value) (r .counts)) t (check 11 mail (normal domain) noCounts)
+    (always-weaken (Bounded noCounts) AskedBounds (ResultBounded noCounts) _ (asked-of noCounts) (λ r b. answered-of noCounts (r .value) (r .counts) (b .reported))
     (check 11 mail (normal domain) noCounts) (check-bounded 11 mail (normal domain) noCounts (omega arith) (omega arith)))
 
-pub verdict-bounded : (t : Table) (mail : Mail) (domain : List ℕ) → Holds Asked (λ v. Answered (v .value) (v .counts)) (run t (verdict mail domain))
+pub verdict-bounded : (t : Table) (mail : Mail) (domain : List ℕ) → Holds AskedBounds (λ v. AnsweredBounds (v .value) (v .counts)) (run t (verdict mail domain))
 verdict-bounded t mail domain =
-    always-run Asked (λ v. Answered (v .value) (v .counts)) t (verdict mail domain)
-    (always-weaken (Bounded noCounts) Asked _ _ (asked-of noCounts) (λ v. answered-of noCounts (v .value) (v .counts)) (verdict mail domain) (verdict-always mail domain))
+    always-run AskedBounds (λ v. AnsweredBounds (v .value) (v .counts)) t (verdict mail domain)
+    (always-weaken (Bounded noCounts) AskedBounds _ _ (asked-of noCounts) (λ v. answered-of noCounts (v .value) (v .counts)) (verdict mail domain) (verdict-always mail domain))
 
 -- the verdict of a result has its value and counts, and a question of the explanation reports these counts
 pub verdict-keeps : (t : Table) (mail : Mail) (domain : List ℕ) (r : Result) → run t (evaluation mail domain) ≡ settled r

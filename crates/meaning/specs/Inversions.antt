@@ -15,14 +15,14 @@ use Rattle.meaning.specs.declared.Stepped.{Stepped}
 use Rattle.meaning.specs.declared.Target.{Target}
 use Rattle.meaning.specs.declared.PValue.{PValue}
 use Rattle.meaning.specs.declared.Span.{Span}
-use Rattle.meaning.specs.declared.Lookup.{Lookup}
+use Rattle.meaning.specs.declared.Selected.{Selected}
 use Rattle.meaning.specs.declared.Checked.{Checked}
 use Rattle.meaning.specs.declared.Explained.{Explained}
 use Rattle.meaning.specs.Tree.{Table, Check, Settled, settled, wanting, bind, run}
 use Rattle.meaning.specs.Runs.{bind-wants}
 use Rattle.meaning.specs.Mechanisms.{Match, yes, no, stop, Step}
 use Rattle.meaning.specs.Evaluation.{Result, Selection, ends, one}
-use Rattle.meaning.specs.Outcomes.{wantedBuffer, matchedOf, steppedOf, SaysStep, TargetIs, SaysTarget, PIs, SaysP, spanOf, LookupIs, SaysLookup, failingOf, CheckedIs, Says, ExplainedIs, textBuffer, SaysText}
+use Rattle.meaning.specs.Outcomes.{wantedBuffer, matchedOf, steppedOf, SaysStep, TargetIs, SaysTarget, PIs, SaysP, spanOf, SelectedIs, SaysSelection, failingOf, CheckedIs, SaysCheck, ExplainedIs, textBuffer, SaysText}
 
 -- a question that is wanted: its kind, its name's length, and the name buffer
 pub record Wants {A : Type 0} (x : Settled A) (kind size : ℕ) (c : Counts) (before after : List ℕ) : Type 0 where
@@ -158,14 +158,14 @@ p-wants c d t (wanting k m l) r b a w kind size e =
     record { asked = m; is = rw (i, p .1); size-is = j; buffer = w .buffer }
 
 -- record lookup
-pub lookup-ends : (c : Counts) (d t : List ℕ) (x : Settled Selection) (r : Lookup) (b a : List ℕ) → SaysLookup c d t x r b a → (v : ℕ) → r ≡ Lookup.Ends v → Gives x (ends v) b a
-unfolding LookupIs wantedBuffer
+pub lookup-ends : (c : Counts) (d t : List ℕ) (x : Settled Selection) (r : Selected) (b a : List ℕ) → SaysSelection c d t x r b a → (v : ℕ) → r ≡ Selected.Ends v → Gives x (ends v) b a
+unfolding SelectedIs wantedBuffer
 lookup-ends c d t (settled (ends u)) r b a w v e = let p = w .lookup in let i : v ≡ u = cc in record { is = rw i; kept = w .buffer }
 lookup-ends c d t (settled (one s)) r b a w v e = let q = w .lookup in let p = q .2 in let z : _≡_ {A = ℕ} 0 1 = cc in absurd (omega arith)
 lookup-ends c d t (wanting k m l) r b a w v e = let p = w .lookup in let z : _≡_ {A = ℕ} 0 1 = cc in absurd (omega arith)
 
-pub lookup-one : (c : Counts) (d t : List ℕ) (x : Settled Selection) (r : Lookup) (b a : List ℕ) → SaysLookup c d t x r b a → (domain text : Span) → r ≡ Lookup.One domain text → Gives x (one (spanOf t text)) b a × (spanOf t domain ≡ d)
-unfolding LookupIs wantedBuffer
+pub lookup-one : (c : Counts) (d t : List ℕ) (x : Settled Selection) (r : Selected) (b a : List ℕ) → SaysSelection c d t x r b a → (domain text : Span) → r ≡ Selected.One domain text → Gives x (one (spanOf t text)) b a × (spanOf t domain ≡ d)
+unfolding SelectedIs wantedBuffer
 lookup-one c d t (settled (ends u)) r b a w domain text e = let p = w .lookup in let z : _≡_ {A = ℕ} 0 1 = cc in absurd (omega arith)
 lookup-one c d t (settled (one s)) r b a w domain text e =
     let q = w .lookup in
@@ -175,8 +175,8 @@ lookup-one c d t (settled (one s)) r b a w domain text e =
     (record { is = rw (j, q .4); kept = w .buffer }, rw i (q .3))
 lookup-one c d t (wanting k m l) r b a w domain text e = let p = w .lookup in let z : _≡_ {A = ℕ} 0 1 = cc in absurd (omega arith)
 
-pub lookup-wants : (c : Counts) (d t : List ℕ) (x : Settled Selection) (r : Lookup) (b a : List ℕ) → SaysLookup c d t x r b a → (kind size : ℕ) → r ≡ Lookup.Wanting kind size → Wants x kind size c b a
-unfolding LookupIs wantedBuffer
+pub lookup-wants : (c : Counts) (d t : List ℕ) (x : Settled Selection) (r : Selected) (b a : List ℕ) → SaysSelection c d t x r b a → (kind size : ℕ) → r ≡ Selected.Wanting kind size → Wants x kind size c b a
+unfolding SelectedIs wantedBuffer
 lookup-wants c d t (settled (ends u)) r b a w kind size e = let p = w .lookup in let z : _≡_ {A = ℕ} 0 1 = cc in absurd (omega arith)
 lookup-wants c d t (settled (one s)) r b a w kind size e = let q = w .lookup in let p = q .2 in let z : _≡_ {A = ℕ} 0 1 = cc in absurd (omega arith)
 lookup-wants c d t (wanting k m l) r b a w kind size e =
@@ -185,7 +185,7 @@ lookup-wants c d t (wanting k m l) r b a w kind size e =
     record { asked = m; is = rw (i, p .1); size-is = j; buffer = w .buffer }
 
 -- a check
-pub checked-result : (t : List ℕ) (x : Settled Result) (o : Checked) (b a : List ℕ) → Says t x o b a → (v : ℕ) → o .ending ≡ Ending.Result v → Gives x (record { value = v; counts = o .counts; failing = failingOf t (o .failing) }) b a
+pub checked-result : (t : List ℕ) (x : Settled Result) (o : Checked) (b a : List ℕ) → SaysCheck t x o b a → (v : ℕ) → o .ending ≡ Ending.Result v → Gives x (record { value = v; counts = o .counts; failing = failingOf t (o .failing) }) b a
 unfolding CheckedIs wantedBuffer
 checked-result t (settled r) o b a w v e =
     let p = w .checked in
@@ -193,7 +193,7 @@ checked-result t (settled r) o b a w v e =
     record { is = rw (i, p .1, p .2); kept = w .buffer }
 checked-result t (wanting k m l) o b a w v e = let p = w .checked in let z : _≡_ {A = ℕ} 0 1 = cc in absurd (omega arith)
 
-pub checked-wants : (t : List ℕ) (x : Settled Result) (o : Checked) (b a : List ℕ) → Says t x o b a → (kind size : ℕ) → o .ending ≡ Ending.Wanting kind size → Wants x kind size (o .counts) b a
+pub checked-wants : (t : List ℕ) (x : Settled Result) (o : Checked) (b a : List ℕ) → SaysCheck t x o b a → (kind size : ℕ) → o .ending ≡ Ending.Wanting kind size → Wants x kind size (o .counts) b a
 unfolding CheckedIs wantedBuffer
 checked-wants t (settled r) o b a w kind size e = let p = w .checked in let z : _≡_ {A = ℕ} 0 1 = cc in absurd (omega arith)
 checked-wants t (wanting k m l) o b a w kind size e =
@@ -203,12 +203,12 @@ checked-wants t (wanting k m l) o b a w kind size e =
 
 -- and the other way round
 pub gives-says : (t : List ℕ) (x : Settled Result) (v : ℕ) (c : Counts) (o : Checked) (b a : List ℕ)
-    → Gives x (record { value = v; counts = c; failing = failingOf t (o .failing) }) b a → o .ending ≡ Ending.Result v → o .counts ≡ c → Says t x o b a
+    → Gives x (record { value = v; counts = c; failing = failingOf t (o .failing) }) b a → o .ending ≡ Ending.Result v → o .counts ≡ c → SaysCheck t x o b a
 unfolding CheckedIs wantedBuffer
 gives-says t x v c o b a g e k = rw (g .is) (record { checked = (e, k, refl); buffer = g .kept })
 
 pub wants-says : (t : List ℕ) (x : Settled Result) (kind size : ℕ) (o : Checked) (b a : List ℕ)
-    → Wants x kind size (o .counts) b a → o .ending ≡ Ending.Wanting kind size → Says t x o b a
+    → Wants x kind size (o .counts) b a → o .ending ≡ Ending.Wanting kind size → SaysCheck t x o b a
 unfolding CheckedIs wantedBuffer
 wants-says t x kind size o b a w e = rw (w .is) (record { checked = (e ∙ ap (Ending.Wanting kind) (w .size-is), refl); buffer = w .buffer })
 

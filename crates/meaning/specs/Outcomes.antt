@@ -18,13 +18,13 @@ use Rattle.meaning.specs.declared.Stepped.{Stepped}
 use Rattle.meaning.specs.declared.Target.{Target}
 use Rattle.meaning.specs.declared.PValue.{PValue}
 use Rattle.meaning.specs.declared.Span.{Span}
-use Rattle.meaning.specs.declared.Lookup.{Lookup}
-use Rattle.meaning.specs.declared.Failing.{Failing}
+use Rattle.meaning.specs.declared.Selected.{Selected}
+use Rattle.meaning.specs.declared.FailingPlace.{FailingPlace}
 use Rattle.meaning.specs.declared.Checked.{Checked}
 use Rattle.meaning.specs.declared.Explained.{Explained}
 use Rattle.meaning.specs.Tree.{Settled, settled, wanting}
 use Rattle.meaning.specs.Mechanisms.{Mail, Match, yes, no, stop, Step}
-use Rattle.meaning.specs.Evaluation.{Failing as FailingAt, failingAt, Result, Selection, ends, one, modifierOf, termsOf}
+use Rattle.meaning.specs.Evaluation.{Failing, failingAt, Result, Selection, ends, one, modifierOf, termsOf}
 
 -- what the calls are lent, as the definitions have it
 abbrev pub mailOf : Address → (sender helo receiver : List ℕ) → ℕ → Mail
@@ -75,27 +75,27 @@ pub record SaysP (c : Counts) (d t : List ℕ) (x : Settled (List ℕ)) (r : PVa
 abbrev pub spanOf : List ℕ → Span → List ℕ
 spanOf t s = part t (s .from) (s .to)
 
-unfoldable pub LookupIs : Counts → (d t : List ℕ) → Settled Selection → Lookup → Type 0
-LookupIs c d t (settled (ends v)) r = r ≡ Lookup.Ends v
-LookupIs c d t (settled (one s)) r =
-    (domain text : Span) × (r ≡ Lookup.One domain text) × (spanOf t domain ≡ d) × (spanOf t text ≡ s)
-LookupIs c d t (wanting kind n e) r = (r ≡ Lookup.Wanting kind (length n)) × (e ≡ c)
+unfoldable pub SelectedIs : Counts → (d t : List ℕ) → Settled Selection → Selected → Type 0
+SelectedIs c d t (settled (ends v)) r = r ≡ Selected.Ends v
+SelectedIs c d t (settled (one s)) r =
+    (domain text : Span) × (r ≡ Selected.One domain text) × (spanOf t domain ≡ d) × (spanOf t text ≡ s)
+SelectedIs c d t (wanting kind n e) r = (r ≡ Selected.Wanting kind (length n)) × (e ≡ c)
 
-pub record SaysLookup (c : Counts) (d t : List ℕ) (x : Settled Selection) (r : Lookup) (before after : List ℕ) : Type 0 where
-  pub lookup : LookupIs c d t x r
+pub record SaysSelection (c : Counts) (d t : List ℕ) (x : Settled Selection) (r : Selected) (before after : List ℕ) : Type 0 where
+  pub lookup : SelectedIs c d t x r
   pub buffer : after ≡ wantedBuffer x before
 
 -- where a fail's explanation is
-unfoldable pub failingOf : List ℕ → Failing → Optional FailingAt
-failingOf t Failing.Nowhere = absent
-failingOf t (Failing.In domain text terms) = failingAt (spanOf t domain) (modifierOf (bytes "exp") (termsOf (spanOf t text) terms))
+unfoldable pub failingOf : List ℕ → FailingPlace → Optional Failing
+failingOf t FailingPlace.Nowhere = absent
+failingOf t (FailingPlace.In domain text terms) = failingAt (spanOf t domain) (modifierOf (bytes "exp") (termsOf (spanOf t text) terms))
 
 -- a check
 unfoldable pub CheckedIs : List ℕ → Settled Result → Checked → Type 0
 CheckedIs t (settled r) o = (o .ending ≡ Ending.Result (r .value)) × (o .counts ≡ r .counts) × (failingOf t (o .failing) ≡ r .failing)
 CheckedIs t (wanting kind n c) o = (o .ending ≡ Ending.Wanting kind (length n)) × (o .counts ≡ c)
 
-pub record Says (t : List ℕ) (x : Settled Result) (o : Checked) (before after : List ℕ) : Type 0 where
+pub record SaysCheck (t : List ℕ) (x : Settled Result) (o : Checked) (before after : List ℕ) : Type 0 where
   pub checked : CheckedIs t x o
   pub buffer : after ≡ wantedBuffer x before
 

@@ -18,5 +18,5 @@ replyOf Lookup.absent = absent
 replyOf (Lookup.present e) = present (replyBy (e .status) (e .items))
 
 -- the table that bytes encode
-unfoldable pub asks : List ℕ → Table
-asks t kind name = replyOf (lookup kind name (entriesOf t))
+unfoldable pub tableIn : List ℕ → Table
+tableIn t kind name = replyOf (lookup kind name (entriesOf t))

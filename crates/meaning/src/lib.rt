@@ -48,14 +48,14 @@ pub struct Span {
 
 // What record lookup comes to: a result; the record that is selected, where its domain's name and its text stand in the table; or a question without
 // an entry.
-pub enum Lookup {
+pub enum Selected {
     Ends(u8),
     One { domain: Span, text: Span },
     Wanting { kind: u16, length: usize },
 }
 
 // Where a fail's explanation is: nowhere; or in the record whose domain's name and text stand in the table, with its terms from a place on.
-pub enum Failing {
+pub enum FailingPlace {
     Nowhere,
     In {
         domain: Span,
@@ -68,7 +68,7 @@ pub enum Failing {
 pub struct Checked {
     pub ending: Ending,
     pub counts: Counts,
-    pub failing: Failing,
+    pub failing: FailingPlace,
 }
 
 // What fetching an explanation comes to: the length of its text, or a question without an entry.

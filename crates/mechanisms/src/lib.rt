@@ -5,7 +5,7 @@ ghost use mathlib.Core.Bool.{true, false, cond};
 ghost use lib.Dec.{eqb};
 ghost use lib.ListN.{length};
 ghost use Rattle.meaning.specs.Tree.{run};
-ghost use Rattle.meaning.specs.Tables.{asks};
+ghost use Rattle.meaning.specs.Tables.{tableIn};
 ghost use Rattle.meaning.specs.Mechanisms.{named};
 ghost use Rattle.meaning.specs.Outcomes.{mailOf, SaysStep};
 ghost use Rattle.mechanisms.specs.Terms.{asker, lengthOf, specIf, steppedIf, TriedIs};
@@ -43,7 +43,7 @@ fn ask(
     out: &mut [u8],
 ) -> Stepped
     requires { ⌜ counts .voids ≤ 2 ⌝ }
-    ensures { λ r. ⌜ SaysStep (run (asks (now (table .entry))) (asker question client prefix counts (now (name .entry)))) r (now (out .entry)) (now (out .exit)) ⌝ }
+    ensures { λ r. ⌜ SaysStep (run (tableIn (now (table .entry))) (asker question client prefix counts (now (name .entry)))) r (now (out .entry)) (now (out .exit)) ⌝ }
 {
     match question {
         Question::A => questions::ask_a(client, prefix, table, name, counts, out),
@@ -70,7 +70,7 @@ fn named_step(
     out: &mut [u8],
 ) -> Stepped
     requires { ⌜ (length (now sender) ≤ 320) × (length (now domain) ≤ 253) × (counts .voids ≤ 2) ⌝ }
-    ensures { λ r. ⌜ SaysStep (run (asks (now (table .entry))) (named (mailOf client (now (sender .entry)) (now (helo .entry)) (now (receiver .entry)) seconds) (now (domain .entry)) (specIf given (now (spec .entry))) (asker question client prefix) counts)) r (now (out .entry)) (now (out .exit)) ⌝ }
+    ensures { λ r. ⌜ SaysStep (run (tableIn (now (table .entry))) (named (mailOf client (now (sender .entry)) (now (helo .entry)) (now (receiver .entry)) seconds) (now (domain .entry)) (specIf given (now (spec .entry))) (asker question client prefix) counts)) r (now (out .entry)) (now (out .exit)) ⌝ }
 {
     let used = counts.lookups;
     if 10 <= used {
@@ -169,7 +169,7 @@ pub fn try_plain(
     out: &mut [u8],
 ) -> Tried
     requires { ⌜ (length (now sender) ≤ 320) × (length (now domain) ≤ 253) × (counts .voids ≤ 2) ⌝ }
-    ensures { λ r. ⌜ TriedIs (asks (now (table .entry))) (mailOf client (now (sender .entry)) (now (helo .entry)) (now (receiver .entry)) seconds) (now (domain .entry)) (now (w .entry)) term counts (now (out .entry)) (now (out .exit)) r ⌝ }
+    ensures { λ r. ⌜ TriedIs (tableIn (now (table .entry))) (mailOf client (now (sender .entry)) (now (helo .entry)) (now (receiver .entry)) seconds) (now (domain .entry)) (now (w .entry)) term counts (now (out .entry)) (now (out .exit)) r ⌝ }
 {
     match term {
         Term::All { sign: _ } => Tried::Step(matched(true, counts)),

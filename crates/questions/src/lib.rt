@@ -1,7 +1,7 @@
 // The questions of a, mx, ptr and exists once their target is known, and whether their answers match.
 ghost use Prim.Native.Nat.{_≤_};
 ghost use Rattle.meaning.specs.Tree.{run, ask};
-ghost use Rattle.meaning.specs.Tables.{asks};
+ghost use Rattle.meaning.specs.Tables.{tableIn};
 ghost use Rattle.meaning.specs.Mechanisms.{askA, askExists, askMx, ptrReply, askPtr};
 ghost use Rattle.meaning.specs.Outcomes.{SaysStep};
 use address::Address;
@@ -26,7 +26,7 @@ pub fn ask_a(
     out: &mut [u8],
 ) -> Stepped
     requires { ⌜ counts .voids ≤ 2 ⌝ }
-    ensures { λ r. ⌜ SaysStep (run (asks (now (table .entry))) (askA client length counts (now (name .entry)))) r (now (out .entry)) (now (out .exit)) ⌝ }
+    ensures { λ r. ⌜ SaysStep (run (tableIn (now (table .entry))) (askA client length counts (now (name .entry)))) r (now (out .entry)) (now (out .exit)) ⌝ }
 {
     let kind = answers::address_kind(client);
     let Found::Entry { status, start, end } = table::find(table, kind, name) else {
@@ -48,7 +48,7 @@ pub fn ask_a(
 // exists: always the A question.
 pub fn ask_exists(table: &[u8], name: &[u8], counts: Counts, out: &mut [u8]) -> Stepped
     requires { ⌜ counts .voids ≤ 2 ⌝ }
-    ensures { λ r. ⌜ SaysStep (run (asks (now (table .entry))) (askExists counts (now (name .entry)))) r (now (out .entry)) (now (out .exit)) ⌝ }
+    ensures { λ r. ⌜ SaysStep (run (tableIn (now (table .entry))) (askExists counts (now (name .entry)))) r (now (out .entry)) (now (out .exit)) ⌝ }
 {
     let Found::Entry { status, start, end } = table::find(table, 1, name) else {
         return replies::missing(1, name, counts, out);
@@ -79,7 +79,7 @@ pub fn ask_mx(
     out: &mut [u8],
 ) -> Stepped
     requires { ⌜ counts .voids ≤ 2 ⌝ }
-    ensures { λ r. ⌜ SaysStep (run (asks (now (table .entry))) (askMx client length counts (now (name .entry)))) r (now (out .entry)) (now (out .exit)) ⌝ }
+    ensures { λ r. ⌜ SaysStep (run (tableIn (now (table .entry))) (askMx client length counts (now (name .entry)))) r (now (out .entry)) (now (out .exit)) ⌝ }
 {
     let Found::Entry { status, start, end } = table::find(table, 15, name) else {
         return replies::missing(15, name, counts, out);
@@ -113,7 +113,7 @@ fn ask_pointers(
     out: &mut [u8],
 ) -> Stepped
     requires { ⌜ counts .voids ≤ 2 ⌝ }
-    ensures { λ r. ⌜ SaysStep (run (asks (now (table .entry))) (ask 12 (now (name .entry)) counts (ptrReply client (now (target .entry)) counts))) r (now (out .entry)) (now (out .exit)) ⌝ }
+    ensures { λ r. ⌜ SaysStep (run (tableIn (now (table .entry))) (ask 12 (now (name .entry)) counts (ptrReply client (now (target .entry)) counts))) r (now (out .entry)) (now (out .exit)) ⌝ }
 {
     let Found::Entry { status, start, end } = table::find(table, 12, name) else {
         return replies::missing(12, name, counts, out);
@@ -140,7 +140,7 @@ pub fn ask_ptr(
     out: &mut [u8],
 ) -> Stepped
     requires { ⌜ counts .voids ≤ 2 ⌝ }
-    ensures { λ r. ⌜ SaysStep (run (asks (now (table .entry))) (askPtr client counts (now (target .entry)))) r (now (out .entry)) (now (out .exit)) ⌝ }
+    ensures { λ r. ⌜ SaysStep (run (tableIn (now (table .entry))) (askPtr client counts (now (target .entry)))) r (now (out .entry)) (now (out .exit)) ⌝ }
 {
     let mut reversed = [0u8; 72];
     let n = notation::put_reversed_name(client, &mut reversed, 0);

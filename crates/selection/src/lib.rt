@@ -3,12 +3,12 @@ ghost use mathlib.Core.Path.{_≡_};
 ghost use Rattle.text.specs.Bytes.{part};
 ghost use Rattle.table.specs.Reader.{itemsOf};
 ghost use Rattle.meaning.specs.Tree.{run};
-ghost use Rattle.meaning.specs.Tables.{asks};
+ghost use Rattle.meaning.specs.Tables.{tableIn};
 ghost use Rattle.meaning.specs.Evaluation.{recordLookup, versioned};
-ghost use Rattle.meaning.specs.Outcomes.{SaysLookup};
+ghost use Rattle.meaning.specs.Outcomes.{SaysSelection};
 ghost use Rattle.selection.specs.Picking.{hasTexts, textsAt, oneMore, joined, PickedIs};
 use meaning::Counts;
-use meaning::Lookup;
+use meaning::Selected;
 use meaning::Span;
 use table::Found;
 use table::items;
@@ -84,23 +84,23 @@ fn pick(table: &[u8], start: usize, end: usize) -> Picked
 }
 
 // The record of a domain: of an answered SPF entry with items, otherwise of the TXT question.
-pub fn select_record(table: &[u8], domain: &[u8], counts: Counts, out: &mut [u8]) -> Lookup
-    ensures { λ r. ⌜ SaysLookup counts (now (domain .entry)) (now (table .entry)) (run (asks (now (table .entry))) (recordLookup (now (domain .entry)) counts)) r (now (out .entry)) (now (out .exit)) ⌝ }
+pub fn select_record(table: &[u8], domain: &[u8], counts: Counts, out: &mut [u8]) -> Selected
+    ensures { λ r. ⌜ SaysSelection counts (now (domain .entry)) (now (table .entry)) (run (tableIn (now (table .entry))) (recordLookup (now (domain .entry)) counts)) r (now (out .entry)) (now (out .exit)) ⌝ }
 {
     let Found::Entry { status, start, end } = find_texts(table, domain) else {
         answers::want(domain, out);
-        return Lookup::Wanting {
+        return Selected::Wanting {
             kind: 16,
             length: domain.len(),
         };
     };
     if status == 2 {
-        return Lookup::Ends(5);
+        return Selected::Ends(5);
     }
     match pick(table, start, end) {
-        Picked::Nothing => Lookup::Ends(0),
-        Picked::Several => Lookup::Ends(6),
-        Picked::One { from, to } => Lookup::One {
+        Picked::Nothing => Selected::Ends(0),
+        Picked::Several => Selected::Ends(6),
+        Picked::One { from, to } => Selected::One {
             domain: Span {
                 from: start - domain.len(),
                 to: start,

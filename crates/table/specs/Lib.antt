@@ -3,8 +3,8 @@
 pub mod Layout
 -- Numbers: 01's number and place for each answer of a check of the table.
 pub mod Numbers
--- Checked: when a table is accepted, and when and where it is refused.
-pub mod Checked
+-- Answers: when a table is accepted, and when and where it is refused.
+pub mod Answers
 -- Lookup: the entry of a kind and a name.
 pub mod Lookup
 -- Reader: the entries and items of a table, read as the code reads them; the laws tie it to the productions.

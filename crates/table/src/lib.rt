@@ -3,7 +3,7 @@ ghost use mathlib.Core.Path.{_≡_};
 ghost use Prim.Native.Nat.{_≤_};
 ghost use lib.ListN.{length};
 ghost use Rattle.table.specs.Numbers.{reported};
-ghost use Rattle.table.specs.Checked.{Checked};
+ghost use Rattle.table.specs.Answers.{TableAnswers};
 ghost use Rattle.table.specs.Lookup.{lookup, Finds};
 ghost use Rattle.table.specs.Reader.{entriesOf, findAt, foundItems, stepAt, checkTable};
 use entries::Header;
@@ -118,7 +118,7 @@ fn step_at(table: &[u8], at: usize) -> Step
 // Checks a table: 24, then the earlier of 25 and 26 with its place, or accepted.
 pub fn check_table(table: &[u8]) -> TableAnswer
     ensures { λ r. ⌜ r ≡ checkTable (now (table .entry)) ⌝ }
-    ensures { λ r. ⌜ Checked (now (table .entry)) (reported r) ⌝ }
+    ensures { λ r. ⌜ TableAnswers (now (table .entry)) (reported r) ⌝ }
 {
     if 65535 < table.len() {
         return TableAnswer::TooLong;

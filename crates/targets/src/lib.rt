@@ -9,7 +9,7 @@ ghost use Rattle.macros.specs.Question.{questionName};
 ghost use Rattle.macros.specs.declared.Form.the-variants.{DomainSpec};
 ghost use Rattle.records.specs.Readings.{absent, present};
 ghost use Rattle.meaning.specs.Tree.{items, ask, settled, run};
-ghost use Rattle.meaning.specs.Tables.{asks};
+ghost use Rattle.meaning.specs.Tables.{tableIn};
 ghost use Rattle.meaning.specs.Mechanisms.{pValue, pReply, expansion, target, targetOr};
 ghost use Rattle.meaning.specs.Outcomes.{mailOf, SaysP, TargetIs, SaysTarget};
 ghost use Rattle.meaning.specs.declared.Counts.{Counts};
@@ -90,7 +90,7 @@ fn value_of(choice: Choice) -> PValue
 
 // Asks for a name's addresses.
 fn validate(client: Address, table: &[u8], name: &[u8], counts: Counts, out: &mut [u8]) -> Validity
-    ensures { λ r. ⌜ SaysValid counts (run (asks (now (table .entry))) (valid client counts (now (name .entry)))) r (now (out .entry)) (now (out .exit)) ⌝ }
+    ensures { λ r. ⌜ SaysValid counts (run (tableIn (now (table .entry))) (valid client counts (now (name .entry)))) r (now (out .entry)) (now (out .exit)) ⌝ }
 {
     let kind = answers::address_kind(client);
     let found = table::find(table, kind, name);
@@ -117,7 +117,7 @@ fn choose_name(
     counts: Counts,
     out: &mut [u8],
 ) -> PValue
-    ensures { λ r. ⌜ SaysP counts (now (domain .entry)) (now (table .entry)) (run (asks (now (table .entry))) (pReply client (now (domain .entry)) counts (items (itemsOf (part (now (table .entry)) start end))))) r (now (out .entry)) (now (out .exit)) ⌝ }
+    ensures { λ r. ⌜ SaysP counts (now (domain .entry)) (now (table .entry)) (run (tableIn (now (table .entry))) (pReply client (now (domain .entry)) counts (items (itemsOf (part (now (table .entry)) start end))))) r (now (out .entry)) (now (out .exit)) ⌝ }
 {
     let items = bytes::part(table, start, end);
     let mut choice = Choice::Nobody;
@@ -158,7 +158,7 @@ fn ask_names(
     counts: Counts,
     out: &mut [u8],
 ) -> PValue
-    ensures { λ r. ⌜ SaysP counts (now (domain .entry)) (now (table .entry)) (run (asks (now (table .entry))) (ask 12 (now (name .entry)) counts (pReply client (now (domain .entry)) counts))) r (now (out .entry)) (now (out .exit)) ⌝ }
+    ensures { λ r. ⌜ SaysP counts (now (domain .entry)) (now (table .entry)) (run (tableIn (now (table .entry))) (ask 12 (now (name .entry)) counts (pReply client (now (domain .entry)) counts))) r (now (out .entry)) (now (out .exit)) ⌝ }
 {
     let found = table::find(table, 12, name);
     let Found::Entry { status, start, end } = found else {
@@ -182,7 +182,7 @@ pub fn find_p(
     counts: Counts,
     out: &mut [u8],
 ) -> PValue
-    ensures { λ r. ⌜ SaysP counts (now (domain .entry)) (now (table .entry)) (run (asks (now (table .entry))) (pValue client (now (domain .entry)) counts)) r (now (out .entry)) (now (out .exit)) ⌝ }
+    ensures { λ r. ⌜ SaysP counts (now (domain .entry)) (now (table .entry)) (run (tableIn (now (table .entry))) (pValue client (now (domain .entry)) counts)) r (now (out .entry)) (now (out .exit)) ⌝ }
 {
     let mut name = [0u8; 72];
     let n = notation::put_reversed_name(client, &mut name, 0);
@@ -248,7 +248,7 @@ fn write_target_with_p(
     out: &mut [u8],
 ) -> Target
     requires { ⌜ (length (now sender) ≤ 320) × (253 ≤ length (now to)) ⌝ }
-    ensures { λ r. ⌜ SaysTarget counts (run (asks (now (table .entry))) (targetWithP (mailOf client (now (sender .entry)) (now (helo .entry)) (now (receiver .entry)) seconds) (now (domain .entry)) (now (spec .entry)) counts)) r (now (to .exit)) (now (out .entry)) (now (out .exit)) ⌝ }
+    ensures { λ r. ⌜ SaysTarget counts (run (tableIn (now (table .entry))) (targetWithP (mailOf client (now (sender .entry)) (now (helo .entry)) (now (receiver .entry)) seconds) (now (domain .entry)) (now (spec .entry)) counts)) r (now (to .exit)) (now (out .entry)) (now (out .exit)) ⌝ }
 {
     match find_p(client, table, domain, counts, out) {
         PValue::Current => write_target(
@@ -303,7 +303,7 @@ pub fn make_target(
     out: &mut [u8],
 ) -> Target
     requires { ⌜ (length (now sender) ≤ 320) × (253 ≤ length (now to)) ⌝ }
-    ensures { λ r. ⌜ SaysTarget counts (run (asks (now (table .entry))) (target (mailOf client (now (sender .entry)) (now (helo .entry)) (now (receiver .entry)) seconds) (now (domain .entry)) (now (spec .entry)) counts)) r (now (to .exit)) (now (out .entry)) (now (out .exit)) ⌝ }
+    ensures { λ r. ⌜ SaysTarget counts (run (tableIn (now (table .entry))) (target (mailOf client (now (sender .entry)) (now (helo .entry)) (now (receiver .entry)) seconds) (now (domain .entry)) (now (spec .entry)) counts)) r (now (to .exit)) (now (out .entry)) (now (out .exit)) ⌝ }
 {
     if words::every(spec, Class::MacroLiteral) {
         return write_name(spec, to);
@@ -352,7 +352,7 @@ pub fn make_target_or(
     out: &mut [u8],
 ) -> Target
     requires { ⌜ (length (now sender) ≤ 320) × (length (now domain) ≤ 253) × (253 ≤ length (now to)) ⌝ }
-    ensures { λ r. ⌜ SaysTarget counts (run (asks (now (table .entry))) (targetOr (mailOf client (now (sender .entry)) (now (helo .entry)) (now (receiver .entry)) seconds) (now (domain .entry)) (cond given (present (now (spec .entry))) absent) counts)) r (now (to .exit)) (now (out .entry)) (now (out .exit)) ⌝ }
+    ensures { λ r. ⌜ SaysTarget counts (run (tableIn (now (table .entry))) (targetOr (mailOf client (now (sender .entry)) (now (helo .entry)) (now (receiver .entry)) seconds) (now (domain .entry)) (cond given (present (now (spec .entry))) absent) counts)) r (now (to .exit)) (now (out .entry)) (now (out .exit)) ⌝ }
 {
     if given {
         return make_target(

@@ -12,7 +12,7 @@ use Rattle.table.proofs.Laws.Finding.{finds}
 use Rattle.records.specs.Readings.{Optional, absent, present}
 use Rattle.meaning.specs.declared.Counts.{Counts}
 use Rattle.meaning.specs.Tree.{Reply, failed, items, Check, ask, peek, Settled, wanting, answered, run}
-use Rattle.meaning.specs.Tables.{replyBy, replyOf, asks}
+use Rattle.meaning.specs.Tables.{replyBy, replyOf, tableIn}
 
 -- by what was found
 unfoldable pub replyFound : List ℕ → Found → Optional Reply
@@ -24,39 +24,39 @@ unfolding replyOf replyFound
 finds-reply (found {e = e} a z i) = rw i
 finds-reply missing = refl
 
-pub asks-found : (t : List ℕ) (kind : ℕ) (d : List ℕ) (f : Found) → f ≡ findAt t kind d → asks t kind d ≡ replyFound t f
-unfolding asks
+pub asks-found : (t : List ℕ) (kind : ℕ) (d : List ℕ) (f : Found) → f ≡ findAt t kind d → tableIn t kind d ≡ replyFound t f
+unfolding tableIn
 asks-found t kind d f p = rw p (finds-reply (finds t kind d))
 
 -- a question and the rest of its check
 module _ (t : List ℕ) (kind : ℕ) (d : List ℕ) (f : Found) (p : f ≡ findAt t kind d) where
-  pub asks-missing : f ≡ Found.Missing → asks t kind d ≡ absent
+  pub asks-missing : f ≡ Found.Missing → tableIn t kind d ≡ absent
   unfolding replyFound
   asks-missing e = asks-found t kind d f p ∙ rw e
 
-  pub asks-entry : (status start end : ℕ) → f ≡ Found.Entry status start end → asks t kind d ≡ present (replyBy status (itemsOf (part t start end)))
+  pub asks-entry : (status start end : ℕ) → f ≡ Found.Entry status start end → tableIn t kind d ≡ present (replyBy status (itemsOf (part t start end)))
   unfolding replyFound
   asks-entry status start end e = asks-found t kind d f p ∙ rw e
 
-  pub run-missing : {A : Type 0} (c : Counts) (g : Reply → Check A) → f ≡ Found.Missing → run (asks t) (ask kind d c g) ≡ wanting kind d c
+  pub run-missing : {A : Type 0} (c : Counts) (g : Reply → Check A) → f ≡ Found.Missing → run (tableIn t) (ask kind d c g) ≡ wanting kind d c
   unfolding run answered
   run-missing c g e = rw (asks-missing e)
 
   pub run-entry : {A : Type 0} (c : Counts) (g : Reply → Check A) (status start end : ℕ) → f ≡ Found.Entry status start end
-      → run (asks t) (ask kind d c g) ≡ run (asks t) (g (replyBy status (itemsOf (part t start end))))
+      → run (tableIn t) (ask kind d c g) ≡ run (tableIn t) (g (replyBy status (itemsOf (part t start end))))
   unfolding run answered
   run-entry c g status start end e = rw (asks-entry status start end e)
 
   pub run-failed : {A : Type 0} (c : Counts) (g : Reply → Check A) (status start end : ℕ) → f ≡ Found.Entry status start end → status ≡ 2
-      → run (asks t) (ask kind d c g) ≡ run (asks t) (g failed)
+      → run (tableIn t) (ask kind d c g) ≡ run (tableIn t) (g failed)
   unfolding replyBy
   run-failed c g status start end e h = run-entry c g status start end e ∙ rw (eq-eqb status 2 h)
 
   pub run-items : {A : Type 0} (c : Counts) (g : Reply → Check A) (status start end : ℕ) → f ≡ Found.Entry status start end → (status ≡ 2 → ⊥)
-      → run (asks t) (ask kind d c g) ≡ run (asks t) (g (items (itemsOf (part t start end))))
+      → run (tableIn t) (ask kind d c g) ≡ run (tableIn t) (g (items (itemsOf (part t start end))))
   unfolding replyBy
   run-items c g status start end e h = run-entry c g status start end e ∙ rw (ne-eqb status 2 h)
 
-pub run-peek : {A : Type 0} (t : List ℕ) (d : List ℕ) (g : Optional Reply → Check A) → run (asks t) (peek d g) ≡ run (asks t) (g (asks t 99 d))
+pub run-peek : {A : Type 0} (t : List ℕ) (d : List ℕ) (g : Optional Reply → Check A) → run (tableIn t) (peek d g) ≡ run (tableIn t) (g (tableIn t 99 d))
 unfolding run
 run-peek t d g = refl

@@ -19,7 +19,7 @@ use Rattle.networks.specs.Answers.{NetworkAnswer, Written}
 use Rattle.table.specs.declared.TableAnswer.{TableAnswer}
 use Rattle.table.specs.Numbers.{reported as table-reported}
 use Rattle.table.specs.Reader.{checkTable}
-use Rattle.table.specs.Checked.{Checked}
+use Rattle.table.specs.Answers.{TableAnswers}
 use Rattle.macros.specs.declared.Form.{Form}
 use Rattle.macros.specs.declared.Expanded.{Expanded}
 use Rattle.macros.specs.Expansion.{Given}
@@ -129,7 +129,7 @@ module _ (c n : FromOctets) (bits : ℕ) (x : FromOctets) (p : x ≡ c) where
         }
 
 -- `talavorn_check_table`
-module _ (t : List ℕ) (x : TableAnswer) (p : x ≡ checkTable t) (h : Checked t (table-reported x)) where
+module _ (t : List ℕ) (x : TableAnswer) (p : x ≡ checkTable t) (h : TableAnswers t (table-reported x)) where
   pub table-says : (numbers : List ℕ) → numbers ≡ tableNumbers (table-reported x) → TableSays t numbers
   table-says numbers n = record { answer = n ∙ rw p; checked = rw p at h }
 

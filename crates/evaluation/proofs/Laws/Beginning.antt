@@ -21,18 +21,18 @@ use Rattle.records.specs.declared.RecordAnswer.{RecordAnswer}
 use Rattle.records.specs.declared.Term.{Term}
 use Rattle.meaning.specs.declared.Counts.{Counts}
 use Rattle.meaning.specs.declared.Ending.{Ending}
-use Rattle.meaning.specs.declared.Failing.{Failing}
+use Rattle.meaning.specs.declared.FailingPlace.{FailingPlace}
 use Rattle.meaning.specs.declared.Matched.{Matched}
 use Rattle.meaning.specs.declared.Stepped.{Stepped}
 use Rattle.meaning.specs.declared.Target.{Target}
 use Rattle.meaning.specs.declared.Span.{Span}
-use Rattle.meaning.specs.declared.Lookup.{Lookup}
+use Rattle.meaning.specs.declared.Selected.{Selected}
 use Rattle.meaning.specs.declared.Checked.{Checked}
 use Rattle.meaning.specs.Tree.{Table, Check, Settled, settled, wanting, then, run, run-bind}
-use Rattle.meaning.specs.Tables.{asks}
+use Rattle.meaning.specs.Tables.{tableIn}
 use Rattle.meaning.specs.Mechanisms.{Mail, Match, yes, no, stop, Step, target, begun, counting}
 use Rattle.meaning.specs.Evaluation.{Result, Sub, Selection, ends, one, ended, checkTarget, begunCheck, includeMatch, includeOf, includeStep, termStep, noneIsPermerror, redirectOf, noMatch, tryTerms, termsOf, readOutcome, recordLookup, afterLookup, checkName, check}
-use Rattle.meaning.specs.Outcomes.{wantedBuffer, matchedOf, steppedOf, SaysStep, SaysTarget, spanOf, SaysLookup, failingOf, CheckedIs, Says}
+use Rattle.meaning.specs.Outcomes.{wantedBuffer, matchedOf, steppedOf, SaysStep, SaysTarget, spanOf, SaysSelection, failingOf, CheckedIs, SaysCheck}
 use Rattle.meaning.specs.Runs.{bind-is}
 use Rattle.meaning.specs.Inversions.{Gives, Wants, wants-bind, says-gives, says-wants, target-name, target-malformed, target-wants, lookup-ends, lookup-one, lookup-wants, checked-result, checked-wants, gives-says, wants-says}
 use Rattle.selection.specs.declared.modifiers.Modifier.{Modifier}
@@ -42,59 +42,59 @@ use Rattle.mechanisms.specs.Terms.{TriedIs}
 use Rattle.evaluation.specs.Checks.{endedOf, wantingOf, signOf, signedOf, redirectedBy, redirectedOf, includedNow, includedBy, includedOf}
 
 -- a result without an explanation, and a question without an entry
-says-ended : (t : List ℕ) (u : Table) (v : ℕ) (c : Counts) (o : Checked) (b : List ℕ) → o ≡ endedOf v c → Says t (run u (ended v c)) o b b
+says-ended : (t : List ℕ) (u : Table) (v : ℕ) (c : Counts) (o : Checked) (b : List ℕ) → o ≡ endedOf v c → SaysCheck t (run u (ended v c)) o b b
 unfolding run CheckedIs failingOf wantedBuffer
 says-ended t u v c o b e = rw e (record { checked = (refl, refl, refl); buffer = refl })
 
-says-wanting : (t : List ℕ) (x : Settled Result) (kind n : ℕ) (c : Counts) (o : Checked) (b a : List ℕ) → o ≡ wantingOf kind n c → Wants x kind n c b a → Says t x o b a
+says-wanting : (t : List ℕ) (x : Settled Result) (kind n : ℕ) (c : Counts) (o : Checked) (b a : List ℕ) → o ≡ wantingOf kind n c → Wants x kind n c b a → SaysCheck t x o b a
 says-wanting t x kind n c o b a e w = rw e (wants-says t x kind n (wantingOf kind n c) b a w refl)
 
 -- begin_check
 module _ (t : List ℕ) (mail : Mail) (d spec : List ℕ) (c : Counts) (o : Checked) (b : List ℕ) where
-  pub begin-eleventh : 10 ≤ c .lookups → o ≡ endedOf 6 c → (n : ℕ) → 10 ≤ n + c .lookups → Says t (run (asks t) (begunCheck mail (check n mail) d spec c)) o b b
+  pub begin-eleventh : 10 ≤ c .lookups → o ≡ endedOf 6 c → (n : ℕ) → 10 ≤ n + c .lookups → SaysCheck t (run (tableIn t) (begunCheck mail (check n mail) d spec c)) o b b
   unfolding begunCheck counting
-  begin-eleventh h e n k = rw (le-ltb _ _ h) (says-ended t (asks t) 6 c o b e)
+  begin-eleventh h e n k = rw (le-ltb _ _ h) (says-ended t (tableIn t) 6 c o b e)
 
-  begun-is : (sub : Sub) → c .lookups < 10 → run (asks t) (begunCheck mail sub d spec c) ≡ run (asks t) (checkTarget mail sub d spec (begun c))
+  begun-is : (sub : Sub) → c .lookups < 10 → run (tableIn t) (begunCheck mail sub d spec c) ≡ run (tableIn t) (checkTarget mail sub d spec (begun c))
   unfolding begunCheck counting
   begun-is sub h = rw (lt-ltb _ _ h)
 
   module _ (h : c .lookups < 10) (r : Target) (to a : List ℕ) (y : List ℕ) (f : y ≡ d)
-      (s : SaysTarget (begun c) (run (asks t) (target mail y spec (begun c))) r to b a) where
-    here : SaysTarget (begun c) (run (asks t) (target mail d spec (begun c))) r to b a
+      (s : SaysTarget (begun c) (run (tableIn t) (target mail y spec (begun c))) r to b a) where
+    here : SaysTarget (begun c) (run (tableIn t) (target mail d spec (begun c))) r to b a
     here = rw (← f) s
 
-    none-below : (n : ℕ) → 10 ≤ n + c .lookups → o ≡ endedOf 0 (begun c) → Says t (run (asks t) (check n mail malformed (begun c))) o a a
+    none-below : (n : ℕ) → 10 ≤ n + c .lookups → o ≡ endedOf 0 (begun c) → SaysCheck t (run (tableIn t) (check n mail malformed (begun c))) o a a
     unfolding check checkName
     none-below zero k e = absurd (omega arith)
-    none-below (suc n) k e = says-ended t (asks t) 0 (begun c) o a e
+    none-below (suc n) k e = says-ended t (tableIn t) 0 (begun c) o a e
 
     pub begin-malformed : r ≡ Target.Malformed → o ≡ endedOf 0 (begun c) → (n : ℕ) → 10 ≤ n + c .lookups
-        → Says t (run (asks t) (begunCheck mail (check n mail) d spec c)) o b a
+        → SaysCheck t (run (tableIn t) (begunCheck mail (check n mail) d spec c)) o b a
     unfolding checkTarget
     begin-malformed q e n k =
         let g = target-malformed (begun c) _ r to b a here q in
-        rw (begun-is (check n mail) h, bind-is (asks t) (target mail d spec (begun c)) (λ x. check n mail x (begun c)) malformed (g .is), ← g .kept) (none-below n k e)
+        rw (begun-is (check n mail) h, bind-is (tableIn t) (target mail d spec (begun c)) (λ x. check n mail x (begun c)) malformed (g .is), ← g .kept) (none-below n k e)
 
     pub begin-wants : (kind m : ℕ) → r ≡ Target.Wanting kind m → o ≡ wantingOf kind m (begun c) → (n : ℕ) → 10 ≤ n + c .lookups
-        → Says t (run (asks t) (begunCheck mail (check n mail) d spec c)) o b a
+        → SaysCheck t (run (tableIn t) (begunCheck mail (check n mail) d spec c)) o b a
     unfolding checkTarget
     begin-wants kind m q e n k =
         let w = target-wants (begun c) _ r to b a here kind m q in
         rw (begun-is (check n mail) h)
-        (says-wanting t _ kind m (begun c) o b a e (wants-bind (asks t) (target mail d spec (begun c)) (λ x. check n mail x (begun c)) kind m (begun c) b a w))
+        (says-wanting t _ kind m (begun c) o b a e (wants-bind (tableIn t) (target mail d spec (begun c)) (λ x. check n mail x (begun c)) kind m (begun c) b a w))
 
     checked-below : (m : ℕ) → r ≡ Target.Name m → (e z : List ℕ) → e ≡ part to 0 m → (n : ℕ)
-        → Says t (run (asks t) (check (suc n) mail (name e) (begun c))) o a z → Says t (run (asks t) (begunCheck mail (check (suc n) mail) d spec c)) o b z
+        → SaysCheck t (run (tableIn t) (check (suc n) mail (name e) (begun c))) o a z → SaysCheck t (run (tableIn t) (begunCheck mail (check (suc n) mail) d spec c)) o b z
     unfolding checkTarget
     checked-below m q e z i n g =
         let l = target-name (begun c) _ r to b a here m q .0 in
         let j : e ≡ take m to = i ∙ front-part to m in
-        rw (begun-is (check (suc n) mail) h, bind-is (asks t) (target mail d spec (begun c)) (λ x. check (suc n) mail x (begun c)) (name (take m to)) (l .is), ← j, ← l .kept) g
+        rw (begun-is (check (suc n) mail) h, bind-is (tableIn t) (target mail d spec (begun c)) (λ x. check (suc n) mail x (begun c)) (name (take m to)) (l .is), ← j, ← l .kept) g
 
     pub begin-checked : (m : ℕ) → r ≡ Target.Name m → (e z : List ℕ) → e ≡ part to 0 m
-        → ((k : ℕ) → 10 ≤ k + begun c .lookups → Says t (run (asks t) (check (suc k) mail (name e) (begun c))) o a z)
-        → (n : ℕ) → 10 ≤ n + c .lookups → Says t (run (asks t) (begunCheck mail (check n mail) d spec c)) o b z
+        → ((k : ℕ) → 10 ≤ k + begun c .lookups → SaysCheck t (run (tableIn t) (check (suc k) mail (name e) (begun c))) o a z)
+        → (n : ℕ) → 10 ≤ n + c .lookups → SaysCheck t (run (tableIn t) (begunCheck mail (check n mail) d spec c)) o b z
     begin-checked m q e z i g zero k = absurd (omega arith)
     begin-checked m q e z i g (suc n) k = checked-below m q e z i n (g n (omega arith))
 
@@ -109,49 +109,49 @@ span-small t domain h e i = rw i h
 
 -- check_domain
 module _ (t : List ℕ) (mail : Mail) (d : List ℕ) (c : Counts) (o : Checked) (b : List ℕ) (k : ℕ) (l : k ≡ labelCount d) where
-  pub domain-single : k ≤ 1 → o ≡ endedOf 0 c → (n : ℕ) → 10 ≤ n + c .lookups → Says t (run (asks t) (check (suc n) mail (name d) c)) o b b
+  pub domain-single : k ≤ 1 → o ≡ endedOf 0 c → (n : ℕ) → 10 ≤ n + c .lookups → SaysCheck t (run (tableIn t) (check (suc n) mail (name d) c)) o b b
   unfolding check checkName
-  domain-single h e n i = rw (← l, le-leb _ _ h) (says-ended t (asks t) 0 c o b e)
+  domain-single h e n i = rw (← l, le-leb _ _ h) (says-ended t (tableIn t) 0 c o b e)
 
-  module _ (h : 1 < k) (r : Lookup) (a : List ℕ) (s : SaysLookup c d t (run (asks t) (recordLookup d c)) r b a) where
-    looked-up : (n : ℕ) → run (asks t) (check (suc n) mail (name d) c) ≡ then (run (asks t) (recordLookup d c)) (λ x. run (asks t) (afterLookup mail (check n mail) d c x))
+  module _ (h : 1 < k) (r : Selected) (a : List ℕ) (s : SaysSelection c d t (run (tableIn t) (recordLookup d c)) r b a) where
+    looked-up : (n : ℕ) → run (tableIn t) (check (suc n) mail (name d) c) ≡ then (run (tableIn t) (recordLookup d c)) (λ x. run (tableIn t) (afterLookup mail (check n mail) d c x))
     unfolding check checkName
-    looked-up n = rw (← l, lt-leb _ _ h) (run-bind (asks t) (recordLookup d c) (afterLookup mail (check n mail) d c))
+    looked-up n = rw (← l, lt-leb _ _ h) (run-bind (tableIn t) (recordLookup d c) (afterLookup mail (check n mail) d c))
 
-    pub domain-ends : (v : ℕ) → r ≡ Lookup.Ends v → o ≡ endedOf v c → (n : ℕ) → 10 ≤ n + c .lookups → Says t (run (asks t) (check (suc n) mail (name d) c)) o b a
+    pub domain-ends : (v : ℕ) → r ≡ Selected.Ends v → o ≡ endedOf v c → (n : ℕ) → 10 ≤ n + c .lookups → SaysCheck t (run (tableIn t) (check (suc n) mail (name d) c)) o b a
     unfolding then afterLookup
-    domain-ends v q e n i = let g = lookup-ends c d t _ r b a s v q in rw (looked-up n, g .is, ← g .kept) (says-ended t (asks t) v c o a e)
+    domain-ends v q e n i = let g = lookup-ends c d t _ r b a s v q in rw (looked-up n, g .is, ← g .kept) (says-ended t (tableIn t) v c o a e)
 
-    pub domain-wants : (kind m : ℕ) → r ≡ Lookup.Wanting kind m → o ≡ wantingOf kind m c → (n : ℕ) → 10 ≤ n + c .lookups
-        → Says t (run (asks t) (check (suc n) mail (name d) c)) o b a
+    pub domain-wants : (kind m : ℕ) → r ≡ Selected.Wanting kind m → o ≡ wantingOf kind m c → (n : ℕ) → 10 ≤ n + c .lookups
+        → SaysCheck t (run (tableIn t) (check (suc n) mail (name d) c)) o b a
     unfolding then
     domain-wants kind m q e n i =
         let w = lookup-wants c d t _ r b a s kind m q in
         rw (looked-up n, w .is) (says-wanting t _ kind m c o b a e (record { asked = w .asked; is = refl; size-is = w .size-is; buffer = w .buffer }))
 
-    pub domain-one : (place text : Span) → r ≡ Lookup.One place text → (z : List ℕ)
-        → ((n : ℕ) → 10 ≤ n + c .lookups → Says t (run (asks t) (readOutcome mail (check n mail) (spanOf t place) (spanOf t text) (readRecord (spanOf t text)) c)) o a z)
-        → (n : ℕ) → 10 ≤ n + c .lookups → Says t (run (asks t) (check (suc n) mail (name d) c)) o b z
+    pub domain-one : (place text : Span) → r ≡ Selected.One place text → (z : List ℕ)
+        → ((n : ℕ) → 10 ≤ n + c .lookups → SaysCheck t (run (tableIn t) (readOutcome mail (check n mail) (spanOf t place) (spanOf t text) (readRecord (spanOf t text)) c)) o a z)
+        → (n : ℕ) → 10 ≤ n + c .lookups → SaysCheck t (run (tableIn t) (check (suc n) mail (name d) c)) o b z
     unfolding then afterLookup
     domain-one place text q z f n i =
         let g = lookup-one c d t _ r b a s place text q in
         rw (looked-up n, g .0 .is, ← g .0 .kept, ← g .1) (f n i)
 
 -- the domain's place in the table is as long as the domain
-pub place-small : (c : Counts) (d t : List ℕ) (x : Settled Selection) (r : Lookup) (b a : List ℕ) → SaysLookup c d t x r b a → length d ≤ 253
-    → (place text : Span) → r ≡ Lookup.One place text → length (spanOf t place) ≤ 253
+pub place-small : (c : Counts) (d t : List ℕ) (x : Settled Selection) (r : Selected) (b a : List ℕ) → SaysSelection c d t x r b a → length d ≤ 253
+    → (place text : Span) → r ≡ Selected.One place text → length (spanOf t place) ≤ 253
 place-small c d t x r b a s h place text q = rw (lookup-one c d t x r b a s place text q .1) h
 
 -- evaluate_record
 module _ (t : List ℕ) (mail : Mail) (d s : List ℕ) (c : Counts) (o : Checked) (b : List ℕ) (u : List ℕ) (f : u ≡ s) (r : RecordAnswer) (p : r ≡ readRecord u) where
   pub record-refused : (number at : ℕ) → r ≡ RecordAnswer.Refused number at → o ≡ endedOf 6 c → (n : ℕ) → 10 ≤ n + c .lookups
-      → Says t (run (asks t) (readOutcome mail (check n mail) d s (readRecord s) c)) o b b
+      → SaysCheck t (run (tableIn t) (readOutcome mail (check n mail) d s (readRecord s) c)) o b b
   unfolding readOutcome
-  record-refused number at q e n k = rw (← f, ← p, q) (says-ended t (asks t) 6 c o b e)
+  record-refused number at q e n k = rw (← f, ← p, q) (says-ended t (tableIn t) 6 c o b e)
 
   pub record-tried : (first : ℕ) → r ≡ RecordAnswer.Accepted first → (z : List ℕ)
-      → ((n : ℕ) → 10 ≤ n + c .lookups → Says t (run (asks t) (tryTerms mail (check n mail) d (termsOf s first) (termsOf s first) c)) o b z)
-      → (n : ℕ) → 10 ≤ n + c .lookups → Says t (run (asks t) (readOutcome mail (check n mail) d s (readRecord s) c)) o b z
+      → ((n : ℕ) → 10 ≤ n + c .lookups → SaysCheck t (run (tableIn t) (tryTerms mail (check n mail) d (termsOf s first) (termsOf s first) c)) o b z)
+      → (n : ℕ) → 10 ≤ n + c .lookups → SaysCheck t (run (tableIn t) (readOutcome mail (check n mail) d s (readRecord s) c)) o b z
   unfolding readOutcome
   record-tried first q z g n k =
       let e : readRecord s ≡ RecordAnswer.Accepted first = ap readRecord (sym f) ∙ sym p ∙ q in
@@ -211,43 +211,43 @@ pub signed-by : (x : Term) (k : ℕ) → k ≡ signOf x → (domain text : Span)
 signed-by x k e domain text first c o h = rw (← e) h
 
 -- include
-includes : (t : List ℕ) (x : Settled Result) (o : Checked) (b a : List ℕ) → Says t x o b a → (r : Stepped) → r ≡ includedOf o → (u : Table)
+includes : (t : List ℕ) (x : Settled Result) (o : Checked) (b a : List ℕ) → SaysCheck t x o b a → (r : Stepped) → r ≡ includedOf o → (u : Table)
     → SaysStep (then x (λ y. run u (includeOf y))) r b a
 unfolding then includeOf run CheckedIs wantedBuffer steppedOf includedBy
 includes t (settled y) o b a s r e u = let p = s .checked in rw (e, p .0, p .1, ← included-is (y .value)) (record { outcome = refl; buffer = s .buffer })
 includes t (wanting kind n k) o b a s r e u = let p = s .checked in rw (e, p .0, p .1) (record { outcome = refl; buffer = s .buffer })
 
 pub include-done : (t : List ℕ) (mail : Mail) (d spec : List ℕ) (c : Counts) (o : Checked) (b a : List ℕ)
-    → ((n : ℕ) → 10 ≤ n + c .lookups → Says t (run (asks t) (begunCheck mail (check n mail) d spec c)) o b a) → (r : Stepped) → r ≡ includedOf o
-    → (n : ℕ) → 10 ≤ n + c .lookups → SaysStep (run (asks t) (includeStep mail (check n mail) d spec c)) r b a
+    → ((n : ℕ) → 10 ≤ n + c .lookups → SaysCheck t (run (tableIn t) (begunCheck mail (check n mail) d spec c)) o b a) → (r : Stepped) → r ≡ includedOf o
+    → (n : ℕ) → 10 ≤ n + c .lookups → SaysStep (run (tableIn t) (includeStep mail (check n mail) d spec c)) r b a
 unfolding includeStep
-include-done t mail d spec c o b a s r e n k = rw (run-bind (asks t) (begunCheck mail (check n mail) d spec c) includeOf) (includes t _ o b a (s n k) r e (asks t))
+include-done t mail d spec c o b a s r e n k = rw (run-bind (tableIn t) (begunCheck mail (check n mail) d spec c) includeOf) (includes t _ o b a (s n k) r e (tableIn t))
 
 -- try_term
-module _ (t : List ℕ) (mail : Mail) (d e : List ℕ) (f : e ≡ d) (w : List ℕ) (x : Term) (c : Counts) (b a : List ℕ) (r : Tried) (p : TriedIs (asks t) mail e w x c b a r) where
+module _ (t : List ℕ) (mail : Mail) (d e : List ℕ) (f : e ≡ d) (w : List ℕ) (x : Term) (c : Counts) (b a : List ℕ) (r : Tried) (p : TriedIs (tableIn t) mail e w x c b a r) where
   pub tried-step : (o : Stepped) → r ≡ Tried.Step o → (n : ℕ) → 10 ≤ n + c .lookups
-      → SaysStep (run (asks t) (termStep mail (check n mail) d (saidOf w x) (saidOf w x .sign) c)) o b a
+      → SaysStep (run (tableIn t) (termStep mail (check n mail) d (saidOf w x) (saidOf w x .sign) c)) o b a
   unfolding TriedIs
-  tried-step o q n k = rw (← f) (subst (TriedIs (asks t) mail e w x c b a) q p (check n mail))
+  tried-step o q n k = rw (← f) (subst (TriedIs (tableIn t) mail e w x c b a) q p (check n mail))
 
   pub tried-include : (from to : ℕ) → r ≡ Tried.Include from to → (y : List ℕ) → y ≡ part w from to → (o : Stepped) (z : List ℕ)
-      → ((n : ℕ) → 10 ≤ n + c .lookups → SaysStep (run (asks t) (includeStep mail (check n mail) d y c)) o a z)
-      → (n : ℕ) → 10 ≤ n + c .lookups → SaysStep (run (asks t) (termStep mail (check n mail) d (saidOf w x) (saidOf w x .sign) c)) o b z
+      → ((n : ℕ) → 10 ≤ n + c .lookups → SaysStep (run (tableIn t) (includeStep mail (check n mail) d y c)) o a z)
+      → (n : ℕ) → 10 ≤ n + c .lookups → SaysStep (run (tableIn t) (termStep mail (check n mail) d (saidOf w x) (saidOf w x .sign) c)) o b z
   unfolding TriedIs
   tried-include from to q y j o z g n k =
-      let i = subst (TriedIs (asks t) mail e w x c b a) q p in
+      let i = subst (TriedIs (tableIn t) mail e w x c b a) q p in
       let m = i .1 (check n mail) in
       rw (← f, m, ← j, ← i .0, f) (g n k)
 
 -- no_match
-redirect-by : (t : List ℕ) (y : Result) (o : Checked) (b a : List ℕ) → Says t (settled y) o b a → (x : Bool)
-    → Says t (settled (cond x (record { value = 6; counts = y .counts; failing = absent }) y)) (cond x (endedOf 6 (o .counts)) o) b a
+redirect-by : (t : List ℕ) (y : Result) (o : Checked) (b a : List ℕ) → SaysCheck t (settled y) o b a → (x : Bool)
+    → SaysCheck t (settled (cond x (record { value = 6; counts = y .counts; failing = absent }) y)) (cond x (endedOf 6 (o .counts)) o) b a
 unfolding CheckedIs failingOf wantedBuffer
 redirect-by t y o b a s true = record { checked = (refl, s .checked .1, refl); buffer = s .buffer }
 redirect-by t y o b a s false = s
 
-redirects : (t : List ℕ) (x : Settled Result) (o : Checked) (b a : List ℕ) → Says t x o b a → (r : Checked) → r ≡ redirectedOf o → (u : Table)
-    → Says t (then x (λ y. run u (redirectOf y))) r b a
+redirects : (t : List ℕ) (x : Settled Result) (o : Checked) (b a : List ℕ) → SaysCheck t x o b a → (r : Checked) → r ≡ redirectedOf o → (u : Table)
+    → SaysCheck t (then x (λ y. run u (redirectOf y))) r b a
 unfolding then redirectOf noneIsPermerror run CheckedIs redirectedBy
 redirects t (settled y) o b a s r e u =
     let i : r ≡ cond (eqb (y .value) 0) (endedOf 6 (o .counts)) o = e ∙ ap (λ (g : Ending). redirectedBy g o) (s .checked .0) in
@@ -257,18 +257,18 @@ redirects t (wanting kind n k) o b a s r e u =
     rw i s
 
 module _ (t : List ℕ) (mail : Mail) (d s : List ℕ) (c : Counts) (r : Modifier) (b : List ℕ) (o : Checked) where
-  neutral : (m : Optional (List ℕ)) → ModifierIs s m r → r ≡ Modifier.Absent → o ≡ endedOf 1 c → (sub : Sub) → Says t (run (asks t) (noMatch mail sub d m c)) o b b
+  neutral : (m : Optional (List ℕ)) → ModifierIs s m r → r ≡ Modifier.Absent → o ≡ endedOf 1 c → (sub : Sub) → SaysCheck t (run (tableIn t) (noMatch mail sub d m c)) o b b
   unfolding ModifierIs noMatch
-  neutral absent p q e sub = says-ended t (asks t) 1 c o b e
+  neutral absent p q e sub = says-ended t (tableIn t) 1 c o b e
   neutral (present x) p q e sub = let i = p .2 in let z : _≡_ {A = ℕ} 0 1 = cc in absurd (omega arith)
 
   pub nothing-left : (m : Optional (List ℕ)) → ModifierIs s m r → r ≡ Modifier.Absent → o ≡ endedOf 1 c → (n : ℕ) → 10 ≤ n + c .lookups
-      → Says t (run (asks t) (noMatch mail (check n mail) d m c)) o b b
+      → SaysCheck t (run (tableIn t) (noMatch mail (check n mail) d m c)) o b b
   nothing-left m p q e n k = neutral m p q e (check n mail)
 
   pub redirected : (m : Optional (List ℕ)) → ModifierIs s m r → (from to : ℕ) → r ≡ Modifier.Part from to → (y : List ℕ) → y ≡ part s from to → (i : Checked) (z : List ℕ)
-      → ((n : ℕ) → 10 ≤ n + c .lookups → Says t (run (asks t) (begunCheck mail (check n mail) d y c)) i b z) → o ≡ redirectedOf i
-      → (n : ℕ) → 10 ≤ n + c .lookups → Says t (run (asks t) (noMatch mail (check n mail) d m c)) o b z
+      → ((n : ℕ) → 10 ≤ n + c .lookups → SaysCheck t (run (tableIn t) (begunCheck mail (check n mail) d y c)) i b z) → o ≡ redirectedOf i
+      → (n : ℕ) → 10 ≤ n + c .lookups → SaysCheck t (run (tableIn t) (noMatch mail (check n mail) d m c)) o b z
   unfolding ModifierIs noMatch
   redirected absent p from to q y j i z g e n k = let z : _≡_ {A = ℕ} 0 1 = cc in absurd (omega arith)
   redirected (present x) p from to q y j i z g e n k =
@@ -276,4 +276,4 @@ module _ (t : List ℕ) (mail : Mail) (d s : List ℕ) (c : Counts) (r : Modifie
       let l : from ≡ p .0 = cc in
       let h : to ≡ p .1 = cc in
       let v : y ≡ x = j ∙ rw (l, h) (p .3) in
-      rw (← v, run-bind (asks t) (begunCheck mail (check n mail) d y c) redirectOf) (redirects t _ i b z (g n k) o e (asks t))
+      rw (← v, run-bind (tableIn t) (begunCheck mail (check n mail) d y c) redirectOf) (redirects t _ i b z (g n k) o e (tableIn t))

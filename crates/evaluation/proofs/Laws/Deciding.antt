@@ -21,7 +21,7 @@ use Rattle.domain.specs.declared.Name.{Name}
 use Rattle.table.specs.declared.TableAnswer.{TableAnswer}
 use Rattle.table.specs.declared.TableAnswer.the-variants.{Accepted, TooLong, Malformed, Repeated}
 use Rattle.table.specs.Numbers.{Report, Place, nowhere, byte, accepted, refused as table-refused, reported as table-reported}
-use Rattle.table.specs.Checked.{Checked, Encoded, whole}
+use Rattle.table.specs.Answers.{TableAnswers, Encoded, whole}
 use Rattle.table.specs.Reader.{entriesOf, checkTable}
 use Rattle.table.proofs.Laws.Checks.{checked, checked-is}
 use Rattle.table.proofs.Laws.Entries.{entries-complete}
@@ -30,12 +30,12 @@ use Rattle.meaning.specs.declared.Counts.{Counts}
 use Rattle.meaning.specs.declared.Ending.{Ending}
 use Rattle.meaning.specs.declared.Explained.{Explained}
 use Rattle.meaning.specs.declared.Target.{Target}
-use Rattle.meaning.specs.declared.Checked.{Checked as CheckAnswer}
+use Rattle.meaning.specs.declared.Checked.{Checked}
 use Rattle.meaning.specs.Tree.{Table, Check, give, Settled, settled, wanting, bind, then, run, run-bind}
-use Rattle.meaning.specs.Tables.{asks}
+use Rattle.meaning.specs.Tables.{tableIn}
 use Rattle.meaning.specs.Mechanisms.{Mail}
 use Rattle.meaning.specs.Evaluation.{Result, ended, checkName, check, noCounts, evaluation, explanation, Verdict, verdict}
-use Rattle.meaning.specs.Outcomes.{mailOf, wantedBuffer, TargetIs, failingOf, CheckedIs, Says as CheckSays, SaysText}
+use Rattle.meaning.specs.Outcomes.{mailOf, wantedBuffer, TargetIs, failingOf, CheckedIs, SaysCheck, SaysText}
 use Rattle.meaning.specs.Runs.{bind-is}
 use Rattle.meaning.specs.Inversions.{Gives, Wants, wants-bind, target-name, checked-result, checked-wants, text-written, text-wants}
 use Rattle.targets.proofs.Laws.Naming.{Short, name-short, naming-written, naming-malformed}
@@ -85,56 +85,56 @@ module _ (domain : List ℕ) (r : Name) (p : r ≡ nameAnswer (normal domain)) w
     pub given-small : (d : List ℕ) → d ≡ part to 0 n → length d ≤ 253
     given-small d i = let k = written .1 in rw (i, front-part to n) (simp length-take (omega arith))
 
-    pub given-checked : (t : List ℕ) (mail : Mail) (b : List ℕ) (o : CheckAnswer) (d a : List ℕ) → d ≡ part to 0 n
-        → ((k : ℕ) → 10 ≤ k + 0 → CheckSays t (run (asks t) (check (suc k) mail (name d) noCounts)) o b a)
-        → CheckSays t (run (asks t) (evaluation mail domain)) o b a
+    pub given-checked : (t : List ℕ) (mail : Mail) (b : List ℕ) (o : Checked) (d a : List ℕ) → d ≡ part to 0 n
+        → ((k : ℕ) → 10 ≤ k + 0 → SaysCheck t (run (tableIn t) (check (suc k) mail (name d) noCounts)) o b a)
+        → SaysCheck t (run (tableIn t) (evaluation mail domain)) o b a
     unfolding evaluation
     given-checked t mail b o d a i f =
         let j : d ≡ take n to = i ∙ front-part to n in
         rw (written .0, ← j) (f 10 (omega arith))
 
-  pub given-malformed : (t : List ℕ) (mail : Mail) (b : List ℕ) (o : CheckAnswer) → r ≡ Name.Malformed → o ≡ endedOf 0 noCounts → CheckSays t (run (asks t) (evaluation mail domain)) o b b
+  pub given-malformed : (t : List ℕ) (mail : Mail) (b : List ℕ) (o : Checked) → r ≡ Name.Malformed → o ≡ endedOf 0 noCounts → SaysCheck t (run (tableIn t) (evaluation mail domain)) o b b
   unfolding evaluation check checkName run CheckedIs failingOf wantedBuffer
   given-malformed t mail b o e h = rw (malformed-is (normal domain) p e, h) (record { checked = (refl, refl, refl); buffer = refl })
 
 -- decide
-module _ (t : List ℕ) (mail : Mail) (domain : List ℕ) (b a : List ℕ) (o : CheckAnswer) (s : CheckSays t (run (asks t) (evaluation mail domain)) o b a) where
+module _ (t : List ℕ) (mail : Mail) (domain : List ℕ) (b a : List ℕ) (o : Checked) (s : SaysCheck t (run (tableIn t) (evaluation mail domain)) o b a) where
   wants-answer : (x : Settled Verdict) (kind n : ℕ) (c : Counts) (b z u v : List ℕ) → Wants x kind n c b z → v ≡ u → Says (settles x) (Answer.Wanting kind n c) b z u v
   unfolding answerOf nameAfter textAfter
   wants-answer x kind n c b z u v w e = rw (w .is) (said _ _ _ _ _ _ (ap (λ (m : ℕ). Answer.Wanting kind m c) (w .size-is)) (w .buffer) e)
 
-  pub decide-wants : (kind n : ℕ) → o .ending ≡ Ending.Wanting kind n → (u : List ℕ) → Says (settles (run (asks t) (verdict mail domain))) (Answer.Wanting kind n (o .counts)) b a u u
+  pub decide-wants : (kind n : ℕ) → o .ending ≡ Ending.Wanting kind n → (u : List ℕ) → Says (settles (run (tableIn t) (verdict mail domain))) (Answer.Wanting kind n (o .counts)) b a u u
   unfolding verdict
-  decide-wants kind n e u = wants-answer _ kind n (o .counts) b a u u (wants-bind (asks t) (evaluation mail domain) _ kind n (o .counts) b a (checked-wants t _ o b a s kind n e)) refl
+  decide-wants kind n e u = wants-answer _ kind n (o .counts) b a u u (wants-bind (tableIn t) (evaluation mail domain) _ kind n (o .counts) b a (checked-wants t _ o b a s kind n e)) refl
 
   module _ (v : ℕ) (e : o .ending ≡ Ending.Result v) (x : Explained) (u u′ z : List ℕ)
-      (w : SaysText (o .counts) (run (asks t) (explanation mail (failingOf t (o .failing)) (o .counts))) x u u′ a z) where
-    explained-is : run (asks t) (verdict mail domain)
-        ≡ run (asks t) (bind (explanation mail (failingOf t (o .failing)) (o .counts)) (λ x. give (record { value = v; counts = o .counts; text = x })))
+      (w : SaysText (o .counts) (run (tableIn t) (explanation mail (failingOf t (o .failing)) (o .counts))) x u u′ a z) where
+    explained-is : run (tableIn t) (verdict mail domain)
+        ≡ run (tableIn t) (bind (explanation mail (failingOf t (o .failing)) (o .counts)) (λ x. give (record { value = v; counts = o .counts; text = x })))
     unfolding verdict
-    explained-is = bind-is (asks t) (evaluation mail domain) _ (record { value = v; counts = o .counts; failing = failingOf t (o .failing) }) (checked-result t _ o b a s v e .is)
+    explained-is = bind-is (tableIn t) (evaluation mail domain) _ (record { value = v; counts = o .counts; failing = failingOf t (o .failing) }) (checked-result t _ o b a s v e .is)
 
     kept : a ≡ b
     kept = checked-result t _ o b a s v e .kept
 
-    pub decide-explained : (n : ℕ) → x ≡ Explained.Text n → Says (settles (run (asks t) (verdict mail domain))) (Answer.Decided v (o .counts) n) b z u u′
+    pub decide-explained : (n : ℕ) → x ≡ Explained.Text n → Says (settles (run (tableIn t) (verdict mail domain))) (Answer.Decided v (o .counts) n) b z u u′
     unfolding run answerOf nameAfter textAfter
     decide-explained n f =
         let g = text-written (o .counts) _ x u u′ a z w n f in
         let f : List ℕ → Check Verdict = λ x. give (record { value = v; counts = o .counts; text = x }) in
-        rw (explained-is, bind-is (asks t) (explanation mail (failingOf t (o .failing)) (o .counts)) f (g .0) (g .1))
+        rw (explained-is, bind-is (tableIn t) (explanation mail (failingOf t (o .failing)) (o .counts)) f (g .0) (g .1))
         (said _ _ _ _ _ _ (ap (Answer.Decided v (o .counts)) (g .2)) (g .4 ∙ kept) (g .3))
 
-    pub decide-asks : (kind n : ℕ) → x ≡ Explained.Wanting kind n → Says (settles (run (asks t) (verdict mail domain))) (Answer.Wanting kind n (o .counts)) b z u u′
+    pub decide-asks : (kind n : ℕ) → x ≡ Explained.Wanting kind n → Says (settles (run (tableIn t) (verdict mail domain))) (Answer.Wanting kind n (o .counts)) b z u u′
     decide-asks kind n f =
         let g = text-wants (o .counts) _ x u u′ a z w kind n f in
         rw (explained-is, ← kept)
         (wants-answer _ kind n (o .counts) a z u u′
-        (wants-bind (asks t) (explanation mail (failingOf t (o .failing)) (o .counts)) (λ x. give (record { value = v; counts = o .counts; text = x })) kind n (o .counts) a z (g .0)) (g .1))
+        (wants-bind (tableIn t) (explanation mail (failingOf t (o .failing)) (o .counts)) (λ x. give (record { value = v; counts = o .counts; text = x })) kind n (o .counts) a z (g .0)) (g .1))
 
 -- what the definition says, by the table's list of entries
-pub table-is : (t : List ℕ) → asks t ≡ tableOf (entriesOf t)
-unfolding asks tableOf
+pub table-is : (t : List ℕ) → tableIn t ≡ tableOf (entriesOf t)
+unfolding tableIn tableOf
 table-is t = refl
 
 -- the tests of 20 to 23
@@ -156,13 +156,13 @@ none-refused true false d a b e = absurd (omega arith)
 none-refused false h d a b e = absurd (omega arith)
 
 module _ (client : Address) (domain sender helo receiver : List ℕ) (seconds : ℕ) (table name text : List ℕ) where
-  by-entries : Fit domain sender helo receiver name text → {n : ℕ} → Checked table (accepted n)
-      → Answers client domain sender helo receiver seconds table name text (settles (run (asks table) (verdict (mailFor client sender helo receiver seconds) domain)))
+  by-entries : Fit domain sender helo receiver name text → {n : ℕ} → TableAnswers table (accepted n)
+      → Answers client domain sender helo receiver seconds table name text (settles (run (tableIn table) (verdict (mailFor client sender helo receiver seconds) domain)))
   by-entries f (whole {es = es} h e) =
       rw (table-is table, entries-complete (e .entries)) (decides f h e)
 
-  by-table : Fit domain sender helo receiver name text → (a : TableAnswer) → Checked table (table-reported a)
-      → Answers client domain sender helo receiver seconds table name text (afterTable a (run (asks table) (verdict (mailFor client sender helo receiver seconds) domain)))
+  by-table : Fit domain sender helo receiver name text → (a : TableAnswer) → TableAnswers table (table-reported a)
+      → Answers client domain sender helo receiver seconds table name text (afterTable a (run (tableIn table) (verdict (mailFor client sender helo receiver seconds) domain)))
   unfolding afterTable
   by-table f TooLong c = bad-table f c
   by-table f (Malformed p) c = bad-table f c
@@ -219,7 +219,7 @@ module _ (client : Address) (domain sender helo receiver : List ℕ) (seconds : 
         leb-true (length sender) 320 (and-right (leb 1 (length sender)) (leb (length sender) 320) w)
 
     module _ (a : TableAnswer) (q : a ≡ checkTable table) where
-      after-table : evaluated client domain sender helo receiver seconds table name text ≡ afterTable a (run (asks table) (verdict (mailFor client sender helo receiver seconds) domain))
+      after-table : evaluated client domain sender helo receiver seconds table name text ≡ afterTable a (run (tableIn table) (verdict (mailFor client sender helo receiver seconds) domain))
       unfolding evaluated
       after-table = let f = fits in rw (f .sender-fits, f .hosts-fit, f .domain-fits, f .room, ← q)
 
@@ -244,12 +244,12 @@ module _ (client : Address) (domain sender helo receiver : List ℕ) (seconds : 
       evaluated-repeated p k = both (Answer.RefusedAt 26 p) name text (at-says 26 p (after-table ∙ rw k))
 
       pub evaluated-decided : (m : ℕ) → a ≡ Accepted m → (c : Address) → c ≡ asClient client → (r : Answer) (name′ text′ : List ℕ)
-          → Says (settles (run (asks table) (verdict (mailOf c sender helo receiver seconds) domain))) r name name′ text text′
+          → Says (settles (run (tableIn table) (verdict (mailOf c sender helo receiver seconds) domain))) r name name′ text text′
           → Says (evaluated client domain sender helo receiver seconds table name text) r name name′ text text′
           × Answered client domain sender helo receiver seconds table r name name′ text text′
       unfolding afterTable
       evaluated-decided m k c i r name′ text′ s =
-          let f : evaluated client domain sender helo receiver seconds table name text ≡ settles (run (asks table) (verdict (mailFor client sender helo receiver seconds) domain)) = after-table ∙ rw k in
+          let f : evaluated client domain sender helo receiver seconds table name text ≡ settles (run (tableIn table) (verdict (mailFor client sender helo receiver seconds) domain)) = after-table ∙ rw k in
           both r name′ text′ (rw (f, ← i) s)
 
   -- so the relation determines the outcome

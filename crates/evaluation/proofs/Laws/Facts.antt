@@ -10,14 +10,14 @@ use Rattle.address.specs.declared.Address.{Address}
 use Rattle.domain.specs.Names.{isTableName}
 use Rattle.table.specs.Layout.{Entry}
 use Rattle.table.specs.Numbers.{Place, nowhere, byte}
-use Rattle.table.specs.Checked.{Encoded}
+use Rattle.table.specs.Answers.{Encoded}
 use Rattle.table.proofs.Laws.Entries.{entries-complete}
 use Rattle.meaning.specs.declared.Counts.{Counts}
 use Rattle.meaning.specs.Tree.{Settled, settled, wanting, run}
-use Rattle.meaning.specs.Tables.{asks}
+use Rattle.meaning.specs.Tables.{tableIn}
 use Rattle.meaning.specs.Always.{Holds}
 use Rattle.meaning.specs.Evaluation.{Verdict, verdict}
-use Rattle.meaning.specs.Bounds.{Asked, Answered, verdict-bounded}
+use Rattle.meaning.specs.Bounds.{AskedBounds, AnsweredBounds, verdict-bounded}
 use Rattle.meaning.specs.Askable.{Settles, TextOfFail, verdict-settles}
 use Rattle.evaluation.specs.Numbers.{Outcome, refused, refused-at, settles}
 use Rattle.evaluation.specs.Evaluating.{mailFor, evaluated}
@@ -34,7 +34,7 @@ inside x (settles y) = y
 pub record From (client : Address) (domain sender helo receiver : List ℕ) (seconds : ℕ) (table : List ℕ) (x : Settled Verdict) : Type 0 where
   pub entries : List Entry
   pub encoded : Encoded table entries
-  pub is : x ≡ run (asks table) (verdict (mailFor client sender helo receiver seconds) domain)
+  pub is : x ≡ run (tableIn table) (verdict (mailFor client sender helo receiver seconds) domain)
 
 module _ (client : Address) (domain sender helo receiver : List ℕ) (seconds : ℕ) (table name text : List ℕ) where
   settled-from : {o : Outcome} → Answers client domain sender helo receiver seconds table name text o → (x : Settled Verdict) → o ≡ settles x
@@ -56,8 +56,8 @@ module _ (client : Address) (domain sender helo receiver : List ℕ) (seconds : 
     facts : Settles TextOfFail x
     facts = rw (from .is) (verdict-settles (from .encoded .entries) (mailFor client sender helo receiver seconds) domain)
 
-    pub bounds : Holds Asked (λ v. Answered (v .value) (v .counts)) x
-    bounds = rw (from .is) (verdict-bounded (asks table) (mailFor client sender helo receiver seconds) domain)
+    pub bounds : Holds AskedBounds (λ v. AnsweredBounds (v .value) (v .counts)) x
+    bounds = rw (from .is) (verdict-bounded (tableIn table) (mailFor client sender helo receiver seconds) domain)
 
   -- a wanted name
   pub wanted-name : (kind : ℕ) (n : List ℕ) (c : Counts) → evaluated client domain sender helo receiver seconds table name text ≡ settles (wanting kind n c)

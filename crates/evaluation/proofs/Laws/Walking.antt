@@ -24,16 +24,16 @@ use Rattle.address.specs.declared.Address.{Address}
 use Rattle.address.specs.declared.Address.the-variants.{IPv4, IPv6}
 use Rattle.meaning.specs.declared.Counts.{Counts}
 use Rattle.meaning.specs.declared.Ending.{Ending}
-use Rattle.meaning.specs.declared.Failing.{Failing}
+use Rattle.meaning.specs.declared.FailingPlace.{FailingPlace}
 use Rattle.meaning.specs.declared.Matched.{Matched}
 use Rattle.meaning.specs.declared.Stepped.{Stepped}
 use Rattle.meaning.specs.declared.Span.{Span}
 use Rattle.meaning.specs.declared.Checked.{Checked}
 use Rattle.meaning.specs.Tree.{Table, Check, Settled, settled, wanting, run}
-use Rattle.meaning.specs.Tables.{asks}
+use Rattle.meaning.specs.Tables.{tableIn}
 use Rattle.meaning.specs.Mechanisms.{Mail, Match, yes, no, stop, Step}
 use Rattle.meaning.specs.Evaluation.{Result, Sub, ended, numberOr, termStep, signResult, modifierOf, failingAt, signed, noMatch, afterStep, tryTerms, termsAfter, termsFrom, termsOf, check}
-use Rattle.meaning.specs.Outcomes.{wantedBuffer, spanOf, failingOf, SaysStep, CheckedIs, Says}
+use Rattle.meaning.specs.Outcomes.{wantedBuffer, spanOf, failingOf, SaysStep, CheckedIs, SaysCheck}
 use Rattle.meaning.specs.Inversions.{Gives, Wants, step-yes, step-no, step-result, step-wants, wants-says}
 use Rattle.meaning.specs.Steps.{term-then, term-wants, no-bounded}
 use Rattle.evaluation.specs.Checks.{endedOf, signOf, signedOf}
@@ -51,14 +51,14 @@ pub record Walk (t : List ℕ) (mail : Mail) (d s : List ℕ) (first : ℕ) (b :
   pub fuel : ℕ
   pub enough : length s < fuel + at
   pub rest : (n : ℕ) → 10 ≤ n + c₀ .lookups
-      → run (asks t) (tryTerms mail (check n mail) d (termsOf s first) (termsFrom fuel s at) c) ≡ run (asks t) (tryTerms mail (check n mail) d (termsOf s first) (termsOf s first) c₀)
+      → run (tableIn t) (tryTerms mail (check n mail) d (termsOf s first) (termsFrom fuel s at) c) ≡ run (tableIn t) (tryTerms mail (check n mail) d (termsOf s first) (termsOf s first) c₀)
 
 pub walk-start : (t : List ℕ) (mail : Mail) (d s : List ℕ) (first : ℕ) (b : List ℕ) (c : Counts) → c .lookups ≤ 10 → c .voids ≤ 2 → Walk t mail d s first b c b first c
 unfolding termsOf
 walk-start t mail d s first b c h v =
     record { kept = refl; grows = omega arith; small = h; few = v; fuel = suc (length s); enough = omega arith; rest = λ n k. refl }
 
-says-from : (t : List ℕ) (x : Settled Result) (o : Checked) (b b′ a : List ℕ) → Says t x o b a → b ≡ b′ → Says t x o b′ a
+says-from : (t : List ℕ) (x : Settled Result) (o : Checked) (b b′ a : List ℕ) → SaysCheck t x o b a → b ≡ b′ → SaysCheck t x o b′ a
 says-from t x o b b′ a s e = rw (← e) s
 
 -- beyond the record nothing is read
@@ -84,13 +84,13 @@ sign-is w (Term.Unknown n to) = refl
 
 -- a matching term's result
 signed-says : (t : List ℕ) (domain text : Span) (first sign : ℕ) (c : Counts) (b : List ℕ)
-    → Says t (run (asks t) (signed (spanOf t domain) (termsOf (spanOf t text) first) (signResult sign) c)) (signedOf sign domain text first c) b b
+    → SaysCheck t (run (tableIn t) (signed (spanOf t domain) (termsOf (spanOf t text) first) (signResult sign) c)) (signedOf sign domain text first c) b b
 unfolding signed signResult signedOf run CheckedIs failingOf wantedBuffer
 signed-says t domain text first sign c b = by (eqb sign 43) (eqb sign 45) (eqb sign 126)
   where
     by : (x y z : Bool)
-        → Says t (run (asks t) (signed (spanOf t domain) (termsOf (spanOf t text) first) (cond x 2 (cond y 3 (cond z 4 1))) c))
-        (cond x (endedOf 2 c) (cond y (record { ending = Ending.Result 3; counts = c; failing = Failing.In domain text first }) (cond z (endedOf 4 c) (endedOf 1 c)))) b b
+        → SaysCheck t (run (tableIn t) (signed (spanOf t domain) (termsOf (spanOf t text) first) (cond x 2 (cond y 3 (cond z 4 1))) c))
+        (cond x (endedOf 2 c) (cond y (record { ending = Ending.Result 3; counts = c; failing = FailingPlace.In domain text first }) (cond z (endedOf 4 c) (endedOf 1 c)))) b b
     by true y z = record { checked = (refl, refl, refl); buffer = refl }
     by false true z = record { checked = (refl, refl, refl); buffer = refl }
     by false false true = record { checked = (refl, refl, refl); buffer = refl }
@@ -99,21 +99,21 @@ signed-says t domain text first sign c b = by (eqb sign 43) (eqb sign 45) (eqb s
 module _ (t : List ℕ) (mail : Mail) (d s : List ℕ) (first : ℕ) (b : List ℕ) (c₀ : Counts) (out : List ℕ) (i : ℕ) (c : Counts) (w : Walk t mail d s first b c₀ out i c) where
   -- no term is left
   left-none : (o : Checked) (z : List ℕ)
-      → ((n : ℕ) → 10 ≤ n + c .lookups → Says t (run (asks t) (noMatch mail (check n mail) d (modifierOf (bytes "redirect") (termsOf s first)) c)) o out z)
+      → ((n : ℕ) → 10 ≤ n + c .lookups → SaysCheck t (run (tableIn t) (noMatch mail (check n mail) d (modifierOf (bytes "redirect") (termsOf s first)) c)) o out z)
       → ((f : ℕ) → termsAfter (termReport s (readTerm s i)) (termsFrom f s) ≡ [])
-      → (n : ℕ) → 10 ≤ n + c₀ .lookups → Says t (run (asks t) (tryTerms mail (check n mail) d (termsOf s first) (termsOf s first) c₀)) o b z
+      → (n : ℕ) → 10 ≤ n + c₀ .lookups → SaysCheck t (run (tableIn t) (tryTerms mail (check n mail) d (termsOf s first) (termsOf s first) c₀)) o b z
   unfolding tryTerms termsFrom
   left-none o z g e n k =
       let h = w .grows in
       rw (← w .rest n k) (says-from t _ o out b z (go (w .fuel)) (w .kept))
     where
-      go : (f : ℕ) → Says t (run (asks t) (tryTerms mail (check n mail) d (termsOf s first) (termsFrom f s i) c)) o out z
+      go : (f : ℕ) → SaysCheck t (run (tableIn t) (tryTerms mail (check n mail) d (termsOf s first) (termsFrom f s i) c)) o out z
       go zero = g n (omega (arith, w .grows))
       go (suc f) = rw (e f) (g n (omega (arith, w .grows)))
 
   walk-past-here : length s < i → (o : Checked) (z : List ℕ)
-      → ((n : ℕ) → 10 ≤ n + c .lookups → Says t (run (asks t) (noMatch mail (check n mail) d (modifierOf (bytes "redirect") (termsOf s first)) c)) o out z)
-      → (n : ℕ) → 10 ≤ n + c₀ .lookups → Says t (run (asks t) (tryTerms mail (check n mail) d (termsOf s first) (termsOf s first) c₀)) o b z
+      → ((n : ℕ) → 10 ≤ n + c .lookups → SaysCheck t (run (tableIn t) (noMatch mail (check n mail) d (modifierOf (bytes "redirect") (termsOf s first)) c)) o out z)
+      → (n : ℕ) → 10 ≤ n + c₀ .lookups → SaysCheck t (run (tableIn t) (tryTerms mail (check n mail) d (termsOf s first) (termsOf s first) c₀)) o b z
   walk-past-here h o z g = left-none o z g (λ f. past-end s i (termsFrom f s) h)
 
   module _ (a : TermAnswer) (p : a ≡ readTerm s i) where
@@ -124,66 +124,66 @@ module _ (t : List ℕ) (mail : Mail) (d s : List ℕ) (first : ℕ) (b : List �
     no-term (TermAnswer.Refused number at) h rest = refl
 
     walk-ended-here : OneOf (1 ∷ 2 ∷ []) (tagOf (declared answer-type.enum) a) → (o : Checked) (z : List ℕ)
-        → ((n : ℕ) → 10 ≤ n + c .lookups → Says t (run (asks t) (noMatch mail (check n mail) d (modifierOf (bytes "redirect") (termsOf s first)) c)) o out z)
-        → (n : ℕ) → 10 ≤ n + c₀ .lookups → Says t (run (asks t) (tryTerms mail (check n mail) d (termsOf s first) (termsOf s first) c₀)) o b z
+        → ((n : ℕ) → 10 ≤ n + c .lookups → SaysCheck t (run (tableIn t) (noMatch mail (check n mail) d (modifierOf (bytes "redirect") (termsOf s first)) c)) o out z)
+        → (n : ℕ) → 10 ≤ n + c₀ .lookups → SaysCheck t (run (tableIn t) (tryTerms mail (check n mail) d (termsOf s first) (termsOf s first) c₀)) o b z
     walk-ended-here h o z g = left-none o z g (λ f. ap (λ (x : TermAnswer). termsAfter (termReport s x) (termsFrom f s)) (sym p) ∙ no-term a h (termsFrom f s))
 
     module _ (at next : ℕ) (x : Term) (q : a ≡ TermAnswer.Is at next x) (inside : i ≤ length s) where
       -- one term is read, and a number that is enough for those after it
       onward : (f : ℕ) × (length s < suc f + i)
-          × ((n : ℕ) → 10 ≤ n + c₀ .lookups → run (asks t) (tryTerms mail (check n mail) d (termsOf s first) (placed s at next x ∷ termsFrom f s next) c) ≡ run (asks t) (tryTerms mail (check n mail) d (termsOf s first) (termsOf s first) c₀))
+          × ((n : ℕ) → 10 ≤ n + c₀ .lookups → run (tableIn t) (tryTerms mail (check n mail) d (termsOf s first) (placed s at next x ∷ termsFrom f s next) c) ≡ run (tableIn t) (tryTerms mail (check n mail) d (termsOf s first) (termsOf s first) c₀))
       unfolding termsFrom termsAfter
       onward = go (w .fuel) (w .enough) (w .rest)
         where
           go : (g : ℕ) → length s < g + i
-              → ((n : ℕ) → 10 ≤ n + c₀ .lookups → run (asks t) (tryTerms mail (check n mail) d (termsOf s first) (termsFrom g s i) c) ≡ run (asks t) (tryTerms mail (check n mail) d (termsOf s first) (termsOf s first) c₀))
+              → ((n : ℕ) → 10 ≤ n + c₀ .lookups → run (tableIn t) (tryTerms mail (check n mail) d (termsOf s first) (termsFrom g s i) c) ≡ run (tableIn t) (tryTerms mail (check n mail) d (termsOf s first) (termsOf s first) c₀))
               → (f : ℕ) × (length s < suc f + i)
-              × ((n : ℕ) → 10 ≤ n + c₀ .lookups → run (asks t) (tryTerms mail (check n mail) d (termsOf s first) (placed s at next x ∷ termsFrom f s next) c) ≡ run (asks t) (tryTerms mail (check n mail) d (termsOf s first) (termsOf s first) c₀))
+              × ((n : ℕ) → 10 ≤ n + c₀ .lookups → run (tableIn t) (tryTerms mail (check n mail) d (termsOf s first) (placed s at next x ∷ termsFrom f s next) c) ≡ run (tableIn t) (tryTerms mail (check n mail) d (termsOf s first) (termsOf s first) c₀))
           go zero h k = absurd (omega arith)
-          go (suc g) h k = (g, h, λ n l. subst (λ (y : TermAnswer). run (asks t) (tryTerms mail (check n mail) d (termsOf s first) (termsAfter (termReport s y) (termsFrom g s)) c) ≡ run (asks t) (tryTerms mail (check n mail) d (termsOf s first) (termsOf s first) c₀)) (sym p ∙ q) (k n l))
+          go (suc g) h k = (g, h, λ n l. subst (λ (y : TermAnswer). run (tableIn t) (tryTerms mail (check n mail) d (termsOf s first) (termsAfter (termReport s y) (termsFrom g s)) c) ≡ run (tableIn t) (tryTerms mail (check n mail) d (termsOf s first) (termsOf s first) c₀)) (sym p ∙ q) (k n l))
 
       module _ (v : List ℕ) (j : v ≡ part s at next) (r : Stepped) (z : List ℕ)
-          (l : (n : ℕ) → 10 ≤ n + c .lookups → SaysStep (run (asks t) (termStep mail (check n mail) d (saidOf v x) (saidOf v x .sign) c)) r out z) where
+          (l : (n : ℕ) → 10 ≤ n + c .lookups → SaysStep (run (tableIn t) (termStep mail (check n mail) d (saidOf v x) (saidOf v x .sign) c)) r out z) where
         stepped : (n : ℕ) → 10 ≤ n + c .lookups
-            → SaysStep (run (asks t) (termStep mail (check n mail) d (placed s at next x .said) (placed s at next x .said .sign) c)) r out z
+            → SaysStep (run (tableIn t) (termStep mail (check n mail) d (placed s at next x .said) (placed s at next x .said .sign) c)) r out z
         stepped n k = rw (← j) (l n k)
 
         walk-result : (u : ℕ) → r .matched ≡ Matched.Stop (Ending.Result u)
-            → (n : ℕ) → 10 ≤ n + c₀ .lookups → Says t (run (asks t) (tryTerms mail (check n mail) d (termsOf s first) (termsOf s first) c₀)) (record { ending = Ending.Result u; counts = r .counts; failing = Failing.Nowhere }) b z
+            → (n : ℕ) → 10 ≤ n + c₀ .lookups → SaysCheck t (run (tableIn t) (tryTerms mail (check n mail) d (termsOf s first) (termsOf s first) c₀)) (record { ending = Ending.Result u; counts = r .counts; failing = FailingPlace.Nowhere }) b z
         unfolding afterStep run CheckedIs failingOf wantedBuffer
         walk-result u e n k =
             let h = w .grows in
             let g = step-result _ r out z (stepped n (omega arith)) u e in
-            rw (← onward .2 n k, term-then (asks t) mail (check n mail) d (termsOf s first) (placed s at next x) _ c (r .counts) (stop u) (g .is))
+            rw (← onward .2 n k, term-then (tableIn t) mail (check n mail) d (termsOf s first) (placed s at next x) _ c (r .counts) (stop u) (g .is))
             (record { checked = (refl, refl, refl); buffer = g .kept ∙ w .kept })
 
         walk-wants : (kind m : ℕ) → r .matched ≡ Matched.Stop (Ending.Wanting kind m)
-            → (n : ℕ) → 10 ≤ n + c₀ .lookups → Says t (run (asks t) (tryTerms mail (check n mail) d (termsOf s first) (termsOf s first) c₀)) (record { ending = Ending.Wanting kind m; counts = r .counts; failing = Failing.Nowhere }) b z
+            → (n : ℕ) → 10 ≤ n + c₀ .lookups → SaysCheck t (run (tableIn t) (tryTerms mail (check n mail) d (termsOf s first) (termsOf s first) c₀)) (record { ending = Ending.Wanting kind m; counts = r .counts; failing = FailingPlace.Nowhere }) b z
         walk-wants kind m e n k =
             let h = w .grows in
             let g = step-wants _ r out z (stepped n (omega arith)) kind m e in
             rw (← onward .2 n k)
             (says-from t _ _ out b z
             (wants-says t _ kind m _ out z
-            (record { asked = g .asked; is = term-wants (asks t) mail (check n mail) d (termsOf s first) (placed s at next x) _ c (r .counts) kind (g .asked) (g .is); size-is = g .size-is; buffer = g .buffer }) refl)
+            (record { asked = g .asked; is = term-wants (tableIn t) mail (check n mail) d (termsOf s first) (placed s at next x) _ c (r .counts) kind (g .asked) (g .is); size-is = g .size-is; buffer = g .buffer }) refl)
             (w .kept))
 
         walk-stop-here : (ending : Ending) → r .matched ≡ Matched.Stop ending
-            → (n : ℕ) → 10 ≤ n + c₀ .lookups → Says t (run (asks t) (tryTerms mail (check n mail) d (termsOf s first) (termsOf s first) c₀)) (record { ending = ending; counts = r .counts; failing = Failing.Nowhere }) b z
+            → (n : ℕ) → 10 ≤ n + c₀ .lookups → SaysCheck t (run (tableIn t) (tryTerms mail (check n mail) d (termsOf s first) (termsOf s first) c₀)) (record { ending = ending; counts = r .counts; failing = FailingPlace.Nowhere }) b z
         walk-stop-here (Ending.Result u) e n k = walk-result u e n k
         walk-stop-here (Ending.Wanting kind m) e n k = walk-wants kind m e n k
 
         walk-yes-here : (domain text : Span) → d ≡ spanOf t domain → s ≡ spanOf t text → r .matched ≡ Matched.Yes → (o : Checked) → o ≡ signedOf (signOf x) domain text first (r .counts)
-            → (n : ℕ) → 10 ≤ n + c₀ .lookups → Says t (run (asks t) (tryTerms mail (check n mail) d (termsOf s first) (termsOf s first) c₀)) o b z
+            → (n : ℕ) → 10 ≤ n + c₀ .lookups → SaysCheck t (run (tableIn t) (tryTerms mail (check n mail) d (termsOf s first) (termsOf s first) c₀)) o b z
         unfolding afterStep
         walk-yes-here domain text y f e o u n k =
             let h = w .grows in
             let v = step-yes _ r out z (stepped n (omega arith)) e in
-            rw (← onward .2 n k, term-then (asks t) mail (check n mail) d (termsOf s first) (placed s at next x) _ c (r .counts) yes (v .is), sign-is (part s at next) x, u)
+            rw (← onward .2 n k, term-then (tableIn t) mail (check n mail) d (termsOf s first) (placed s at next x) _ c (r .counts) yes (v .is), sign-is (part s at next) x, u)
             (says-from t _ _ out b z (shown v) (w .kept))
           where
-            shown : Gives (run (asks t) (termStep mail (check n mail) d (placed s at next x .said) (placed s at next x .said .sign) c)) (record { match = yes; counts = r .counts }) out z
-                → Says t (run (asks t) (signed d (termsOf s first) (signResult (signOf x)) (r .counts))) (signedOf (signOf x) domain text first (r .counts)) out z
+            shown : Gives (run (tableIn t) (termStep mail (check n mail) d (placed s at next x .said) (placed s at next x .said .sign) c)) (record { match = yes; counts = r .counts }) out z
+                → SaysCheck t (run (tableIn t) (signed d (termsOf s first) (signResult (signOf x)) (r .counts))) (signedOf (signOf x) domain text first (r .counts)) out z
             shown v = rw (y, f, v .kept) (signed-says t domain text first (signOf x) (r .counts) out)
 
         pub walk-no : r .matched ≡ Matched.No → Walk t mail d s first b c₀ z next (r .counts)
@@ -193,7 +193,7 @@ module _ (t : List ℕ) (mail : Mail) (d s : List ℕ) (first : ℕ) (b : List �
             let o = onward in
             let m = next-less s i a p at next x q (length s - i) inside refl in
             let g = step-no _ r out z (stepped 10 (omega arith)) e in
-            let y = no-bounded (asks t) 10 mail d (saidOf (part s at next) x) (saidOf (part s at next) x .sign) c (r .counts) (w .small) (w .few) (g .is) in
+            let y = no-bounded (tableIn t) 10 mail d (saidOf (part s at next) x) (saidOf (part s at next) x .sign) c (r .counts) (w .small) (w .few) (g .is) in
             record {
               kept = g .kept ∙ w .kept;
               grows = omega (arith, y .0);
@@ -201,7 +201,7 @@ module _ (t : List ℕ) (mail : Mail) (d s : List ℕ) (first : ℕ) (b : List �
               few = y .2;
               fuel = o .0;
               enough = omega (arith, o .1);
-              rest = λ n k. sym (term-then (asks t) mail (check n mail) d (termsOf s first) (placed s at next x) _ c (r .counts) no (step-no _ r out z (stepped n (omega arith)) e .is)) ∙ o .2 n k;
+              rest = λ n k. sym (term-then (tableIn t) mail (check n mail) d (termsOf s first) (placed s at next x) _ c (r .counts) no (step-no _ r out z (stepped n (omega arith)) e .is)) ∙ o .2 n k;
             }
 
 -- what is left to read falls
@@ -221,20 +221,20 @@ module _ (t : List ℕ) (mail : Mail) (d s : List ℕ) (first : ℕ) (b : List �
 module _ (t : List ℕ) (mail : Mail) (d s : List ℕ) (first : ℕ) (b : List ℕ) (c₀ : Counts) (out : List ℕ) (i : ℕ) (c : Counts) (w : Walk t mail d s first b c₀ out i c)
     (y : List ℕ) (f : s ≡ y) where
   pub walk-past : length s < i → (o : Checked) (z : List ℕ)
-      → ((n : ℕ) → 10 ≤ n + c .lookups → Says t (run (asks t) (noMatch mail (check n mail) d (modifierOf (bytes "redirect") (termsOf s first)) c)) o out z)
-      → (n : ℕ) → 10 ≤ n + c₀ .lookups → Says t (run (asks t) (tryTerms mail (check n mail) d (termsOf y first) (termsOf y first) c₀)) o b z
+      → ((n : ℕ) → 10 ≤ n + c .lookups → SaysCheck t (run (tableIn t) (noMatch mail (check n mail) d (modifierOf (bytes "redirect") (termsOf s first)) c)) o out z)
+      → (n : ℕ) → 10 ≤ n + c₀ .lookups → SaysCheck t (run (tableIn t) (tryTerms mail (check n mail) d (termsOf y first) (termsOf y first) c₀)) o b z
   walk-past h o z g n k = rw (← f) (walk-past-here t mail d s first b c₀ out i c w h o z g n k)
 
   module _ (a : TermAnswer) (p : a ≡ readTerm s i) where
     pub walk-ended : OneOf (1 ∷ 2 ∷ []) (tagOf (declared answer-type.enum) a) → (o : Checked) (z : List ℕ)
-        → ((n : ℕ) → 10 ≤ n + c .lookups → Says t (run (asks t) (noMatch mail (check n mail) d (modifierOf (bytes "redirect") (termsOf s first)) c)) o out z)
-        → (n : ℕ) → 10 ≤ n + c₀ .lookups → Says t (run (asks t) (tryTerms mail (check n mail) d (termsOf y first) (termsOf y first) c₀)) o b z
+        → ((n : ℕ) → 10 ≤ n + c .lookups → SaysCheck t (run (tableIn t) (noMatch mail (check n mail) d (modifierOf (bytes "redirect") (termsOf s first)) c)) o out z)
+        → (n : ℕ) → 10 ≤ n + c₀ .lookups → SaysCheck t (run (tableIn t) (tryTerms mail (check n mail) d (termsOf y first) (termsOf y first) c₀)) o b z
     walk-ended h o z g n k = rw (← f) (walk-ended-here t mail d s first b c₀ out i c w a p h o z g n k)
 
     module _ (at next : ℕ) (x : Term) (q : a ≡ TermAnswer.Is at next x) (inside : i ≤ length s) (v : List ℕ) (j : v ≡ part s at next) (r : Stepped) (z : List ℕ)
-        (l : (n : ℕ) → 10 ≤ n + c .lookups → SaysStep (run (asks t) (termStep mail (check n mail) d (saidOf v x) (saidOf v x .sign) c)) r out z) where
+        (l : (n : ℕ) → 10 ≤ n + c .lookups → SaysStep (run (tableIn t) (termStep mail (check n mail) d (saidOf v x) (saidOf v x .sign) c)) r out z) where
       pub walk-stop : (ending : Ending) → r .matched ≡ Matched.Stop ending
-          → (n : ℕ) → 10 ≤ n + c₀ .lookups → Says t (run (asks t) (tryTerms mail (check n mail) d (termsOf y first) (termsOf y first) c₀)) (record { ending = ending; counts = r .counts; failing = Failing.Nowhere }) b z
+          → (n : ℕ) → 10 ≤ n + c₀ .lookups → SaysCheck t (run (tableIn t) (tryTerms mail (check n mail) d (termsOf y first) (termsOf y first) c₀)) (record { ending = ending; counts = r .counts; failing = FailingPlace.Nowhere }) b z
       walk-stop ending e n k = rw (← f) (walk-stop-here t mail d s first b c₀ out i c w a p at next x q inside v j r z l ending e n k)
 
 -- a term that matches, in the record whose domain's name and text stand in the table
@@ -242,15 +242,15 @@ pub walk-yes : (t : List ℕ) (mail : Mail) (d y : List ℕ) (first : ℕ) (b : 
     → (x : Term) (domain text : Span) (r : Stepped) → o ≡ signedOf (signOf x) domain text first (r .counts) → d ≡ spanOf t domain → y ≡ spanOf t text
     → (s out : List ℕ) (i : ℕ) (c : Counts) → Walk t mail d s first b c₀ out i c → s ≡ y → (a : TermAnswer) → a ≡ readTerm s i → (at next : ℕ) → a ≡ TermAnswer.Is at next x
     → i ≤ length s → (v : List ℕ) → v ≡ part s at next
-    → ((n : ℕ) → 10 ≤ n + c .lookups → SaysStep (run (asks t) (termStep mail (check n mail) d (saidOf v x) (saidOf v x .sign) c)) r out z)
+    → ((n : ℕ) → 10 ≤ n + c .lookups → SaysStep (run (tableIn t) (termStep mail (check n mail) d (saidOf v x) (saidOf v x .sign) c)) r out z)
     → r .matched ≡ Matched.Yes
-    → (n : ℕ) → 10 ≤ n + c₀ .lookups → Says t (run (asks t) (tryTerms mail (check n mail) d (termsOf y first) (termsOf y first) c₀)) o b z
+    → (n : ℕ) → 10 ≤ n + c₀ .lookups → SaysCheck t (run (tableIn t) (tryTerms mail (check n mail) d (termsOf y first) (termsOf y first) c₀)) o b z
 walk-yes t mail d y first b c₀ o z x domain text r u g h s out i c w f a p at next q inside v j l e n k =
     rw (← f) (walk-yes-here t mail d s first b c₀ out i c w a p at next x q inside v j r z l domain text g (f ∙ h) e o u n k)
 
 -- the name buffer keeps its length where a term matches
 pub walk-room : (t : List ℕ) (mail : Mail) (d s : List ℕ) (first : ℕ) (b : List ℕ) (c₀ : Counts) (out : List ℕ) (i : ℕ) (c : Counts) → Walk t mail d s first b c₀ out i c
     → (v : List ℕ) (x : Term) (r : Stepped) (z : List ℕ)
-    → ((n : ℕ) → 10 ≤ n + c .lookups → SaysStep (run (asks t) (termStep mail (check n mail) d (saidOf v x) (saidOf v x .sign) c)) r out z)
+    → ((n : ℕ) → 10 ≤ n + c .lookups → SaysStep (run (tableIn t) (termStep mail (check n mail) d (saidOf v x) (saidOf v x .sign) c)) r out z)
     → r .matched ≡ Matched.Yes → length z ≡ length b
 walk-room t mail d s first b c₀ out i c w v x r z l e = ap length (step-yes _ r out z (l 10 (omega arith)) e .kept ∙ w .kept)

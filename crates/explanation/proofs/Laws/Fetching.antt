@@ -15,10 +15,10 @@ use Rattle.records.specs.Readings.{Optional, absent, present}
 use Rattle.meaning.specs.declared.Counts.{Counts}
 use Rattle.meaning.specs.declared.Target.{Target}
 use Rattle.meaning.specs.declared.Span.{Span}
-use Rattle.meaning.specs.declared.Failing.{Failing}
+use Rattle.meaning.specs.declared.FailingPlace.{FailingPlace}
 use Rattle.meaning.specs.declared.Explained.{Explained}
 use Rattle.meaning.specs.Tree.{Settled, settled, wanting, run}
-use Rattle.meaning.specs.Tables.{asks}
+use Rattle.meaning.specs.Tables.{tableIn}
 use Rattle.meaning.specs.Mechanisms.{Mail, target}
 use Rattle.meaning.specs.Evaluation.{modifierOf, failingAt, termsOf, explained, explainReply, explainName, explanation}
 use Rattle.meaning.specs.Outcomes.{failingOf, TargetIs, SaysTarget, SaysText}
@@ -33,39 +33,39 @@ use Rattle.explanation.proofs.Laws.Showing.{text-empty, text-wanted}
 -- `explain_name`
 module _ (mail : Mail) (c : Counts) (t d n : List ℕ) (f : Found) (p : f ≡ findAt t 16 n) where
   pub name-missing : f ≡ Found.Missing → (u b a : List ℕ) → a ≡ overwritten n b
-      → SaysText c (run (asks t) (explainName mail d c (name n))) (Explained.Wanting 16 (length n)) u u b a
+      → SaysText c (run (tableIn t) (explainName mail d c (name n))) (Explained.Wanting 16 (length n)) u u b a
   unfolding explainName
   name-missing e u b a w =
-      text-wanted c (run (asks t) (explainName mail d c (name n))) 16 (length n) u b a
+      text-wanted c (run (tableIn t) (explainName mail d c (name n))) 16 (length n) u b a
       (record { asked = n; is = run-missing t 16 n f p c (explainReply mail d c) e; size-is = refl; buffer = w })
 
   module _ (status start end : ℕ) (e : f ≡ Found.Entry status start end) where
-    pub name-failed : status ≡ 2 → (u b : List ℕ) → SaysText c (run (asks t) (explainName mail d c (name n))) (Explained.Text 0) u u b b
+    pub name-failed : status ≡ 2 → (u b : List ℕ) → SaysText c (run (tableIn t) (explainName mail d c (name n))) (Explained.Text 0) u u b b
     unfolding explainName explainReply run
     name-failed h u b =
-        text-empty c (run (asks t) (explainName mail d c (name n))) u b b
+        text-empty c (run (tableIn t) (explainName mail d c (name n))) u b b
         (record { is = run-failed t 16 n f p c (explainReply mail d c) status start end e h; kept = refl })
 
     module _ (h : status ≡ 2 → ⊥) (ts : List ℕ) (q : ts ≡ part t start end) where
-      name-is : run (asks t) (explainName mail d c (name n)) ≡ run (asks t) (explained mail d c (itemsOf ts))
+      name-is : run (tableIn t) (explainName mail d c (name n)) ≡ run (tableIn t) (explained mail d c (itemsOf ts))
       unfolding explainName explainReply
       name-is = run-items t 16 n f p c (explainReply mail d c) status start end e h ∙ rw (← q)
 
-      pub name-void : length ts ≡ 0 → (u b : List ℕ) → SaysText c (run (asks t) (explainName mail d c (name n))) (Explained.Text 0) u u b b
+      pub name-void : length ts ≡ 0 → (u b : List ℕ) → SaysText c (run (tableIn t) (explainName mail d c (name n))) (Explained.Text 0) u u b b
       unfolding explained run
       name-void z u b =
           let i : itemsOf ts ≡ [] = items-end ts 0 (omega arith) in
-          text-empty c (run (asks t) (explainName mail d c (name n))) u b b (record { is = name-is ∙ rw i; kept = refl })
+          text-empty c (run (tableIn t) (explainName mail d c (name n))) u b b (record { is = name-is ∙ rw i; kept = refl })
 
       module _ (some : length ts ≡ 0 → ⊥) (next : ℕ) (m : next ≡ nextItem ts 0) where
         pub name-one : next ≡ length ts → (s : List ℕ) → s ≡ firstItem (drop 0 ts) → (r : Explained) (u u′ b a : List ℕ)
-            → SaysText c (run (asks t) (explained mail d c (s ∷ []))) r u u′ b a → SaysText c (run (asks t) (explainName mail d c (name n))) r u u′ b a
+            → SaysText c (run (tableIn t) (explained mail d c (s ∷ []))) r u u′ b a → SaysText c (run (tableIn t) (explainName mail d c (name n))) r u u′ b a
         name-one z s k r u u′ b a w =
             let l : 0 < length ts = omega arith in
             let i : itemsOf ts ≡ s ∷ [] = items-step ts 0 l ∙ rw (← m, z, items-end ts (length ts) (omega arith), k) in
             rw (name-is, i) w
 
-        pub name-several : (next ≡ length ts → ⊥) → (u b : List ℕ) → SaysText c (run (asks t) (explainName mail d c (name n))) (Explained.Text 0) u u b b
+        pub name-several : (next ≡ length ts → ⊥) → (u b : List ℕ) → SaysText c (run (tableIn t) (explainName mail d c (name n))) (Explained.Text 0) u u b b
         unfolding explained run
         name-several z u b =
             let l : 0 < length ts = omega arith in
@@ -73,7 +73,7 @@ module _ (mail : Mail) (c : Counts) (t d n : List ℕ) (f : Found) (p : f ≡ fi
             let i : itemsOf ts ≡ firstItem ts ∷ firstItem (drop next ts) ∷ itemsOf (drop (nextItem ts next) ts) =
             items-step ts 0 l ∙ rw (← m) (ap (λ (ds : List (List ℕ)). firstItem ts ∷ ds) (items-step ts next (omega arith)))
             in
-            text-empty c (run (asks t) (explainName mail d c (name n))) u b b (record { is = name-is ∙ rw i; kept = refl })
+            text-empty c (run (tableIn t) (explainName mail d c (name n))) u b b (record { is = name-is ∙ rw i; kept = refl })
 
 -- `fetch`: the name at the front of its array
 name-taken : (c : Counts) (x : Settled Naming) (r : Target) (to : List ℕ) → TargetIs c x r to → (n : ℕ) → r ≡ Target.Name n → n ≡ length (take n to)
@@ -83,7 +83,7 @@ name-taken c (settled malformed) r to p n e = let z : _≡_ {A = ℕ} 0 1 = cc i
 name-taken c (wanting k m l) r to p n e = let z : _≡_ {A = ℕ} 0 1 = cc in absurd (omega arith)
 
 module _ (mail : Mail) (c : Counts) (t d spec : List ℕ) (r : Target) (to b a : List ℕ)
-    (says : SaysTarget c (run (asks t) (target mail d spec c)) r to b a) where
+    (says : SaysTarget c (run (tableIn t) (target mail d spec c)) r to b a) where
   pub name-whole : (n : ℕ) → r ≡ Target.Name n → n ≡ length (take n to)
   name-whole n e = name-taken c _ r to (says .target) n e
 
@@ -91,24 +91,24 @@ module _ (mail : Mail) (c : Counts) (t d spec : List ℕ) (r : Target) (to b a :
   name-inside n e = let h = name-whole n e in omega (arith, length-take n to)
 
   pub fetch-name : (n : ℕ) → r ≡ Target.Name n → (y : Explained) (u u′ a′ : List ℕ)
-      → SaysText c (run (asks t) (explainName mail d c (name (take n to)))) y u u′ a a′ → SaysText c (run (asks t) (fetched mail d spec c)) y u u′ b a′
+      → SaysText c (run (tableIn t) (explainName mail d c (name (take n to)))) y u u′ a a′ → SaysText c (run (tableIn t) (fetched mail d spec c)) y u u′ b a′
   unfolding fetched
   fetch-name n e y u u′ a′ w =
       let g = target-name c _ r to b a says n e .0 in
-      rw (bind-is (asks t) (target mail d spec c) (explainName mail d c) (name (take n to)) (g .is), ← (g .kept)) w
+      rw (bind-is (tableIn t) (target mail d spec c) (explainName mail d c) (name (take n to)) (g .is), ← (g .kept)) w
 
-  pub fetch-malformed : r ≡ Target.Malformed → (u : List ℕ) → SaysText c (run (asks t) (fetched mail d spec c)) (Explained.Text 0) u u b a
+  pub fetch-malformed : r ≡ Target.Malformed → (u : List ℕ) → SaysText c (run (tableIn t) (fetched mail d spec c)) (Explained.Text 0) u u b a
   unfolding fetched explainName run
   fetch-malformed e u =
       let g = target-malformed c _ r to b a says e in
-      text-empty c (run (asks t) (fetched mail d spec c)) u b a
-      (record { is = bind-is (asks t) (target mail d spec c) (explainName mail d c) malformed (g .is); kept = g .kept })
+      text-empty c (run (tableIn t) (fetched mail d spec c)) u b a
+      (record { is = bind-is (tableIn t) (target mail d spec c) (explainName mail d c) malformed (g .is); kept = g .kept })
 
-  pub fetch-wanting : (kind size : ℕ) → r ≡ Target.Wanting kind size → (u : List ℕ) → SaysText c (run (asks t) (fetched mail d spec c)) (Explained.Wanting kind size) u u b a
+  pub fetch-wanting : (kind size : ℕ) → r ≡ Target.Wanting kind size → (u : List ℕ) → SaysText c (run (tableIn t) (fetched mail d spec c)) (Explained.Wanting kind size) u u b a
   unfolding fetched
   fetch-wanting kind size e u =
-      text-wanted c (run (asks t) (fetched mail d spec c)) kind size u b a
-      (wants-bind (asks t) (target mail d spec c) (explainName mail d c) kind size c b a (target-wants c _ r to b a says kind size e))
+      text-wanted c (run (tableIn t) (fetched mail d spec c)) kind size u b a
+      (wants-bind (tableIn t) (target mail d spec c) (explainName mail d c) kind size c b a (target-wants c _ r to b a says kind size e))
 
 -- what a modifier's answer tells
 modifier-absent : (s : List ℕ) (o : Optional (List ℕ)) (m : Modifier) → ModifierIs s o m → m ≡ Modifier.Absent → o ≡ absent
@@ -126,26 +126,26 @@ modifier-part s (present x) m w from to e =
     rw (i, j, w .3)
 
 -- `explain`
-module _ (mail : Mail) (c : Counts) (t : List ℕ) (f : Failing) where
-  pub explain-nowhere : f ≡ Failing.Nowhere → (u b : List ℕ) → SaysText c (run (asks t) (explanation mail (failingOf t f) c)) (Explained.Text 0) u u b b
+module _ (mail : Mail) (c : Counts) (t : List ℕ) (f : FailingPlace) where
+  pub explain-nowhere : f ≡ FailingPlace.Nowhere → (u b : List ℕ) → SaysText c (run (tableIn t) (explanation mail (failingOf t f) c)) (Explained.Text 0) u u b b
   unfolding failingOf explanation run
-  explain-nowhere e u b = text-empty c (run (asks t) (explanation mail (failingOf t f) c)) u b b (record { is = rw e; kept = refl })
+  explain-nowhere e u b = text-empty c (run (tableIn t) (explanation mail (failingOf t f) c)) u b b (record { is = rw e; kept = refl })
 
-  module _ (domain place : Span) (terms : ℕ) (e : f ≡ Failing.In domain place terms) (s : List ℕ) (q : s ≡ part t (place .from) (place .to)) (m : Modifier)
+  module _ (domain place : Span) (terms : ℕ) (e : f ≡ FailingPlace.In domain place terms) (s : List ℕ) (q : s ≡ part t (place .from) (place .to)) (m : Modifier)
       (w : ModifierIs s (modifierOf (bytes "exp") (termsOf s terms)) m) where
     failing-is : (o : Optional (List ℕ)) → modifierOf (bytes "exp") (termsOf s terms) ≡ o → failingOf t f ≡ failingAt (part t (domain .from) (domain .to)) o
     unfolding failingOf
     failing-is o h = rw (e, ← q, h)
 
-    pub explain-without : m ≡ Modifier.Absent → (u b : List ℕ) → SaysText c (run (asks t) (explanation mail (failingOf t f) c)) (Explained.Text 0) u u b b
+    pub explain-without : m ≡ Modifier.Absent → (u b : List ℕ) → SaysText c (run (tableIn t) (explanation mail (failingOf t f) c)) (Explained.Text 0) u u b b
     unfolding failingAt explanation run
     explain-without h u b =
         let i = failing-is absent (modifier-absent s _ m w h) in
-        text-empty c (run (asks t) (explanation mail (failingOf t f) c)) u b b (record { is = rw i; kept = refl })
+        text-empty c (run (tableIn t) (explanation mail (failingOf t f) c)) u b b (record { is = rw i; kept = refl })
 
     pub explain-fetched : (from to : ℕ) → m ≡ Modifier.Part from to → (d : List ℕ) → d ≡ part t (domain .from) (domain .to) → (spec : List ℕ) → spec ≡ part s from to
-        → (r : Explained) (u u′ b a : List ℕ) → SaysText c (run (asks t) (fetched mail d spec c)) r u u′ b a
-        → SaysText c (run (asks t) (explanation mail (failingOf t f) c)) r u u′ b a
+        → (r : Explained) (u u′ b a : List ℕ) → SaysText c (run (tableIn t) (fetched mail d spec c)) r u u′ b a
+        → SaysText c (run (tableIn t) (explanation mail (failingOf t f) c)) r u u′ b a
     unfolding failingAt explanation fetched
     explain-fetched from to h d k spec l r u u′ b a y =
         let i = failing-is (present (part s from to)) (modifier-part s _ m w from to h) in

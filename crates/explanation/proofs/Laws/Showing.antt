@@ -27,7 +27,7 @@ use Rattle.meaning.specs.declared.Counts.{Counts}
 use Rattle.meaning.specs.declared.PValue.{PValue}
 use Rattle.meaning.specs.declared.Explained.{Explained}
 use Rattle.meaning.specs.Tree.{bind, Settled, settled, run}
-use Rattle.meaning.specs.Tables.{asks}
+use Rattle.meaning.specs.Tables.{tableIn}
 use Rattle.meaning.specs.Mechanisms.{Mail, pValue, expansion, givesExpansion, expanded}
 use Rattle.meaning.specs.Evaluation.{most-text, shown, givesShown, explained}
 use Rattle.meaning.specs.Outcomes.{mailOf, wantedBuffer, SaysP, ExplainedIs, textBuffer, SaysText}
@@ -113,67 +113,67 @@ module _ (client : Address) (sender helo receiver : List ℕ) (seconds : ℕ) (d
 
 -- `explain_with_p`
 module _ (mail : Mail) (c : Counts) (t d s b a : List ℕ) where
-  with-value : (p : List ℕ) → Gives (run (asks t) (pValue (mail .client) d c)) p b a
-      → Gives (run (asks t) (withP mail d s c)) (shown (expansion mail d Explanation s p)) b a
+  with-value : (p : List ℕ) → Gives (run (tableIn t) (pValue (mail .client) d c)) p b a
+      → Gives (run (tableIn t) (withP mail d s c)) (shown (expansion mail d Explanation s p)) b a
   unfolding withP givesExpansion givesShown run
   with-value p g =
       let m = bind (pValue (mail .client) d c) (givesExpansion mail d Explanation s) in
-      let y : run (asks t) m ≡ settled (expansion mail d Explanation s p) = bind-is (asks t) (pValue (mail .client) d c) (givesExpansion mail d Explanation s) p (g .is) in
-      record { is = bind-is (asks t) m givesShown (expansion mail d Explanation s p) y; kept = g .kept }
+      let y : run (tableIn t) m ≡ settled (expansion mail d Explanation s p) = bind-is (tableIn t) (pValue (mail .client) d c) (givesExpansion mail d Explanation s) p (g .is) in
+      record { is = bind-is (tableIn t) m givesShown (expansion mail d Explanation s p) y; kept = g .kept }
 
 module _ (client : Address) (sender helo receiver : List ℕ) (seconds : ℕ) (c : Counts) (t d s b a : List ℕ) (v : PValue)
-    (says : SaysP c d t (run (asks t) (pValue client d c)) v b a) where
-  with-given : (p : List ℕ) → Gives (run (asks t) (pValue client d c)) p b a → (n : ℕ) (u u′ : List ℕ)
+    (says : SaysP c d t (run (tableIn t) (pValue client d c)) v b a) where
+  with-given : (p : List ℕ) → Gives (run (tableIn t) (pValue client d c)) p b a → (n : ℕ) (u u′ : List ℕ)
       → Shows (shown (expansion (mailOf client sender helo receiver seconds) d Explanation s p)) n u u′
-      → SaysText c (run (asks t) (withP (mailOf client sender helo receiver seconds) d s c)) (Explained.Text n) u u′ b a
+      → SaysText c (run (tableIn t) (withP (mailOf client sender helo receiver seconds) d s c)) (Explained.Text n) u u′ b a
   with-given p g n u u′ w =
-      text-settled c (run (asks t) (withP (mailOf client sender helo receiver seconds) d s c)) _ n u u′ b a
+      text-settled c (run (tableIn t) (withP (mailOf client sender helo receiver seconds) d s c)) _ n u u′ b a
       (with-value (mailOf client sender helo receiver seconds) c t d s b a p g) w
 
   pub with-current : v ≡ PValue.Current → (n : ℕ) (u u′ : List ℕ)
       → Shows (shown (expansion (mailOf client sender helo receiver seconds) d Explanation s d)) n u u′
-      → SaysText c (run (asks t) (withP (mailOf client sender helo receiver seconds) d s c)) (Explained.Text n) u u′ b a
+      → SaysText c (run (tableIn t) (withP (mailOf client sender helo receiver seconds) d s c)) (Explained.Text n) u u′ b a
   with-current e n u u′ w = with-given d (p-current c d t _ v b a says e) n u u′ w
 
   pub with-listed : (from to : ℕ) → v ≡ PValue.Listed from to → (p : List ℕ) → p ≡ part t from to → (n : ℕ) (u u′ : List ℕ)
       → Shows (shown (expansion (mailOf client sender helo receiver seconds) d Explanation s p)) n u u′
-      → SaysText c (run (asks t) (withP (mailOf client sender helo receiver seconds) d s c)) (Explained.Text n) u u′ b a
+      → SaysText c (run (tableIn t) (withP (mailOf client sender helo receiver seconds) d s c)) (Explained.Text n) u u′ b a
   with-listed from to e p h n u u′ w =
-      with-given p (subst (λ (y : List ℕ). Gives (run (asks t) (pValue client d c)) y b a) (sym h) (p-listed c d t _ v b a says from to e)) n u u′ w
+      with-given p (subst (λ (y : List ℕ). Gives (run (tableIn t) (pValue client d c)) y b a) (sym h) (p-listed c d t _ v b a says from to e)) n u u′ w
 
   pub with-unknown : v ≡ PValue.Unknown → (n : ℕ) (u u′ : List ℕ)
       → Shows (shown (expansion (mailOf client sender helo receiver seconds) d Explanation s (bytes "unknown"))) n u u′
-      → SaysText c (run (asks t) (withP (mailOf client sender helo receiver seconds) d s c)) (Explained.Text n) u u′ b a
+      → SaysText c (run (tableIn t) (withP (mailOf client sender helo receiver seconds) d s c)) (Explained.Text n) u u′ b a
   with-unknown e n u u′ w = with-given (bytes "unknown") (p-unknown c d t _ v b a says e) n u u′ w
 
   pub with-wanting : (kind size : ℕ) → v ≡ PValue.Wanting kind size → (u : List ℕ)
-      → SaysText c (run (asks t) (withP (mailOf client sender helo receiver seconds) d s c)) (Explained.Wanting kind size) u u b a
+      → SaysText c (run (tableIn t) (withP (mailOf client sender helo receiver seconds) d s c)) (Explained.Wanting kind size) u u b a
   unfolding withP
   with-wanting kind size e u =
       let mail = mailOf client sender helo receiver seconds in
       let m = bind (pValue client d c) (givesExpansion mail d Explanation s) in
       let w = p-wants c d t _ v b a says kind size e in
-      text-wanted c (run (asks t) (bind m givesShown)) kind size u b a
-      (wants-bind (asks t) m givesShown kind size c b a (wants-bind (asks t) (pValue client d c) (givesExpansion mail d Explanation s) kind size c b a w))
+      text-wanted c (run (tableIn t) (bind m givesShown)) kind size u b a
+      (wants-bind (tableIn t) m givesShown kind size c b a (wants-bind (tableIn t) (pValue client d c) (givesExpansion mail d Explanation s) kind size c b a w))
 
 -- `explain_text`
 module _ (client : Address) (sender helo receiver : List ℕ) (seconds : ℕ) (c : Counts) (t d s : List ℕ) (g : Bool) (e : g ≡ isMacroString Explanation s) where
-  pub text-outside : g ≡ false → (u b : List ℕ) → SaysText c (run (asks t) (explained (mailOf client sender helo receiver seconds) d c (s ∷ []))) (Explained.Text 0) u u b b
+  pub text-outside : g ≡ false → (u b : List ℕ) → SaysText c (run (tableIn t) (explained (mailOf client sender helo receiver seconds) d c (s ∷ []))) (Explained.Text 0) u u b b
   unfolding explained run
   text-outside h u b =
-      let x = run (asks t) (explained (mailOf client sender helo receiver seconds) d c (s ∷ [])) in
+      let x = run (tableIn t) (explained (mailOf client sender helo receiver seconds) d c (s ∷ [])) in
       text-empty c x u b b (record { is = rw (← e, h); kept = refl })
 
   module _ (h : g ≡ true) (w : Bool) (i : w ≡ usesP Explanation s) where
-    pub text-uses-p : w ≡ true → (r : Explained) (u u′ b a : List ℕ) → SaysText c (run (asks t) (withP (mailOf client sender helo receiver seconds) d s c)) r u u′ b a
-        → SaysText c (run (asks t) (explained (mailOf client sender helo receiver seconds) d c (s ∷ []))) r u u′ b a
+    pub text-uses-p : w ≡ true → (r : Explained) (u u′ b a : List ℕ) → SaysText c (run (tableIn t) (withP (mailOf client sender helo receiver seconds) d s c)) r u u′ b a
+        → SaysText c (run (tableIn t) (explained (mailOf client sender helo receiver seconds) d c (s ∷ []))) r u u′ b a
     unfolding withP explained expanded
     text-uses-p k r u u′ b a y = rw (← e, h, ← i, k) y
 
     pub text-without-p : w ≡ false → (n : ℕ) (u u′ b : List ℕ) → Shows (shown (expansion (mailOf client sender helo receiver seconds) d Explanation s [])) n u u′
-        → SaysText c (run (asks t) (explained (mailOf client sender helo receiver seconds) d c (s ∷ []))) (Explained.Text n) u u′ b b
+        → SaysText c (run (tableIn t) (explained (mailOf client sender helo receiver seconds) d c (s ∷ []))) (Explained.Text n) u u′ b b
     unfolding explained expanded givesExpansion givesShown run bind
     text-without-p k n u u′ b y =
-        let x = run (asks t) (explained (mailOf client sender helo receiver seconds) d c (s ∷ [])) in
+        let x = run (tableIn t) (explained (mailOf client sender helo receiver seconds) d c (s ∷ [])) in
         let q : x ≡ settled (shown (expansion (mailOf client sender helo receiver seconds) d Explanation s [])) = rw (← e, h, ← i, k) in
         text-settled c x (shown (expansion (mailOf client sender helo receiver seconds) d Explanation s [])) n u u′ b b (record { is = q; kept = refl }) y

@@ -23,7 +23,7 @@ use Rattle.meaning.specs.declared.Ending.{Ending}
 use Rattle.meaning.specs.declared.Matched.{Matched}
 use Rattle.meaning.specs.declared.Stepped.{Stepped}
 use Rattle.meaning.specs.Tree.{Reply, failed, items, Table, Check, ask, wanting, run}
-use Rattle.meaning.specs.Tables.{asks, replyBy}
+use Rattle.meaning.specs.Tables.{tableIn, replyBy}
 use Rattle.meaning.specs.Mechanisms.{Match, yes, no, stop, Step, step, addressKind, anyMatches, includesClient, most-voids, voided, orVoid, matched, aReply, askA, existsReply, askExists, byPreference, hostReply, askHosts, most-hosts, mxItems, mxReply, askMx, nameReply, askNames, most-names, ptrReply, askPtr}
 use Rattle.meaning.specs.Outcomes.{wantedBuffer, matchedOf, steppedOf, SaysStep}
 use Rattle.answers.proofs.Laws.Asked.{run-missing, run-entry, run-failed, run-items}
@@ -82,93 +82,93 @@ some-items s h c rest = let p : 0 < length s = omega arith in rw (of-more s p)
 
 -- a question by what was found
 module _ (t : List ℕ) (kind : ℕ) (d : List ℕ) (f : Found) (p : f ≡ findAt t kind d) (c : Counts) (g : Reply → Check Step) (r : Stepped) (b a : List ℕ) where
-  pub asked-missing : f ≡ Found.Missing → SaysStep (wanting kind d c) r b a → SaysStep (run (asks t) (ask kind d c g)) r b a
+  pub asked-missing : f ≡ Found.Missing → SaysStep (wanting kind d c) r b a → SaysStep (run (tableIn t) (ask kind d c g)) r b a
   asked-missing e w = rw (run-missing t kind d f p c g e) w
 
   module _ (status start end : ℕ) (e : f ≡ Found.Entry status start end) where
-    asked-failed : status ≡ 2 → SaysStep (run (asks t) (g failed)) r b a → SaysStep (run (asks t) (ask kind d c g)) r b a
+    asked-failed : status ≡ 2 → SaysStep (run (tableIn t) (g failed)) r b a → SaysStep (run (tableIn t) (ask kind d c g)) r b a
     asked-failed h w = rw (run-failed t kind d f p c g status start end e h) w
 
     module _ (h : status ≡ 2 → ⊥) (s : List ℕ) (at : s ≡ part t start end) where
-      asked-items : SaysStep (run (asks t) (g (items (itemsOf s)))) r b a → SaysStep (run (asks t) (ask kind d c g)) r b a
+      asked-items : SaysStep (run (tableIn t) (g (items (itemsOf s)))) r b a → SaysStep (run (tableIn t) (ask kind d c g)) r b a
       asked-items w = rw (run-items t kind d f p c g status start end e h, ← at) w
 
       -- its answer is void, or has items
       module _ (rest : Check Step) (o : g (items (itemsOf s)) ≡ orVoid c (itemsOf s) rest) where
-        asked-some : (length s ≡ 0 → ⊥) → SaysStep (run (asks t) rest) r b a → SaysStep (run (asks t) (ask kind d c g)) r b a
+        asked-some : (length s ≡ 0 → ⊥) → SaysStep (run (tableIn t) rest) r b a → SaysStep (run (tableIn t) (ask kind d c g)) r b a
         asked-some k w = asked-items (rw (o, some-items s k c rest) w)
 
-        asked-void : length s ≡ 0 → r ≡ voidAnswer c → a ≡ b → SaysStep (run (asks t) (ask kind d c g)) r b a
-        asked-void k j same = asked-items (rw (o, void-items s k, j, same) (void-says (asks t) c rest b))
+        asked-void : length s ≡ 0 → r ≡ voidAnswer c → a ≡ b → SaysStep (run (tableIn t) (ask kind d c g)) r b a
+        asked-void k j same = asked-items (rw (o, void-items s k, j, same) (void-says (tableIn t) c rest b))
 
 -- `ask_a`
 module _ (client : Address) (n : ℕ) (t m : List ℕ) (c : Counts) (b : List ℕ) (kind : ℕ) (q : kind ≡ addressKind client) (f : Found) (p : f ≡ findAt t kind m) where
-  pub a-missing : f ≡ Found.Missing → (r : Stepped) (a : List ℕ) → SaysStep (wanting kind m c) r b a → SaysStep (run (asks t) (askA client n c m)) r b a
+  pub a-missing : f ≡ Found.Missing → (r : Stepped) (a : List ℕ) → SaysStep (wanting kind m c) r b a → SaysStep (run (tableIn t) (askA client n c m)) r b a
   unfolding askA
   a-missing e r a w = rw (← q) (asked-missing t kind m f p c (aReply client n c) r b a e w)
 
   module _ (status start end : ℕ) (e : f ≡ Found.Entry status start end) where
-    pub a-failed : status ≡ 2 → SaysStep (run (asks t) (askA client n c m)) (record { matched = Matched.Stop (Ending.Result 5); counts = c }) b b
+    pub a-failed : status ≡ 2 → SaysStep (run (tableIn t) (askA client n c m)) (record { matched = Matched.Stop (Ending.Result 5); counts = c }) b b
     unfolding askA aReply matchedOf
-    a-failed h = rw (← q) (asked-failed t kind m f p c (aReply client n c) _ b b status start end e h (gives-says (asks t) (stop 5) c b))
+    a-failed h = rw (← q) (asked-failed t kind m f p c (aReply client n c) _ b b status start end e h (gives-says (tableIn t) (stop 5) c b))
 
     module _ (h : status ≡ 2 → ⊥) (s : List ℕ) (at : s ≡ part t start end) (r : Stepped) where
-      pub a-void : length s ≡ 0 → r ≡ voidAnswer c → SaysStep (run (asks t) (askA client n c m)) r b b
+      pub a-void : length s ≡ 0 → r ≡ voidAnswer c → SaysStep (run (tableIn t) (askA client n c m)) r b b
       unfolding askA aReply
       a-void k j = rw (← q) (asked-void t kind m f p c (aReply client n c) r b b status start end e h s at (matched (anyMatches client n (itemsOf s)) c) refl k j refl)
 
-      pub a-some : (length s ≡ 0 → ⊥) → r ≡ matchAnswer (anyMatches client n (itemsOf s)) c → SaysStep (run (asks t) (askA client n c m)) r b b
+      pub a-some : (length s ≡ 0 → ⊥) → r ≡ matchAnswer (anyMatches client n (itemsOf s)) c → SaysStep (run (tableIn t) (askA client n c m)) r b b
       unfolding askA aReply
       a-some k j =
           rw (← q) (asked-some t kind m f p c (aReply client n c) r b b status start end e h s at (matched (anyMatches client n (itemsOf s)) c) refl k
-          (rw j (match-says (asks t) (anyMatches client n (itemsOf s)) c b)))
+          (rw j (match-says (tableIn t) (anyMatches client n (itemsOf s)) c b)))
 
 -- `ask_exists`
 module _ (t m : List ℕ) (c : Counts) (b : List ℕ) (f : Found) (p : f ≡ findAt t 1 m) where
-  pub exists-missing : f ≡ Found.Missing → (r : Stepped) (a : List ℕ) → SaysStep (wanting 1 m c) r b a → SaysStep (run (asks t) (askExists c m)) r b a
+  pub exists-missing : f ≡ Found.Missing → (r : Stepped) (a : List ℕ) → SaysStep (wanting 1 m c) r b a → SaysStep (run (tableIn t) (askExists c m)) r b a
   unfolding askExists
   exists-missing e r a w = asked-missing t 1 m f p c (existsReply c) r b a e w
 
   module _ (status start end : ℕ) (e : f ≡ Found.Entry status start end) where
-    pub exists-failed : status ≡ 2 → SaysStep (run (asks t) (askExists c m)) (record { matched = Matched.Stop (Ending.Result 5); counts = c }) b b
+    pub exists-failed : status ≡ 2 → SaysStep (run (tableIn t) (askExists c m)) (record { matched = Matched.Stop (Ending.Result 5); counts = c }) b b
     unfolding askExists existsReply matchedOf
-    exists-failed h = asked-failed t 1 m f p c (existsReply c) _ b b status start end e h (gives-says (asks t) (stop 5) c b)
+    exists-failed h = asked-failed t 1 m f p c (existsReply c) _ b b status start end e h (gives-says (tableIn t) (stop 5) c b)
 
     module _ (h : status ≡ 2 → ⊥) (s : List ℕ) (at : s ≡ part t start end) where
-      pub exists-void : length s ≡ 0 → (r : Stepped) → r ≡ voidAnswer c → SaysStep (run (asks t) (askExists c m)) r b b
+      pub exists-void : length s ≡ 0 → (r : Stepped) → r ≡ voidAnswer c → SaysStep (run (tableIn t) (askExists c m)) r b b
       unfolding askExists existsReply
       exists-void k r j = asked-void t 1 m f p c (existsReply c) r b b status start end e h s at (step yes c) refl k j refl
 
-      pub exists-some : (length s ≡ 0 → ⊥) → SaysStep (run (asks t) (askExists c m)) (record { matched = Matched.Yes; counts = c }) b b
+      pub exists-some : (length s ≡ 0 → ⊥) → SaysStep (run (tableIn t) (askExists c m)) (record { matched = Matched.Yes; counts = c }) b b
       unfolding askExists existsReply matchedOf
-      exists-some k = asked-some t 1 m f p c (existsReply c) _ b b status start end e h s at (step yes c) refl k (gives-says (asks t) yes c b)
+      exists-some k = asked-some t 1 m f p c (existsReply c) _ b b status start end e h s at (step yes c) refl k (gives-says (tableIn t) yes c b)
 
 -- `ask_mx`
 module _ (client : Address) (n : ℕ) (t m : List ℕ) (c : Counts) (b : List ℕ) (f : Found) (p : f ≡ findAt t 15 m) where
-  pub mx-missing : f ≡ Found.Missing → (r : Stepped) (a : List ℕ) → SaysStep (wanting 15 m c) r b a → SaysStep (run (asks t) (askMx client n c m)) r b a
+  pub mx-missing : f ≡ Found.Missing → (r : Stepped) (a : List ℕ) → SaysStep (wanting 15 m c) r b a → SaysStep (run (tableIn t) (askMx client n c m)) r b a
   unfolding askMx
   mx-missing e r a w = asked-missing t 15 m f p c (mxReply client n c) r b a e w
 
   module _ (status start end : ℕ) (e : f ≡ Found.Entry status start end) where
-    pub mx-failed : status ≡ 2 → SaysStep (run (asks t) (askMx client n c m)) (record { matched = Matched.Stop (Ending.Result 5); counts = c }) b b
+    pub mx-failed : status ≡ 2 → SaysStep (run (tableIn t) (askMx client n c m)) (record { matched = Matched.Stop (Ending.Result 5); counts = c }) b b
     unfolding askMx mxReply matchedOf
-    mx-failed h = asked-failed t 15 m f p c (mxReply client n c) _ b b status start end e h (gives-says (asks t) (stop 5) c b)
+    mx-failed h = asked-failed t 15 m f p c (mxReply client n c) _ b b status start end e h (gives-says (tableIn t) (stop 5) c b)
 
     module _ (h : status ≡ 2 → ⊥) (s : List ℕ) (at : s ≡ part t start end) where
-      pub mx-void : length s ≡ 0 → (r : Stepped) → r ≡ voidAnswer c → SaysStep (run (asks t) (askMx client n c m)) r b b
+      pub mx-void : length s ≡ 0 → (r : Stepped) → r ≡ voidAnswer c → SaysStep (run (tableIn t) (askMx client n c m)) r b b
       unfolding askMx mxReply
       mx-void k r j = asked-void t 15 m f p c (mxReply client n c) r b b status start end e h s at (mxItems client n c (itemsOf s)) refl k j refl
 
       module _ (k : length s ≡ 0 → ⊥) (many : ℕ) (l : many ≡ length (itemsOf s)) where
-        pub mx-many : 10 < many → SaysStep (run (asks t) (askMx client n c m)) (record { matched = Matched.Stop (Ending.Result 6); counts = c }) b b
+        pub mx-many : 10 < many → SaysStep (run (tableIn t) (askMx client n c m)) (record { matched = Matched.Stop (Ending.Result 6); counts = c }) b b
         unfolding askMx mxReply mxItems matchedOf
         mx-many o =
             let j : most-hosts < length (itemsOf s) = omega arith in
             asked-some t 15 m f p c (mxReply client n c) _ b b status start end e h s at (mxItems client n c (itemsOf s)) refl k
-            (rw (lt-leb (length (itemsOf s)) most-hosts j) (gives-says (asks t) (stop 6) c b))
+            (rw (lt-leb (length (itemsOf s)) most-hosts j) (gives-says (tableIn t) (stop 6) c b))
 
-        pub mx-hosts : many ≤ 10 → (r : Stepped) (a : List ℕ) → SaysStep (run (asks t) (askHosts client n c (byPreference (itemsOf s)))) r b a
-            → SaysStep (run (asks t) (askMx client n c m)) r b a
+        pub mx-hosts : many ≤ 10 → (r : Stepped) (a : List ℕ) → SaysStep (run (tableIn t) (askHosts client n c (byPreference (itemsOf s)))) r b a
+            → SaysStep (run (tableIn t) (askMx client n c m)) r b a
         unfolding askMx mxReply mxItems
         mx-hosts o r a w =
             let j : length (itemsOf s) ≤ most-hosts = omega arith in
@@ -177,81 +177,81 @@ module _ (client : Address) (n : ℕ) (t m : List ℕ) (c : Counts) (b : List �
 
 -- `ask_host`
 module _ (client : Address) (n : ℕ) (t d : List ℕ) (q : ℕ) (c : Counts) (b : List ℕ) (x : ℕ) (ex : x ≡ number d) where
-  pub host-other : (x ≡ q → ⊥) → SaysStep (run (asks t) (askHosts client n c (ofPreference q (d ∷ [])))) (record { matched = Matched.No; counts = c }) b b
+  pub host-other : (x ≡ q → ⊥) → SaysStep (run (tableIn t) (askHosts client n c (ofPreference q (d ∷ [])))) (record { matched = Matched.No; counts = c }) b b
   unfolding ofPreference askHosts matchedOf
-  host-other h = rw (← ex, ne-eqb x q h) (gives-says (asks t) no c b)
+  host-other h = rw (← ex, ne-eqb x q h) (gives-says (tableIn t) no c b)
 
   module _ (h : x ≡ q) where
-    pub host-nameless : length d ≡ 2 → SaysStep (run (asks t) (askHosts client n c (ofPreference q (d ∷ [])))) (record { matched = Matched.No; counts = c }) b b
+    pub host-nameless : length d ≡ 2 → SaysStep (run (tableIn t) (askHosts client n c (ofPreference q (d ∷ [])))) (record { matched = Matched.No; counts = c }) b b
     unfolding ofPreference askHosts matchedOf
-    host-nameless k = rw (← ex, eq-eqb x q h, eq-eqb (length d) 2 k) (gives-says (asks t) no c b)
+    host-nameless k = rw (← ex, eq-eqb x q h, eq-eqb (length d) 2 k) (gives-says (tableIn t) no c b)
 
     module _ (k : length d ≡ 2 → ⊥) (kind : ℕ) (ek : kind ≡ addressKind client) (m : List ℕ) (em : m ≡ drop 2 d) (f : Found) (p : f ≡ findAt t kind m) where
-      host-asks : (r : Stepped) (a : List ℕ) → SaysStep (run (asks t) (ask kind m c (hostReply client n c (step no c)))) r b a
-          → SaysStep (run (asks t) (askHosts client n c (ofPreference q (d ∷ [])))) r b a
+      host-asks : (r : Stepped) (a : List ℕ) → SaysStep (run (tableIn t) (ask kind m c (hostReply client n c (step no c)))) r b a
+          → SaysStep (run (tableIn t) (askHosts client n c (ofPreference q (d ∷ [])))) r b a
       unfolding ofPreference askHosts
       host-asks r a w = rw (← ex, eq-eqb x q h, ne-eqb (length d) 2 k, ← ek, ← em) w
 
       pub host-missing : f ≡ Found.Missing → (r : Stepped) (a : List ℕ) → SaysStep (wanting kind m c) r b a
-          → SaysStep (run (asks t) (askHosts client n c (ofPreference q (d ∷ [])))) r b a
+          → SaysStep (run (tableIn t) (askHosts client n c (ofPreference q (d ∷ [])))) r b a
       host-missing e r a w = host-asks r a (asked-missing t kind m f p c (hostReply client n c (step no c)) r b a e w)
 
       module _ (status start end : ℕ) (e : f ≡ Found.Entry status start end) where
         pub host-failed : status ≡ 2
-            → SaysStep (run (asks t) (askHosts client n c (ofPreference q (d ∷ [])))) (record { matched = Matched.Stop (Ending.Result 5); counts = c }) b b
+            → SaysStep (run (tableIn t) (askHosts client n c (ofPreference q (d ∷ [])))) (record { matched = Matched.Stop (Ending.Result 5); counts = c }) b b
         unfolding hostReply matchedOf
         host-failed o =
             host-asks _ b
-            (asked-failed t kind m f p c (hostReply client n c (step no c)) _ b b status start end e o (gives-says (asks t) (stop 5) c b))
+            (asked-failed t kind m f p c (hostReply client n c (step no c)) _ b b status start end e o (gives-says (tableIn t) (stop 5) c b))
 
         pub host-addresses : (status ≡ 2 → ⊥) → (s : List ℕ) → s ≡ part t start end → (r : Stepped) → r ≡ matchAnswer (anyMatches client n (itemsOf s)) c
-            → SaysStep (run (asks t) (askHosts client n c (ofPreference q (d ∷ [])))) r b b
+            → SaysStep (run (tableIn t) (askHosts client n c (ofPreference q (d ∷ [])))) r b b
         unfolding hostReply
         host-addresses o s at r j =
             host-asks r b
             (asked-items t kind m f p c (hostReply client n c (step no c)) r b b status start end e o s at
-            (rw j (match-says (asks t) (anyMatches client n (itemsOf s)) c b)))
+            (rw j (match-says (tableIn t) (anyMatches client n (itemsOf s)) c b)))
 
 -- `ask_name`
 module _ (client : Address) (t d m : List ℕ) (c : Counts) (b : List ℕ) (kind : ℕ) (ek : kind ≡ addressKind client) (f : Found) (p : f ≡ findAt t kind d) where
   pub name-missing : f ≡ Found.Missing → (r : Stepped) (a : List ℕ) → SaysStep (wanting kind d c) r b a
-      → SaysStep (run (asks t) (askNames client m c (d ∷ []))) r b a
+      → SaysStep (run (tableIn t) (askNames client m c (d ∷ []))) r b a
   unfolding askNames
   name-missing e r a w = rw (← ek) (asked-missing t kind d f p c (nameReply client m c d (step no c)) r b a e w)
 
   module _ (status start end : ℕ) (e : f ≡ Found.Entry status start end) (s : List ℕ) (at : s ≡ part t start end) (u : Bool) (eu : u ≡ includesClient client (replyBy status (itemsOf s))) where
-    name-asks : (r : Stepped) (a : List ℕ) → SaysStep (run (asks t) (matched (u && atOrBelow d m) c)) r b a
-        → SaysStep (run (asks t) (askNames client m c (d ∷ []))) r b a
+    name-asks : (r : Stepped) (a : List ℕ) → SaysStep (run (tableIn t) (matched (u && atOrBelow d m) c)) r b a
+        → SaysStep (run (tableIn t) (askNames client m c (d ∷ []))) r b a
     unfolding askNames nameReply
     name-asks r a w = rw (← ek, run-entry t kind d f p c (nameReply client m c d (step no c)) status start end e, ← at, ← eu) w
 
-    pub name-invalid : u ≡ false → SaysStep (run (asks t) (askNames client m c (d ∷ []))) (record { matched = Matched.No; counts = c }) b b
+    pub name-invalid : u ≡ false → SaysStep (run (tableIn t) (askNames client m c (d ∷ []))) (record { matched = Matched.No; counts = c }) b b
     unfolding matchedOf
-    name-invalid h = name-asks _ b (rw h (gives-says (asks t) no c b))
+    name-invalid h = name-asks _ b (rw h (gives-says (tableIn t) no c b))
 
     module _ (h : u ≡ true) (v : Bool) (ev : v ≡ atOrBelow d m) where
-      pub name-matches : v ≡ true → SaysStep (run (asks t) (askNames client m c (d ∷ []))) (record { matched = Matched.Yes; counts = c }) b b
+      pub name-matches : v ≡ true → SaysStep (run (tableIn t) (askNames client m c (d ∷ []))) (record { matched = Matched.Yes; counts = c }) b b
       unfolding matchedOf
-      name-matches k = name-asks _ b (rw (h, ← ev, k) (gives-says (asks t) yes c b))
+      name-matches k = name-asks _ b (rw (h, ← ev, k) (gives-says (tableIn t) yes c b))
 
-      pub name-elsewhere : v ≡ false → SaysStep (run (asks t) (askNames client m c (d ∷ []))) (record { matched = Matched.No; counts = c }) b b
+      pub name-elsewhere : v ≡ false → SaysStep (run (tableIn t) (askNames client m c (d ∷ []))) (record { matched = Matched.No; counts = c }) b b
       unfolding matchedOf
-      name-elsewhere k = name-asks _ b (rw (h, ← ev, k) (gives-says (asks t) no c b))
+      name-elsewhere k = name-asks _ b (rw (h, ← ev, k) (gives-says (tableIn t) no c b))
 
 -- `ask_pointers`
 module _ (client : Address) (t d m : List ℕ) (c : Counts) (b : List ℕ) (f : Found) (p : f ≡ findAt t 12 d) where
   module _ (status start end : ℕ) (e : f ≡ Found.Entry status start end) where
-    pub ptr-failed : status ≡ 2 → SaysStep (run (asks t) (ask 12 d c (ptrReply client m c))) (record { matched = Matched.No; counts = c }) b b
+    pub ptr-failed : status ≡ 2 → SaysStep (run (tableIn t) (ask 12 d c (ptrReply client m c))) (record { matched = Matched.No; counts = c }) b b
     unfolding ptrReply matchedOf
-    ptr-failed h = asked-failed t 12 d f p c (ptrReply client m c) _ b b status start end e h (gives-says (asks t) no c b)
+    ptr-failed h = asked-failed t 12 d f p c (ptrReply client m c) _ b b status start end e h (gives-says (tableIn t) no c b)
 
     module _ (h : status ≡ 2 → ⊥) (s : List ℕ) (at : s ≡ part t start end) where
-      pub ptr-void : length s ≡ 0 → (r : Stepped) → r ≡ voidAnswer c → SaysStep (run (asks t) (ask 12 d c (ptrReply client m c))) r b b
+      pub ptr-void : length s ≡ 0 → (r : Stepped) → r ≡ voidAnswer c → SaysStep (run (tableIn t) (ask 12 d c (ptrReply client m c))) r b b
       unfolding ptrReply
       ptr-void k r j = asked-void t 12 d f p c (ptrReply client m c) r b b status start end e h s at (askNames client m c (take most-names (itemsOf s))) refl k j refl
 
-      pub ptr-names : (length s ≡ 0 → ⊥) → (r : Stepped) (a : List ℕ) → SaysStep (run (asks t) (askNames client m c (take most-names (itemsOf s)))) r b a
-          → SaysStep (run (asks t) (ask 12 d c (ptrReply client m c))) r b a
+      pub ptr-names : (length s ≡ 0 → ⊥) → (r : Stepped) (a : List ℕ) → SaysStep (run (tableIn t) (askNames client m c (take most-names (itemsOf s)))) r b a
+          → SaysStep (run (tableIn t) (ask 12 d c (ptrReply client m c))) r b a
       unfolding ptrReply
       ptr-names k r a w =
           asked-some t 12 d f p c (ptrReply client m c) r b a status start end e h s at (askNames client m c (take most-names (itemsOf s))) refl k w
@@ -261,7 +261,7 @@ pub reversed-fits : (client : Address) (z : List ℕ) → length z ≡ 72 → le
 reversed-fits client z e = let h = length-reversed client in omega arith
 
 pub ptr-says : (client : Address) (z v : List ℕ) (n : ℕ) → Wrote (reversedName client) z 0 v n → length z ≡ 72
-    → (t m : List ℕ) (c : Counts) (r : Stepped) (b a : List ℕ) → SaysStep (run (asks t) (ask 12 (take n v) c (ptrReply client m c))) r b a
-    → SaysStep (run (asks t) (askPtr client c m)) r b a
+    → (t m : List ℕ) (c : Counts) (r : Stepped) (b a : List ℕ) → SaysStep (run (tableIn t) (ask 12 (take n v) c (ptrReply client m c))) r b a
+    → SaysStep (run (tableIn t) (askPtr client c m)) r b a
 unfolding askPtr
 ptr-says client z v n w size t m c r b a o = rw (← value-taken (reversedName client) z v n w (reversed-fits client z size)) o

@@ -19,11 +19,11 @@ use Rattle.table.proofs.Laws.Places.{found-name}
 use Rattle.answers.proofs.Laws.Asked.{asks-missing, asks-entry, run-missing, run-failed, run-items, run-peek}
 use Rattle.records.specs.Readings.{present}
 use Rattle.meaning.specs.declared.Counts.{Counts}
-use Rattle.meaning.specs.declared.Lookup.{Lookup}
+use Rattle.meaning.specs.declared.Selected.{Selected}
 use Rattle.meaning.specs.Tree.{failed, items, settled, wanting, run}
-use Rattle.meaning.specs.Tables.{replyBy, asks}
+use Rattle.meaning.specs.Tables.{replyBy, tableIn}
 use Rattle.meaning.specs.Evaluation.{ends, one, versioned, selection, textReply, textLookup, spfItems, spfReply, recordLookup}
-use Rattle.meaning.specs.Outcomes.{wantedBuffer, LookupIs, SaysLookup}
+use Rattle.meaning.specs.Outcomes.{wantedBuffer, SelectedIs, SaysSelection}
 use Rattle.selection.specs.Picking.{hasTexts, textsAt, PickedIs}
 use Rattle.selection.specs.declared.Picked.{Picked}
 
@@ -54,18 +54,18 @@ module _ (t d : List ℕ) (f : Found) (p : f ≡ findAt t 99 d) (b : Bool) (h : 
 
 -- record lookup, by the SPF entry
 module _ (t d : List ℕ) (c : Counts) where
-  lookup-is : run (asks t) (recordLookup d c) ≡ run (asks t) (spfReply d c (asks t 99 d))
+  lookup-is : run (tableIn t) (recordLookup d c) ≡ run (tableIn t) (spfReply d c (tableIn t 99 d))
   unfolding recordLookup
   lookup-is = run-peek t d (spfReply d c)
 
   -- an entry without texts is as none
-  spf-passed : (f : Found) → f ≡ findAt t 99 d → hasTexts f ≡ false → run (asks t) (recordLookup d c) ≡ run (asks t) (textLookup d c)
+  spf-passed : (f : Found) → f ≡ findAt t 99 d → hasTexts f ≡ false → run (tableIn t) (recordLookup d c) ≡ run (tableIn t) (textLookup d c)
   unfolding spfReply spfItems hasTexts replyBy
   spf-passed Found.Missing p h = lookup-is ∙ rw (asks-missing t 99 d Found.Missing p refl)
   spf-passed (Found.Entry status start end) p h = lookup-is ∙ rw (asks-entry t 99 d _ p status start end refl) (by (eqb status 2) h)
     where
       by : (b : Bool) → cond b false (ltb start end) ≡ false
-          → run (asks t) (spfReply d c (present (cond b failed (items (itemsOf (part t start end)))))) ≡ run (asks t) (textLookup d c)
+          → run (tableIn t) (spfReply d c (present (cond b failed (items (itemsOf (part t start end)))))) ≡ run (tableIn t) (textLookup d c)
       by true k = refl
       by false k =
           let n : end ≤ start = ltb-false start end k in
@@ -74,12 +74,12 @@ module _ (t d : List ℕ) (c : Counts) where
 
   -- an entry with texts is taken
   spf-taken : (status start end : ℕ) → findAt t 99 d ≡ Found.Entry status start end → hasTexts (Found.Entry status start end) ≡ true
-      → (status ≡ 2 → ⊥) × (run (asks t) (recordLookup d c) ≡ settled (selection (versioned (itemsOf (part t start end)))))
+      → (status ≡ 2 → ⊥) × (run (tableIn t) (recordLookup d c) ≡ settled (selection (versioned (itemsOf (part t start end)))))
   unfolding spfReply spfItems hasTexts replyBy run
   spf-taken status start end p h = by (eqb status 2) refl h
     where
       by : (b : Bool) → eqb status 2 ≡ b → cond b false (ltb start end) ≡ true
-          → (status ≡ 2 → ⊥) × (run (asks t) (recordLookup d c) ≡ settled (selection (versioned (itemsOf (part t start end)))))
+          → (status ≡ 2 → ⊥) × (run (tableIn t) (recordLookup d c) ≡ settled (selection (versioned (itemsOf (part t start end)))))
       by true e k = absurd (true-false false k refl)
       by false e k =
           let w = found-within t 99 d status start end p in
@@ -91,11 +91,11 @@ module _ (t d : List ℕ) (c : Counts) where
 -- what a table settles of record lookup, by the entry that was found, and the domain's name before its items
 abbrev Settles : (t d : List ℕ) → Counts → Found → Type 0
 Settles t d c (Found.Entry status start end) =
-    (status ≡ 2 → run (asks t) (recordLookup d c) ≡ settled (ends 5))
-    × ((status ≡ 2 → ⊥) → run (asks t) (recordLookup d c) ≡ settled (selection (versioned (itemsOf (part t start end)))))
+    (status ≡ 2 → run (tableIn t) (recordLookup d c) ≡ settled (ends 5))
+    × ((status ≡ 2 → ⊥) → run (tableIn t) (recordLookup d c) ≡ settled (selection (versioned (itemsOf (part t start end)))))
     × (length d ≤ start)
     × (part t (start - length d) start ≡ d)
-Settles t d c Found.Missing = run (asks t) (recordLookup d c) ≡ wanting 16 d c
+Settles t d c Found.Missing = run (tableIn t) (recordLookup d c) ≡ wanting 16 d c
 
 module _ (t d : List ℕ) (c : Counts) where
   settles-spf : (f : Found) → findAt t 99 d ≡ f → hasTexts f ≡ true → Settles t d c f
@@ -106,7 +106,7 @@ module _ (t d : List ℕ) (c : Counts) where
       let n = found-name t 99 d status start end p in
       (λ e. absurd (s .0 e), λ _. s .1, n .0, n .1)
 
-  settles-txt : (f : Found) → findAt t 16 d ≡ f → run (asks t) (recordLookup d c) ≡ run (asks t) (textLookup d c) → Settles t d c f
+  settles-txt : (f : Found) → findAt t 16 d ≡ f → run (tableIn t) (recordLookup d c) ≡ run (tableIn t) (textLookup d c) → Settles t d c f
   unfolding textLookup textReply run
   settles-txt Found.Missing p x = x ∙ run-missing t 16 d Found.Missing (sym p) c textReply refl
   settles-txt (Found.Entry status start end) p x =
@@ -149,10 +149,10 @@ selected-one t (s ∷ u ∷ ss) r h from to e = let z : _≡_ {A = ℕ} 0 1 = cc
 -- `select_record`
 module _ (t d : List ℕ) (c : Counts) (b : List ℕ) (f : Found) (p : f ≡ textsAt t d) where
   pub select-missing : f ≡ Found.Missing → (a : List ℕ) → a ≡ overwritten d b
-      → SaysLookup c d t (run (asks t) (recordLookup d c)) (Lookup.Wanting 16 (length d)) b a
-  unfolding LookupIs wantedBuffer
+      → SaysSelection c d t (run (tableIn t) (recordLookup d c)) (Selected.Wanting 16 (length d)) b a
+  unfolding SelectedIs wantedBuffer
   select-missing e a w =
-      let s : run (asks t) (recordLookup d c) ≡ wanting 16 d c = subst (Settles t d c) (sym p ∙ e) (settles t d c) in
+      let s : run (tableIn t) (recordLookup d c) ≡ wanting 16 d c = subst (Settles t d c) (sym p ∙ e) (settles t d c) in
       rw s (record { lookup = (refl, refl); buffer = w })
 
   module _ (status start end : ℕ) (e : f ≡ Found.Entry status start end) where
@@ -162,23 +162,23 @@ module _ (t d : List ℕ) (c : Counts) (b : List ℕ) (f : Found) (p : f ≡ tex
     pub name-before : length d ≤ start
     name-before = found .2
 
-    pub select-failed : status ≡ 2 → SaysLookup c d t (run (asks t) (recordLookup d c)) (Lookup.Ends 5) b b
-    unfolding LookupIs wantedBuffer
+    pub select-failed : status ≡ 2 → SaysSelection c d t (run (tableIn t) (recordLookup d c)) (Selected.Ends 5) b b
+    unfolding SelectedIs wantedBuffer
     select-failed h = rw (found .0 h) (record { lookup = refl; buffer = refl })
 
     module _ (h : status ≡ 2 → ⊥) (r : Picked) (q : PickedIs t (versioned (itemsOf (part t start end))) r) where
-      pub select-none : r ≡ Picked.Nothing → SaysLookup c d t (run (asks t) (recordLookup d c)) (Lookup.Ends 0) b b
-      unfolding LookupIs wantedBuffer
+      pub select-none : r ≡ Picked.Nothing → SaysSelection c d t (run (tableIn t) (recordLookup d c)) (Selected.Ends 0) b b
+      unfolding SelectedIs wantedBuffer
       select-none k = rw (found .1 h, selected-none t _ r q k) (record { lookup = refl; buffer = refl })
 
-      pub select-several : r ≡ Picked.Several → SaysLookup c d t (run (asks t) (recordLookup d c)) (Lookup.Ends 6) b b
-      unfolding LookupIs wantedBuffer
+      pub select-several : r ≡ Picked.Several → SaysSelection c d t (run (tableIn t) (recordLookup d c)) (Selected.Ends 6) b b
+      unfolding SelectedIs wantedBuffer
       select-several k = rw (found .1 h, selected-several t _ r q k) (record { lookup = refl; buffer = refl })
 
       pub select-one : (from to : ℕ) → r ≡ Picked.One from to
-          → SaysLookup c d t (run (asks t) (recordLookup d c))
-          (Lookup.One (record { from = start - length d; to = start }) (record { from = from; to = to })) b b
-      unfolding LookupIs wantedBuffer
+          → SaysSelection c d t (run (tableIn t) (recordLookup d c))
+          (Selected.One (record { from = start - length d; to = start }) (record { from = from; to = to })) b b
+      unfolding SelectedIs wantedBuffer
       select-one from to k =
           rw (found .1 h, selected-one t _ r q from to k)
           (record { lookup = (record { from = start - length d; to = start }, record { from = from; to = to }, refl, found .3, refl); buffer = refl })

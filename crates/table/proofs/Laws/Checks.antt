@@ -15,7 +15,7 @@ use borrow.Author.Tests.{ltb-true, ltb-false, eqb-true, eqb-false, lt-ltb, le-lt
 use Rattle.text.proofs.Laws.Tests.{cond-elim}
 use Rattle.table.specs.Layout.{Entry, Encodes, Entries, none, more, holds, distinct}
 use Rattle.table.specs.Numbers.{Report, accepted, refused, byte, reported}
-use Rattle.table.specs.Checked.{most-bytes, most-entries, Encoded, Ill, Checked, too-long, malformed, repeated, whole}
+use Rattle.table.specs.Answers.{most-bytes, most-entries, Encoded, Ill, TableAnswers, too-long, malformed, repeated, whole}
 use Rattle.table.specs.Reader.{headerOf, isWell, nameOf, entryOf, findAt, isFound, stepAfter, stepAt, checkAfter, checkFrom, checkTable}
 use Rattle.table.specs.declared.entries.Header.{Header}
 use Rattle.table.specs.declared.entries.Header.the-variants.{Whole, Broken}
@@ -99,15 +99,15 @@ encoded-next t i size {es} s p l = record {
 -- sound: after entries that are well-formed, few and of different pairs
 module _ (t : List ℕ) (short : length t ≤ 65535) where
   sound-from : (f i count : ℕ) (es : List Entry) → i ≤ length t → length t < f + i → Encoded (take i t) es → length es ≡ count
-      → Checked t (reported (checkFrom f t i count))
+      → TableAnswers t (reported (checkFrom f t i count))
   unfolding checkFrom checkAfter
   sound-from zero i count es h l p n = absurd (omega arith)
   sound-from (suc f) i count es h l p n =
-      cond-elim (λ (a : TableAnswer). Checked t (reported a)) (ltb i (length t))
-      (λ a. cond-elim (λ (a : TableAnswer). Checked t (reported a)) (eqb count 512)
+      cond-elim (λ (a : TableAnswer). TableAnswers t (reported a)) (ltb i (length t))
+      (λ a. cond-elim (λ (a : TableAnswer). TableAnswers t (reported a)) (eqb count 512)
       (λ b. at-place (malformed (take i t) (drop i t) short cut p (rest a) (inl (n ∙ eqb-true count 512 b))))
       (λ b. by (sound-from f) a (eqb-false count 512 b) (stepAt t i) refl))
-      (λ a. subst (λ (k : ℕ). Checked t (accepted k)) n (whole short (subst (λ (u : List ℕ). Encoded u es) (take-all i t (ltb-false i (length t) a)) p)))
+      (λ a. subst (λ (k : ℕ). TableAnswers t (accepted k)) n (whole short (subst (λ (u : List ℕ). Encoded u es) (take-all i t (ltb-false i (length t) a)) p)))
     where
       cut : t ≡ take i t ++ drop i t
       cut = sym (take-append-drop i t)
@@ -115,14 +115,14 @@ module _ (t : List ℕ) (short : length t ≤ 65535) where
       place : length (take i t) ≡ i
       place = length-take-le i t h
 
-      at-place : Checked t (refused 25 (byte (length (take i t)))) → Checked t (refused 25 (byte i))
-      at-place = subst (λ (k : ℕ). Checked t (refused 25 (byte k))) place
+      at-place : TableAnswers t (refused 25 (byte (length (take i t)))) → TableAnswers t (refused 25 (byte i))
+      at-place = subst (λ (k : ℕ). TableAnswers t (refused 25 (byte k))) place
 
       rest : ltb i (length t) ≡ true → 0 < length (drop i t)
       rest a = let b = ltb-true i (length t) a in omega (arith, length-drop i t)
 
-      by : ((j m : ℕ) (fs : List Entry) → j ≤ length t → length t < f + j → Encoded (take j t) fs → length fs ≡ m → Checked t (reported (checkFrom f t j m)))
-          → ltb i (length t) ≡ true → (count ≡ 512 → ⊥) → (s : Step) → stepAt t i ≡ s → Checked t (reported (checkAfter i count s (checkFrom f t)))
+      by : ((j m : ℕ) (fs : List Entry) → j ≤ length t → length t < f + j → Encoded (take j t) fs → length fs ≡ m → TableAnswers t (reported (checkFrom f t j m)))
+          → ltb i (length t) ≡ true → (count ≡ 512 → ⊥) → (s : Step) → stepAt t i ≡ s → TableAnswers t (reported (checkAfter i count s (checkFrom f t)))
       by ih a b (Step.Next next) q =
           let r : StepRight t i (Step.Next next) = subst (StepRight t i) q (step-right t i) in
           let k = p .few in
@@ -136,15 +136,15 @@ module _ (t : List ℕ) (short : length t ≤ 65535) where
       by ih a b Step.Repeated q =
           let r : StepRight t i Step.Repeated = subst (StepRight t i) q (step-right t i) in
           let k = p .few in
-          subst (λ (k : ℕ). Checked t (refused 26 (byte k))) place
+          subst (λ (k : ℕ). TableAnswers t (refused 26 (byte k))) place
           (repeated (take i t) (take (r .0) (drop i t)) (drop (r .0) (drop i t)) short
           (cut ∙ ap (λ (u : List ℕ). take i t ++ u) (sym (take-append-drop (r .0) (drop i t)))) p (omega arith) (r .1 .encodes)
           (sym (found-iff (p .entries) (r .1 .it .kind) (r .1 .it .name)) ∙ r .1 .before))
 
-pub checked : (t : List ℕ) → Checked t (reported (checkTable t))
+pub checked : (t : List ℕ) → TableAnswers t (reported (checkTable t))
 unfolding checkTable distinct
 checked t =
-    cond-elim (λ (a : TableAnswer). Checked t (reported a)) (ltb 65535 (length t)) (λ a. too-long (ltb-true 65535 (length t) a))
+    cond-elim (λ (a : TableAnswer). TableAnswers t (reported a)) (ltb 65535 (length t)) (λ a. too-long (ltb-true 65535 (length t) a))
     (λ a. sound-from t (ltb-false 65535 (length t) a) (suc (length t)) 0 0 [] (omega arith) (omega arith) (record { entries = none; few = omega arith; once = refl }) refl)
 
 -- a well-formed entry is read where it stands
@@ -214,7 +214,7 @@ ill-step t i ill = by (stepAt t i) (step-right t i)
     by Step.Malformed r = refl
     by Step.Repeated r = absurd (never (r .0) true (r .1))
 
-pub checked-is : {t : List ℕ} {a : Report} → Checked t a → a ≡ reported (checkTable t)
+pub checked-is : {t : List ℕ} {a : Report} → TableAnswers t a → a ≡ reported (checkTable t)
 unfolding checkTable
 checked-is {t} (too-long h) = simp (lt-ltb 65535 (length t) h)
 checked-is {t} (malformed front rest {es = es} short q p some o) =
@@ -242,7 +242,7 @@ checked-is {t} (whole {es = es} short p) =
     ap reported (sym (c .1 ∙ check-end (suc (c .0)) t (length t) (length es) (omega arith)))
 
 -- the productions give one answer
-pub checked-one : {t : List ℕ} {a b : Report} → Checked t a → Checked t b → a ≡ b
+pub checked-one : {t : List ℕ} {a b : Report} → TableAnswers t a → TableAnswers t b → a ≡ b
 checked-one p q = checked-is p ∙ sym (checked-is q)
 
 -- accepted: at most 65,535 bytes that encode at most 512 well-formed entries without a repeated pair
@@ -250,7 +250,7 @@ abbrev Holding : List ℕ → Report → Type 0
 Holding t (accepted n) = (length t ≤ most-bytes) × ((es : List Entry) × (Encoded t es × (length es ≡ n)))
 Holding t (refused n place) = Unit {0}
 
-holding : {t : List ℕ} {a : Report} → Checked t a → Holding t a
+holding : {t : List ℕ} {a : Report} → TableAnswers t a → Holding t a
 holding (too-long h) = tt
 holding (malformed front rest short q p some o) = tt
 holding (repeated front w rest short q p few x h) = tt

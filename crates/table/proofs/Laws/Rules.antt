@@ -13,7 +13,7 @@ use borrow.Author.Tests.{le-leb, lt-leb, le-ltb, lt-ltb}
 use Rattle.text.specs.Lists.{same}
 use Rattle.text.proofs.Laws.Spans.{rest-part}
 use Rattle.table.specs.Numbers.{reported}
-use Rattle.table.specs.Checked.{Checked}
+use Rattle.table.specs.Answers.{TableAnswers}
 use Rattle.table.specs.Lookup.{lookup, Finds}
 use Rattle.table.specs.Reader.{headerOf, isWell, nameOf, entriesOf, findAfter, findFrom, findAt, isFound, foundItems, stepAfter, stepAt, checkFrom, checkTable}
 use Rattle.table.specs.declared.entries.Header.{Header}
@@ -162,7 +162,7 @@ module _ (t : List ℕ) (i : ℕ) (h : Header) (p : h ≡ headerOf (take (length
         step-fresh r = rw r at found-at
 
 -- `check_table`: what it answers is what the productions say
-pub check-right : (t : List ℕ) (r : TableAnswer) → r ≡ checkTable t → Checked t (reported r)
+pub check-right : (t : List ℕ) (r : TableAnswer) → r ≡ checkTable t → TableAnswers t (reported r)
 check-right t r e = rw e (checked t)
 
 pub check-long : (t : List ℕ) → 65535 < length t → TooLong ≡ checkTable t

@@ -20,7 +20,7 @@ use Rattle.records.specs.Readings.{Optional, absent, present}
 use Rattle.meaning.specs.declared.Counts.{Counts}
 use Rattle.meaning.specs.declared.PValue.{PValue}
 use Rattle.meaning.specs.Tree.{Reply, failed, items, Table, ask, Settled, settled, wanting, answered, bind, then, run}
-use Rattle.meaning.specs.Tables.{replyBy, asks}
+use Rattle.meaning.specs.Tables.{replyBy, tableIn}
 use Rattle.meaning.specs.Mechanisms.{addressKind, includesClient, withValid, validated, namesOf, chosen, holdsName, firstBelow, firstOr, givesChosen, pReply, pValue}
 use Rattle.meaning.specs.Outcomes.{wantedBuffer, PIs, SaysP}
 use Rattle.meaning.specs.Runs.{bind-is}
@@ -45,22 +45,22 @@ module _ (client : Address) (c : Counts) (t n : List ℕ) (kind : ℕ) (k : kind
   unfolding valid
   valid-is = rw k
 
-  pub valid-missing : f ≡ Found.Missing → (b a : List ℕ) → a ≡ overwritten n b → SaysValid c (run (asks t) (valid client c n)) (Wanting kind (length n)) b a
+  pub valid-missing : f ≡ Found.Missing → (b a : List ℕ) → a ≡ overwritten n b → SaysValid c (run (tableIn t) (valid client c n)) (Wanting kind (length n)) b a
   unfolding SaysValid
   valid-missing e b a w = record { asked = n; is = rw valid-is (run-missing t kind n f p c (givesValid client) e); size-is = refl; buffer = w }
 
   module _ (status start end : ℕ) (e : f ≡ Found.Entry status start end) (u : List ℕ) (h : u ≡ part t start end) (r : Bool) (i : r ≡ includesClient client (replyBy status (itemsOf u))) where
-    valid-by : run (asks t) (valid client c n) ≡ settled r
+    valid-by : run (tableIn t) (valid client c n) ≡ settled r
     unfolding givesValid run
     valid-by =
         let y : includesClient client (replyBy status (itemsOf (part t start end))) ≡ r = rw (← h) (sym i) in
         rw valid-is (run-entry t kind n f p c (givesValid client) status start end e) ∙ ap settled y
 
-    pub valid-yes : r ≡ true → (b : List ℕ) → SaysValid c (run (asks t) (valid client c n)) Yes b b
+    pub valid-yes : r ≡ true → (b : List ℕ) → SaysValid c (run (tableIn t) (valid client c n)) Yes b b
     unfolding SaysValid
     valid-yes y b = record { is = valid-by ∙ ap settled y; kept = refl }
 
-    pub valid-no : r ≡ false → (b : List ℕ) → SaysValid c (run (asks t) (valid client c n)) No b b
+    pub valid-no : r ≡ false → (b : List ℕ) → SaysValid c (run (tableIn t) (valid client c n)) No b b
     unfolding SaysValid
     valid-no y b = record { is = valid-by ∙ ap settled y; kept = refl }
 
@@ -89,7 +89,7 @@ module _ (client : Address) (c : Counts) (t d s b : List ℕ) where
     pub kept : out ≡ b
     pub found : List (List ℕ)
     pub picks : Picks d t choice found
-    pub rest : run (asks t) (validated client c (take left (itemsOf (drop i s))) found) ≡ run (asks t) (validated client c (take 10 (itemsOf s)) [])
+    pub rest : run (tableIn t) (validated client c (take left (itemsOf (drop i s))) found) ≡ run (tableIn t) (validated client c (take 10 (itemsOf s)) [])
 
 pub chosen-start : (client : Address) (c : Counts) (t d s b : List ℕ) → Chosen client c t d s b b Nobody 0 10
 chosen-start client c t d s b = record { kept = refl; found = []; picks = picks-none d t; rest = refl }
@@ -98,19 +98,19 @@ module _ (client : Address) (c : Counts) (t d s b out : List ℕ) (choice : Choi
     (start end : ℕ) (e : s ≡ part t start end) where
   -- all names are asked
   settled-at : (ns : List (List ℕ)) → ns ≡ take left (itemsOf (drop i s)) → ns ≡ [] → (r : PValue) → r ≡ valueOf choice
-      → SaysP c d t (run (asks t) (pReply client d c (items (itemsOf (part t start end))))) r b out
+      → SaysP c d t (run (tableIn t) (pReply client d c (items (itemsOf (part t start end))))) r b out
   unfolding pReply namesOf givesChosen validated run wantedBuffer
   settled-at ns p q r v =
-      let z : run (asks t) (validated client c (take 10 (itemsOf s)) []) ≡ settled (w .found) = sym (w .rest) ∙ rw (← p, q) in
-      let y : run (asks t) (pReply client d c (items (itemsOf (part t start end)))) ≡ settled (chosen d (w .found)) =
-      rw (← e) (bind-is (asks t) (validated client c (take 10 (itemsOf s)) []) (givesChosen d) (w .found) z)
+      let z : run (tableIn t) (validated client c (take 10 (itemsOf s)) []) ≡ settled (w .found) = sym (w .rest) ∙ rw (← p, q) in
+      let y : run (tableIn t) (pReply client d c (items (itemsOf (part t start end)))) ≡ settled (chosen d (w .found)) =
+      rw (← e) (bind-is (tableIn t) (validated client c (take 10 (itemsOf s)) []) (givesChosen d) (w .found) z)
       in
       rw (y, v) (record { value = picks-value c d t choice (w .found) (w .picks); buffer = w .kept })
 
-  pub chosen-end : length s ≤ i → (r : PValue) → r ≡ valueOf choice → SaysP c d t (run (asks t) (pReply client d c (items (itemsOf (part t start end))))) r b out
+  pub chosen-end : length s ≤ i → (r : PValue) → r ≡ valueOf choice → SaysP c d t (run (tableIn t) (pReply client d c (items (itemsOf (part t start end))))) r b out
   chosen-end h r v = settled-at (take left (itemsOf (drop i s))) refl (rw (items-end s i h) (take-nil left)) r v
 
-  pub chosen-full : left ≤ 0 → (r : PValue) → r ≡ valueOf choice → SaysP c d t (run (asks t) (pReply client d c (items (itemsOf (part t start end))))) r b out
+  pub chosen-full : left ≤ 0 → (r : PValue) → r ≡ valueOf choice → SaysP c d t (run (tableIn t) (pReply client d c (items (itemsOf (part t start end))))) r b out
   chosen-full h r v = let z : left ≡ 0 = omega arith in settled-at (take left (itemsOf (drop i s))) refl (rw z) r v
 
   module _ (here : i < length s) (more : 0 < left) (next : ℕ) (m : next ≡ nextItem s i) (n : List ℕ) (is : n ≡ part t (start + i + 2) (start + next)) where
@@ -122,41 +122,41 @@ module _ (client : Address) (c : Counts) (t d s b out : List ℕ) (choice : Choi
         let z : left ≡ suc (left - 1) = omega arith in
         ap (λ (k : ℕ). take k (itemsOf (drop i s))) z ∙ rw (items-step s i here, name-is, m)
 
-    rest-is : run (asks t) (validated client c (n ∷ take (left - 1) (itemsOf (drop next s))) (w .found)) ≡ run (asks t) (validated client c (take 10 (itemsOf s)) [])
+    rest-is : run (tableIn t) (validated client c (n ∷ take (left - 1) (itemsOf (drop next s))) (w .found)) ≡ run (tableIn t) (validated client c (take 10 (itemsOf s)) [])
     rest-is = rw (← names-are) (w .rest)
 
-    module _ (v : Validity) (out′ : List ℕ) (says : SaysValid c (run (asks t) (valid client c n)) v out out′) where
+    module _ (v : Validity) (out′ : List ℕ) (says : SaysValid c (run (tableIn t) (valid client c n)) v out out′) where
       pub chosen-yes : v ≡ Yes → (x : Choice) → x ≡ withName choice d n (start + i + 2) (start + next) → Chosen client c t d s b out′ x next (left - 1)
       unfolding SaysValid
       chosen-yes y x q =
-          let g = subst (λ (a : Validity). SaysValid c (run (asks t) (valid client c n)) a out out′) y says in
+          let g = subst (λ (a : Validity). SaysValid c (run (tableIn t) (valid client c n)) a out out′) y says in
           record {
             kept = g .kept ∙ w .kept;
             found = w .found ++ (n ∷ []);
             picks = rw q (picks-more d t n (start + i + 2) (start + next) is choice (w .found) (w .picks));
-            rest = sym (validated-by (asks t) client c n (take (left - 1) (itemsOf (drop next s))) (w .found) true (g .is)) ∙ rest-is;
+            rest = sym (validated-by (tableIn t) client c n (take (left - 1) (itemsOf (drop next s))) (w .found) true (g .is)) ∙ rest-is;
           }
 
       pub chosen-no : v ≡ No → Chosen client c t d s b out′ choice next (left - 1)
       unfolding SaysValid
       chosen-no y =
-          let g = subst (λ (a : Validity). SaysValid c (run (asks t) (valid client c n)) a out out′) y says in
+          let g = subst (λ (a : Validity). SaysValid c (run (tableIn t) (valid client c n)) a out out′) y says in
           record {
             kept = g .kept ∙ w .kept;
             found = w .found;
             picks = w .picks;
-            rest = sym (validated-by (asks t) client c n (take (left - 1) (itemsOf (drop next s))) (w .found) false (g .is)) ∙ rest-is;
+            rest = sym (validated-by (tableIn t) client c n (take (left - 1) (itemsOf (drop next s))) (w .found) false (g .is)) ∙ rest-is;
           }
 
       pub chosen-wants : (kind size : ℕ) → v ≡ Wanting kind size
-          → SaysP c d t (run (asks t) (pReply client d c (items (itemsOf (part t start end))))) (PValue.Wanting kind size) b out′
+          → SaysP c d t (run (tableIn t) (pReply client d c (items (itemsOf (part t start end))))) (PValue.Wanting kind size) b out′
       unfolding SaysValid pReply namesOf
       chosen-wants kind size y =
-          let g = subst (λ (a : Validity). SaysValid c (run (asks t) (valid client c n)) a out out′) y says in
-          let z = validated-wants (asks t) client c n (take (left - 1) (itemsOf (drop next s))) (w .found) kind size out out′ g in
-          let q : Wants (run (asks t) (validated client c (take 10 (itemsOf s)) [])) kind size c b out′ = rw (← rest-is, ← w .kept) z in
-          p-wanted c d t (run (asks t) (pReply client d c (items (itemsOf (part t start end))))) kind size b out′
-          (rw (← e) (wants-bind (asks t) (validated client c (take 10 (itemsOf s)) []) (givesChosen d) kind size c b out′ q))
+          let g = subst (λ (a : Validity). SaysValid c (run (tableIn t) (valid client c n)) a out out′) y says in
+          let z = validated-wants (tableIn t) client c n (take (left - 1) (itemsOf (drop next s))) (w .found) kind size out out′ g in
+          let q : Wants (run (tableIn t) (validated client c (take 10 (itemsOf s)) [])) kind size c b out′ = rw (← rest-is, ← w .kept) z in
+          p-wanted c d t (run (tableIn t) (pReply client d c (items (itemsOf (part t start end))))) kind size b out′
+          (rw (← e) (wants-bind (tableIn t) (validated client c (take 10 (itemsOf s)) []) (givesChosen d) kind size c b out′ q))
 
 -- the places of an item in the table
 module _ (t s : List ℕ) (start end i : ℕ) (e : s ≡ part t start end) (here : i < length s) (small : length t * 1 < 2 ^ 63) where
@@ -175,22 +175,22 @@ module _ (t s : List ℕ) (start end i : ℕ) (e : s ≡ part t start end) (here
 -- `ask_names`
 module _ (client : Address) (c : Counts) (t d n : List ℕ) (f : Found) (p : f ≡ findAt t 12 n) where
   pub names-missing : f ≡ Found.Missing → (b a : List ℕ) → a ≡ overwritten n b
-      → SaysP c d t (run (asks t) (ask 12 n c (pReply client d c))) (PValue.Wanting 12 (length n)) b a
+      → SaysP c d t (run (tableIn t) (ask 12 n c (pReply client d c))) (PValue.Wanting 12 (length n)) b a
   names-missing e b a w =
-      p-wanted c d t (run (asks t) (ask 12 n c (pReply client d c))) 12 (length n) b a
+      p-wanted c d t (run (tableIn t) (ask 12 n c (pReply client d c))) 12 (length n) b a
       (record { asked = n; is = run-missing t 12 n f p c (pReply client d c) e; size-is = refl; buffer = w })
 
   module _ (status start end : ℕ) (e : f ≡ Found.Entry status start end) where
-    none-found : run (asks t) (pReply client d c failed) ≡ settled (bytes "unknown")
+    none-found : run (tableIn t) (pReply client d c failed) ≡ settled (bytes "unknown")
     unfolding pReply namesOf validated givesChosen chosen holdsName firstBelow firstOr run bind
     none-found = refl
 
-    pub names-failed : status ≡ 2 → (b : List ℕ) → SaysP c d t (run (asks t) (ask 12 n c (pReply client d c))) PValue.Unknown b b
+    pub names-failed : status ≡ 2 → (b : List ℕ) → SaysP c d t (run (tableIn t) (ask 12 n c (pReply client d c))) PValue.Unknown b b
     unfolding PIs wantedBuffer
     names-failed h b = rw (run-failed t 12 n f p c (pReply client d c) status start end e h, none-found) (record { value = refl; buffer = refl })
 
-    pub names-items : (status ≡ 2 → ⊥) → (r : PValue) (b a : List ℕ) → SaysP c d t (run (asks t) (pReply client d c (items (itemsOf (part t start end))))) r b a
-        → SaysP c d t (run (asks t) (ask 12 n c (pReply client d c))) r b a
+    pub names-items : (status ≡ 2 → ⊥) → (r : PValue) (b a : List ℕ) → SaysP c d t (run (tableIn t) (pReply client d c (items (itemsOf (part t start end))))) r b a
+        → SaysP c d t (run (tableIn t) (ask 12 n c (pReply client d c))) r b a
     names-items h r b a w = rw (run-items t 12 n f p c (pReply client d c) status start end e h) w
 
 -- `find_p`
@@ -198,7 +198,7 @@ pub reversed-fits : (a : Address) (z : List ℕ) → length z ≡ 72 → length 
 reversed-fits a z e = let h = length-reversed a in omega arith
 
 pub p-asked : (client : Address) (z v : List ℕ) (n : ℕ) → Wrote (reversedName client) z 0 v n → length z ≡ 72
-    → (c : Counts) (t d : List ℕ) (r : PValue) (b a : List ℕ) → SaysP c d t (run (asks t) (ask 12 (take n v) c (pReply client d c))) r b a
-    → SaysP c d t (run (asks t) (pValue client d c)) r b a
+    → (c : Counts) (t d : List ℕ) (r : PValue) (b a : List ℕ) → SaysP c d t (run (tableIn t) (ask 12 (take n v) c (pReply client d c))) r b a
+    → SaysP c d t (run (tableIn t) (pValue client d c)) r b a
 unfolding pValue
 p-asked client z v n w size c t d r b a says = rw (← value-taken (reversedName client) z v n w (reversed-fits client z size)) says

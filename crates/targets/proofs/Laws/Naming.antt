@@ -32,7 +32,7 @@ use Rattle.meaning.specs.declared.Counts.{Counts}
 use Rattle.meaning.specs.declared.PValue.{PValue}
 use Rattle.meaning.specs.declared.Target.{Target}
 use Rattle.meaning.specs.Tree.{bind, Settled, settled, run}
-use Rattle.meaning.specs.Tables.{asks}
+use Rattle.meaning.specs.Tables.{tableIn}
 use Rattle.meaning.specs.Mechanisms.{Mail, pValue, expansion, givesExpansion, expanded, givesName, target, targetOr}
 use Rattle.meaning.specs.Outcomes.{mailOf, wantedBuffer, TargetIs, SaysTarget, SaysP}
 use Rattle.meaning.specs.Runs.{bind-is}
@@ -138,74 +138,74 @@ target-wanted c x kind size to b a w = rw (w .is, w .size-is) (record { target =
 
 -- `write_target_with_p`
 module _ (mail : Mail) (c : Counts) (t d spec b a : List ℕ) where
-  with-value : (p : List ℕ) → Gives (run (asks t) (pValue (mail .client) d c)) p b a
-      → Gives (run (asks t) (targetWithP mail d spec c)) (questionName (expansion mail d DomainSpec spec p)) b a
+  with-value : (p : List ℕ) → Gives (run (tableIn t) (pValue (mail .client) d c)) p b a
+      → Gives (run (tableIn t) (targetWithP mail d spec c)) (questionName (expansion mail d DomainSpec spec p)) b a
   unfolding targetWithP givesExpansion givesName run
   with-value p g =
       let m = bind (pValue (mail .client) d c) (givesExpansion mail d DomainSpec spec) in
-      let y : run (asks t) m ≡ settled (expansion mail d DomainSpec spec p) = bind-is (asks t) (pValue (mail .client) d c) (givesExpansion mail d DomainSpec spec) p (g .is) in
-      record { is = bind-is (asks t) m givesName (expansion mail d DomainSpec spec p) y; kept = g .kept }
+      let y : run (tableIn t) m ≡ settled (expansion mail d DomainSpec spec p) = bind-is (tableIn t) (pValue (mail .client) d c) (givesExpansion mail d DomainSpec spec) p (g .is) in
+      record { is = bind-is (tableIn t) m givesName (expansion mail d DomainSpec spec p) y; kept = g .kept }
 
 module _ (client : Address) (sender helo receiver : List ℕ) (seconds : ℕ) (c : Counts) (t d spec b a : List ℕ) (v : PValue)
-    (says : SaysP c d t (run (asks t) (pValue client d c)) v b a) where
-  with-given : (p : List ℕ) → Gives (run (asks t) (pValue client d c)) p b a → (r : Target) (to : List ℕ)
+    (says : SaysP c d t (run (tableIn t) (pValue client d c)) v b a) where
+  with-given : (p : List ℕ) → Gives (run (tableIn t) (pValue client d c)) p b a → (r : Target) (to : List ℕ)
       → ((k : Counts) → TargetIs k (settled (questionName (expansion (mailOf client sender helo receiver seconds) d DomainSpec spec p))) r to)
-      → SaysTarget c (run (asks t) (targetWithP (mailOf client sender helo receiver seconds) d spec c)) r to b a
+      → SaysTarget c (run (tableIn t) (targetWithP (mailOf client sender helo receiver seconds) d spec c)) r to b a
   with-given p g r to w =
-      target-settled c (run (asks t) (targetWithP (mailOf client sender helo receiver seconds) d spec c)) _ r to b a
+      target-settled c (run (tableIn t) (targetWithP (mailOf client sender helo receiver seconds) d spec c)) _ r to b a
       (with-value (mailOf client sender helo receiver seconds) c t d spec b a p g) (w c)
 
   pub with-current : v ≡ PValue.Current → (r : Target) (to : List ℕ)
       → ((k : Counts) → TargetIs k (settled (questionName (expansion (mailOf client sender helo receiver seconds) d DomainSpec spec d))) r to)
-      → SaysTarget c (run (asks t) (targetWithP (mailOf client sender helo receiver seconds) d spec c)) r to b a
+      → SaysTarget c (run (tableIn t) (targetWithP (mailOf client sender helo receiver seconds) d spec c)) r to b a
   with-current e r to w = with-given d (p-current c d t _ v b a says e) r to w
 
   pub with-listed : (from end : ℕ) → v ≡ PValue.Listed from end → (p : List ℕ) → p ≡ part t from end → (r : Target) (to : List ℕ)
       → ((k : Counts) → TargetIs k (settled (questionName (expansion (mailOf client sender helo receiver seconds) d DomainSpec spec p))) r to)
-      → SaysTarget c (run (asks t) (targetWithP (mailOf client sender helo receiver seconds) d spec c)) r to b a
+      → SaysTarget c (run (tableIn t) (targetWithP (mailOf client sender helo receiver seconds) d spec c)) r to b a
   with-listed from end e p h r to w =
-      with-given p (subst (λ (s : List ℕ). Gives (run (asks t) (pValue client d c)) s b a) (sym h) (p-listed c d t _ v b a says from end e)) r to w
+      with-given p (subst (λ (s : List ℕ). Gives (run (tableIn t) (pValue client d c)) s b a) (sym h) (p-listed c d t _ v b a says from end e)) r to w
 
   pub with-unknown : v ≡ PValue.Unknown → (r : Target) (to : List ℕ)
       → ((k : Counts) → TargetIs k (settled (questionName (expansion (mailOf client sender helo receiver seconds) d DomainSpec spec (bytes "unknown")))) r to)
-      → SaysTarget c (run (asks t) (targetWithP (mailOf client sender helo receiver seconds) d spec c)) r to b a
+      → SaysTarget c (run (tableIn t) (targetWithP (mailOf client sender helo receiver seconds) d spec c)) r to b a
   with-unknown e r to w = with-given (bytes "unknown") (p-unknown c d t _ v b a says e) r to w
 
   pub with-wanting : (kind size : ℕ) → v ≡ PValue.Wanting kind size → (to : List ℕ)
-      → SaysTarget c (run (asks t) (targetWithP (mailOf client sender helo receiver seconds) d spec c)) (Target.Wanting kind size) to b a
+      → SaysTarget c (run (tableIn t) (targetWithP (mailOf client sender helo receiver seconds) d spec c)) (Target.Wanting kind size) to b a
   unfolding targetWithP
   with-wanting kind size e to =
       let mail = mailOf client sender helo receiver seconds in
       let m = bind (pValue client d c) (givesExpansion mail d DomainSpec spec) in
       let w = p-wants c d t _ v b a says kind size e in
-      target-wanted c (run (asks t) (bind m givesName)) kind size to b a
-      (wants-bind (asks t) m givesName kind size c b a (wants-bind (asks t) (pValue client d c) (givesExpansion mail d DomainSpec spec) kind size c b a w))
+      target-wanted c (run (tableIn t) (bind m givesName)) kind size to b a
+      (wants-bind (tableIn t) m givesName kind size c b a (wants-bind (tableIn t) (pValue client d c) (givesExpansion mail d DomainSpec spec) kind size c b a w))
 
 -- `make_target`
 module _ (client : Address) (sender helo receiver : List ℕ) (seconds : ℕ) (c : Counts) (t d spec : List ℕ) (u : Bool) (e : u ≡ usesP DomainSpec spec) where
-  pub target-uses-p : u ≡ true → (r : Target) (to b a : List ℕ) → SaysTarget c (run (asks t) (targetWithP (mailOf client sender helo receiver seconds) d spec c)) r to b a
-      → SaysTarget c (run (asks t) (target (mailOf client sender helo receiver seconds) d spec c)) r to b a
+  pub target-uses-p : u ≡ true → (r : Target) (to b a : List ℕ) → SaysTarget c (run (tableIn t) (targetWithP (mailOf client sender helo receiver seconds) d spec c)) r to b a
+      → SaysTarget c (run (tableIn t) (target (mailOf client sender helo receiver seconds) d spec c)) r to b a
   unfolding targetWithP target expanded
   target-uses-p h r to b a w = rw (← e, h) w
 
   pub target-without-p : u ≡ false → (r : Target) (to b : List ℕ)
       → ((k : Counts) → TargetIs k (settled (questionName (expansion (mailOf client sender helo receiver seconds) d DomainSpec spec []))) r to)
-      → SaysTarget c (run (asks t) (target (mailOf client sender helo receiver seconds) d spec c)) r to b b
+      → SaysTarget c (run (tableIn t) (target (mailOf client sender helo receiver seconds) d spec c)) r to b b
   unfolding target expanded givesExpansion givesName run bind
   target-without-p h r to b w =
-      let x = run (asks t) (target (mailOf client sender helo receiver seconds) d spec c) in
+      let x = run (tableIn t) (target (mailOf client sender helo receiver seconds) d spec c) in
       let y : x ≡ settled (questionName (expansion (mailOf client sender helo receiver seconds) d DomainSpec spec [])) = rw (← e, h) in
       target-settled c x (questionName (expansion (mailOf client sender helo receiver seconds) d DomainSpec spec [])) r to b b (record { is = y; kept = refl }) (w c)
 
 -- `make_target_or`
 module _ (mail : Mail) (c : Counts) (t d spec : List ℕ) (is : Bool) where
-  pub target-given : is ≡ true → (r : Target) (to b a : List ℕ) → SaysTarget c (run (asks t) (target mail d spec c)) r to b a
-      → SaysTarget c (run (asks t) (targetOr mail d (cond is (present spec) absent) c)) r to b a
+  pub target-given : is ≡ true → (r : Target) (to b a : List ℕ) → SaysTarget c (run (tableIn t) (target mail d spec c)) r to b a
+      → SaysTarget c (run (tableIn t) (targetOr mail d (cond is (present spec) absent) c)) r to b a
   unfolding targetOr
   target-given h r to b a w = rw h w
 
   pub target-not-given : is ≡ false → length d ≤ 253 → (to to′ : List ℕ) (n : ℕ) → 253 ≤ length to → Wrote d to 0 to′ n → (b : List ℕ)
-      → SaysTarget c (run (asks t) (targetOr mail d (cond is (present spec) absent) c)) (Target.Name (length d)) to′ b b
+      → SaysTarget c (run (tableIn t) (targetOr mail d (cond is (present spec) absent) c)) (Target.Name (length d)) to′ b b
   unfolding targetOr run TargetIs wantedBuffer
   target-not-given h short to to′ n room w b =
       rw h (record { target = (refl, name-front d to to′ short room (wrote-over d to to′ n w), short); buffer = refl })

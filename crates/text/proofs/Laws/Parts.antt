@@ -67,7 +67,7 @@ module _ {A : Type 0} (p : A → Bool) where
   one-fails u b w h = test-fails (all p (u ++ (b ∷ w))) (λ e. true-false (p b) (all-between u b w e) h)
 
   -- the first element that fails
-  pub record Failing (l : List A) : Type 0 where
+  pub record FirstFailing (l : List A) : Type 0 where
     pub before : List A
     pub element : A
     pub after : List A
@@ -75,12 +75,12 @@ module _ {A : Type 0} (p : A → Bool) where
     pub holds : all p before ≡ true
     pub fails : p element ≡ false
 
-  pub first-failing : (l : List A) → all p l ≡ false → Failing l
+  pub first-failing : (l : List A) → all p l ≡ false → FirstFailing l
   unfolding all
   first-failing [] h = absurd (true-false true refl h)
   first-failing (x ∷ xs) h = by (p x) refl (first-failing xs) h
     where
-      by : (t : Bool) → p x ≡ t → (all p xs ≡ false → Failing xs) → (t && all p xs) ≡ false → Failing (x ∷ xs)
+      by : (t : Bool) → p x ≡ t → (all p xs ≡ false → FirstFailing xs) → (t && all p xs) ≡ false → FirstFailing (x ∷ xs)
       by true e ih k = let f = ih k in
           record { before = x ∷ f .before; element = f .element; after = f .after; parts = ap (λ (t : List A). x ∷ t) (f .parts); holds = and-both (p x) (all p (f .before)) e (f .holds); fails = f .fails }
       by false e ih k = record { before = []; element = x; after = xs; parts = refl; holds = refl; fails = e }
