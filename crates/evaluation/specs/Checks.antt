@@ -1,6 +1,5 @@
 -- What the parts of a check answer, for private functions.
 use Prim.Native.Nat.{ℕ}
-use mathlib.Core.List.{List}
 use mathlib.Core.Bool.{cond}
 use lib.Dec.{eqb}
 use Rattle.records.specs.declared.Term.{Term}

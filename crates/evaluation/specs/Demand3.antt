@@ -1,13 +1,12 @@
 -- Demand 3 as one theorem about the three calls read_record, read_term and evaluate: over the very definitions to which their contracts equate their
 -- answers (readRecord, readTerm through Reads, evaluated).
 use Prim.Native.Nat.{ℕ, _≤_}
-use mathlib.Core.Path.{_≡_, refl, ap, _∙_}
+use mathlib.Core.Path.{_≡_, ap, _∙_}
 use mathlib.Core.List.{List, []}
 use mathlib.Core.Logic.{_↔_}
 use lib.ListN.{length}
 use Rattle.address.specs.declared.Address.{Address}
 use Rattle.domain.specs.Normal.{normal}
-use Rattle.table.specs.declared.TableAnswer.{TableAnswer}
 use Rattle.table.specs.declared.TableAnswer.the-variants.{Accepted}
 use Rattle.table.specs.Reader.{checkTable}
 use Rattle.records.specs.Readings.{Placed}
@@ -18,9 +17,9 @@ use Rattle.records.proofs.Laws.Claim.{claim}
 use Rattle.meaning.specs.declared.Counts.{Counts}
 use Rattle.meaning.specs.Tree.{settled, run}
 use Rattle.meaning.specs.Tables.{tableIn}
-use Rattle.meaning.specs.Evaluation.{noCounts, Verdict, verdict}
+use Rattle.meaning.specs.Evaluation.{noCounts, verdict}
 use Rattle.meaning.specs.Reached.{Selects, Reaches, unproduced, verdict-never-evaluated}
-use Rattle.evaluation.specs.Numbers.{Outcome, settles}
+use Rattle.evaluation.specs.Numbers.{settles}
 use Rattle.evaluation.specs.Evaluating.{mailFor, afterTable, evaluated}
 use Rattle.evaluation.specs.Answers.{Fit}
 

@@ -5,7 +5,6 @@ use mathlib.Core.List.{List}
 use lib.ListN.{length}
 use Rattle.text.specs.Writing.{overwritten}
 use Rattle.records.specs.Readings.{Optional, absent, present}
-use Rattle.meaning.specs.declared.Counts.{Counts}
 use Rattle.meaning.specs.Tree.{Settled, settled, wanting}
 use Rattle.meaning.specs.Evaluation.{Verdict}
 use Rattle.evaluation.specs.declared.Answer.{Answer}

@@ -21,7 +21,7 @@ use meaning::Explained;
 use table::TableAnswer;
 use text::bytes;
 
-pub mod check;
+mod check;
 
 // What an evaluation answers.
 pub enum Answer {

@@ -35,10 +35,6 @@ lengthOf (IPv6 h l) four six = six
 abbrev pub specIf : Bool → List ℕ → Optional (List ℕ)
 specIf given spec = cond given (present spec) absent
 
--- a term that asks nothing: it matches or not
-abbrev pub steppedIf : Bool → Counts → Stepped
-steppedIf test c = cond test (record { matched = Matched.Yes; counts = c }) (record { matched = Matched.No; counts = c })
-
 -- what a term of the text w comes to, whatever the check one level down: its step; or it is an include, with its domain-spec's places in w
 unfoldable pub TriedIs : Table → Mail → List ℕ → List ℕ → Term → Counts → (before after : List ℕ) → Tried → Type 0
 TriedIs t mail d w x c before after (Tried.Step r) = (sub : Sub) → SaysStep (run t (termStep mail sub d (saidOf w x) (saidOf w x .sign) c)) r before after

@@ -8,7 +8,7 @@ ghost use Rattle.meaning.specs.Tree.{run};
 ghost use Rattle.meaning.specs.Tables.{tableIn};
 ghost use Rattle.meaning.specs.Mechanisms.{named};
 ghost use Rattle.meaning.specs.Outcomes.{mailOf, SaysStep};
-ghost use Rattle.mechanisms.specs.Terms.{asker, lengthOf, specIf, steppedIf, TriedIs};
+ghost use Rattle.mechanisms.specs.Terms.{asker, lengthOf, specIf, TriedIs};
 use address::Address;
 use meaning::Counts;
 use meaning::Ending;
@@ -138,22 +138,6 @@ fn differ(a: usize, b: usize) -> bool
     true
 }
 
-// What is known at once: whether a test holds.
-fn matched(test: bool, counts: Counts) -> Stepped
-    ensures { λ r. ⌜ r ≡ steppedIf test counts ⌝ }
-{
-    if test {
-        return Stepped {
-            matched: Matched::Yes,
-            counts,
-        };
-    }
-    Stepped {
-        matched: Matched::No,
-        counts,
-    }
-}
-
 // What a term comes to. `w` is the term's text.
 pub fn try_plain(
     client: Address,
@@ -172,7 +156,7 @@ pub fn try_plain(
     ensures { λ r. ⌜ TriedIs (tableIn (now (table .entry))) (mailOf client (now (sender .entry)) (now (helo .entry)) (now (receiver .entry)) seconds) (now (domain .entry)) (now (w .entry)) term counts (now (out .entry)) (now (out .exit)) r ⌝ }
 {
     match term {
-        Term::All { sign: _ } => Tried::Step(matched(true, counts)),
+        Term::All { sign: _ } => Tried::Step(questions::matched(true, counts)),
         Term::Include { sign: _, from, to } => Tried::Include { from, to },
         Term::A {
             sign: _,
@@ -237,7 +221,10 @@ pub fn try_plain(
             to: _,
             address,
             length,
-        } => Tried::Step(matched(address::matches(client, address, length as usize), counts)),
+        } => Tried::Step(questions::matched(
+            address::matches(client, address, length as usize),
+            counts,
+        )),
         Term::Exists { sign: _, from, to } => Tried::Step(named_step(
             Question::Exists,
             0,
@@ -253,8 +240,8 @@ pub fn try_plain(
             counts,
             out,
         )),
-        Term::Redirect { from: _, to: _ } => Tried::Step(matched(false, counts)),
-        Term::Explanation { from: _, to: _ } => Tried::Step(matched(false, counts)),
-        Term::Unknown { name: _, to: _ } => Tried::Step(matched(false, counts)),
+        Term::Redirect { from: _, to: _ } => Tried::Step(questions::matched(false, counts)),
+        Term::Explanation { from: _, to: _ } => Tried::Step(questions::matched(false, counts)),
+        Term::Unknown { name: _, to: _ } => Tried::Step(questions::matched(false, counts)),
     }
 }

@@ -1,4 +1,4 @@
--- The code's answers for a void question and for an address question.
+-- The code's answers for a void question and for a test.
 use mathlib.Core.Bool.{Bool, cond}
 use lib.Dec.{ltb}
 use Rattle.meaning.specs.declared.Counts.{Counts}
@@ -11,6 +11,6 @@ use Rattle.meaning.specs.Mechanisms.{most-voids, voided}
 unfoldable pub voidAnswer : Counts → Stepped
 voidAnswer c = record { matched = cond (ltb (c .voids) most-voids) Matched.No (Matched.Stop (Ending.Result 6)); counts = voided c }
 
--- addresses: one matches or none does
-unfoldable pub matchAnswer : Bool → Counts → Stepped
-matchAnswer t c = record { matched = cond t Matched.Yes Matched.No; counts = c }
+-- a test: it matches or not
+abbrev pub matchAnswer : Bool → Counts → Stepped
+matchAnswer test c = cond test (record { matched = Matched.Yes; counts = c }) (record { matched = Matched.No; counts = c })

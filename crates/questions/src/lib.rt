@@ -1,9 +1,11 @@
 // The questions of a, mx, ptr and exists once their target is known, and whether their answers match.
 ghost use Prim.Native.Nat.{_≤_};
+ghost use mathlib.Core.Path.{_≡_};
 ghost use Rattle.meaning.specs.Tree.{run, ask};
 ghost use Rattle.meaning.specs.Tables.{tableIn};
 ghost use Rattle.meaning.specs.Mechanisms.{askA, askExists, askMx, ptrReply, askPtr};
 ghost use Rattle.meaning.specs.Outcomes.{SaysStep};
+ghost use Rattle.questions.specs.Steps.{matchAnswer};
 use address::Address;
 use meaning::Counts;
 use meaning::Ending;
@@ -15,6 +17,22 @@ use text::bytes;
 mod hosts;
 mod names;
 mod replies;
+
+// What is known once a test is made: whether it matches, with the counts as they are.
+pub fn matched(test: bool, counts: Counts) -> Stepped
+    ensures { λ r. ⌜ r ≡ matchAnswer test counts ⌝ }
+{
+    if test {
+        return Stepped {
+            matched: Matched::Yes,
+            counts,
+        };
+    }
+    Stepped {
+        matched: Matched::No,
+        counts,
+    }
+}
 
 // a: the address question of the client's family.
 pub fn ask_a(

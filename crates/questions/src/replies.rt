@@ -51,14 +51,5 @@ pub fn void(counts: Counts) -> Stepped
 pub fn addresses(client: Address, length: usize, items: &[u8], counts: Counts) -> Stepped
     ensures { λ r. ⌜ r ≡ matchAnswer (anyMatches client length (itemsOf (now (items .entry)))) counts ⌝ }
 {
-    if answers::any_matches(client, length, items) {
-        return Stepped {
-            matched: Matched::Yes,
-            counts,
-        };
-    }
-    Stepped {
-        matched: Matched::No,
-        counts,
-    }
+    crate::matched(answers::any_matches(client, length, items), counts)
 }

@@ -25,8 +25,8 @@ laterChoice (First f u) below from to = cond below (Below from to) (First f u)
 laterChoice Nobody below from to = cond below (Below from to) (First from to)
 
 -- the choice after one more validated name n, for the current domain d
-unfoldable pub withName : Choice → (d n : List ℕ) → ℕ → ℕ → Choice
-withName choice d n from to = cond (same n d) Current (laterChoice choice (atOrBelow n d) from to)
+unfoldable pub choiceWith : Choice → (d n : List ℕ) → ℕ → ℕ → Choice
+choiceWith choice d n from to = cond (same n d) Current (laterChoice choice (atOrBelow n d) from to)
 
 -- the value that the last choice is
 unfoldable pub valueOf : Choice → PValue

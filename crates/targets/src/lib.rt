@@ -13,7 +13,7 @@ ghost use Rattle.meaning.specs.Tables.{tableIn};
 ghost use Rattle.meaning.specs.Mechanisms.{pValue, pReply, expansion, target, targetOr};
 ghost use Rattle.meaning.specs.Outcomes.{mailOf, SaysP, TargetIs, SaysTarget};
 ghost use Rattle.meaning.specs.declared.Counts.{Counts};
-ghost use Rattle.targets.specs.Choosing.{laterChoice, withName, valueOf, valid, SaysValid, targetWithP};
+ghost use Rattle.targets.specs.Choosing.{laterChoice, choiceWith, valueOf, valid, SaysValid, targetWithP};
 use address::Address;
 use domain::Name;
 use macros::Expanded;
@@ -68,7 +68,7 @@ fn later_choice(choice: Choice, below: bool, from: usize, to: usize) -> Choice
 
 // The choice after one more validated name.
 fn choose(choice: Choice, domain: &[u8], name: &[u8], from: usize, to: usize) -> Choice
-    ensures { λ r. ⌜ r ≡ withName choice (now (domain .entry)) (now (name .entry)) from to ⌝ }
+    ensures { λ r. ⌜ r ≡ choiceWith choice (now (domain .entry)) (now (name .entry)) from to ⌝ }
 {
     if domain::equals(name, domain) {
         return Choice::Current;

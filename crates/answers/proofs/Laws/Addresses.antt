@@ -1,9 +1,8 @@
 -- Whether any item of an address answer matches the client, item after item by their places. From table's laws of items.
 use Prim.Native.Nat.{ℕ, _≤_, _<_}
-use mathlib.Core.Path.{_≡_, refl, sym, _∙_}
-use mathlib.Core.List.{List, _∷_}
-use mathlib.Core.Bool.{Bool, true, false, cond, _||_}
-use lib.Dec.{eqb}
+use mathlib.Core.Path.{_≡_}
+use mathlib.Core.List.{List}
+use mathlib.Core.Bool.{Bool, true, false, _||_}
 use lib.ListN.{length, drop}
 use borrow.Author.Tests.{eq-eqb, ne-eqb}
 use Rattle.address.specs.declared.Address.{Address}
@@ -12,7 +11,6 @@ use Rattle.address.specs.Octets.{fromOctets}
 use Rattle.address.specs.Matching.{matchesAt}
 use Rattle.table.specs.Reader.{firstItem, itemsOf, nextItem}
 use Rattle.table.proofs.Laws.Items.{items-step, items-end}
-use Rattle.meaning.specs.Tree.{failed, items}
 use Rattle.meaning.specs.Tables.{replyBy}
 use Rattle.meaning.specs.Mechanisms.{itemMatches, anyMatches, width, includesClient}
 
@@ -24,9 +22,6 @@ item-is client n o a e r m = rw e m
 -- at a place of the items nothing before it has matched
 abbrev pub Unmatched : Address → ℕ → List ℕ → ℕ → Type 0
 Unmatched client n s i = anyMatches client n (itemsOf (drop i s)) ≡ anyMatches client n (itemsOf s)
-
-pub unmatched-start : (client : Address) (n : ℕ) (s : List ℕ) → Unmatched client n s 0
-unmatched-start client n s = refl
 
 module _ (client : Address) (n : ℕ) (s : List ℕ) (i : ℕ) (inv : Unmatched client n s i) where
   pub any-end : length s ≤ i → false ≡ anyMatches client n (itemsOf s)

@@ -1,17 +1,16 @@
 -- What a table's bytes answer a question, by what `find` finds, and what a check that asks it comes to. From table's contract of `find`.
 use Prim.Native.Nat.{ℕ}
-use mathlib.Core.Path.{_≡_, refl, sym, ap, subst, _∙_}
+use mathlib.Core.Path.{_≡_, refl, _∙_}
 use mathlib.Core.List.{List}
-use lib.Dec.{eqb}
 use borrow.Author.Tests.{eq-eqb, ne-eqb}
 use Rattle.text.specs.Bytes.{part}
 use Rattle.table.specs.declared.Found.{Found}
-use Rattle.table.specs.Lookup.{Lookup, lookup, Finds, found, missing}
-use Rattle.table.specs.Reader.{itemsOf, entriesOf, findAt}
+use Rattle.table.specs.Lookup.{Lookup, Finds, found, missing}
+use Rattle.table.specs.Reader.{itemsOf, findAt}
 use Rattle.table.proofs.Laws.Finding.{finds}
 use Rattle.records.specs.Readings.{Optional, absent, present}
 use Rattle.meaning.specs.declared.Counts.{Counts}
-use Rattle.meaning.specs.Tree.{Reply, failed, items, Check, ask, peek, Settled, wanting, answered, run}
+use Rattle.meaning.specs.Tree.{Reply, failed, items, Check, ask, peek, wanting, answered, run}
 use Rattle.meaning.specs.Tables.{replyBy, replyOf, tableIn}
 
 -- by what was found

@@ -1,8 +1,9 @@
 -- `answers::any_matches` meets its contract. From the rules of Laws.Addresses, item after item.
 use Prim.Native.Nat.{_-_}
+use mathlib.Core.Path.{refl}
 use lib.ListN.{length as size}
 use Rattle.table.proofs.Laws.Items.{next-less}
-use Rattle.answers.proofs.Laws.Addresses.{Unmatched, unmatched-start, any-found, any-next, any-end}
+use Rattle.answers.proofs.Laws.Addresses.{Unmatched, any-found, any-next, any-end}
 use borrow.Author.Needs.{needs}
 use Rattle.answers.proofs.any_matches.Statement.{statement}
 use Rattle.answers.proofs.any_matches.Tie as tie
@@ -20,7 +21,7 @@ abbrev μ-loop : tie.MeasureT-loop
 μ-loop client length items at₀ at = size items - at
 
 loop-holds : tie.Need-loop-holds Inv-loop μ-loop
-loop-holds c = search unmatched-start
+loop-holds c = refl
 
 item-requires : tie.Need-item-requires Inv-loop μ-loop
 item-requires c κs = search needs

@@ -9,7 +9,6 @@ use lib.Dec.{eqb}
 use lib.ListN.{length, take, length-take}
 use borrow.Author.Tests.{lt-ltb, le-ltb, le-leb, lt-leb, eq-eqb, ne-eqb}
 use Rattle.text.specs.Bytes.{part}
-use Rattle.text.specs.Texts.{bytes}
 use Rattle.text.proofs.Laws.Spans.{front-part}
 use Rattle.domain.specs.Names.{labelCount}
 use Rattle.domain.specs.Normal.{Naming, name, malformed}
@@ -21,20 +20,19 @@ use Rattle.records.specs.declared.RecordAnswer.{RecordAnswer}
 use Rattle.records.specs.declared.Term.{Term}
 use Rattle.meaning.specs.declared.Counts.{Counts}
 use Rattle.meaning.specs.declared.Ending.{Ending}
-use Rattle.meaning.specs.declared.FailingPlace.{FailingPlace}
 use Rattle.meaning.specs.declared.Matched.{Matched}
 use Rattle.meaning.specs.declared.Stepped.{Stepped}
 use Rattle.meaning.specs.declared.Target.{Target}
 use Rattle.meaning.specs.declared.Span.{Span}
 use Rattle.meaning.specs.declared.Selected.{Selected}
 use Rattle.meaning.specs.declared.Checked.{Checked}
-use Rattle.meaning.specs.Tree.{Table, Check, Settled, settled, wanting, then, run, run-bind}
+use Rattle.meaning.specs.Tree.{Table, Settled, settled, wanting, then, run, run-bind}
 use Rattle.meaning.specs.Tables.{tableIn}
-use Rattle.meaning.specs.Mechanisms.{Mail, Match, yes, no, stop, Step, target, begun, counting}
-use Rattle.meaning.specs.Evaluation.{Result, Sub, Selection, ends, one, ended, checkTarget, begunCheck, includeMatch, includeOf, includeStep, termStep, noneIsPermerror, redirectOf, noMatch, tryTerms, termsOf, readOutcome, recordLookup, afterLookup, checkName, check}
+use Rattle.meaning.specs.Mechanisms.{Mail, yes, no, stop, Step, target, begun, counting}
+use Rattle.meaning.specs.Evaluation.{Result, Sub, Selection, ended, checkTarget, begunCheck, includeMatch, includeOf, includeStep, termStep, noneIsPermerror, redirectOf, noMatch, tryTerms, termsOf, readOutcome, recordLookup, afterLookup, checkName, check}
 use Rattle.meaning.specs.Outcomes.{wantedBuffer, matchedOf, steppedOf, SaysStep, SaysTarget, spanOf, SaysSelection, failingOf, CheckedIs, SaysCheck}
 use Rattle.meaning.specs.Runs.{bind-is}
-use Rattle.meaning.specs.Inversions.{Gives, Wants, wants-bind, says-gives, says-wants, target-name, target-malformed, target-wants, lookup-ends, lookup-one, lookup-wants, checked-result, checked-wants, gives-says, wants-says}
+use Rattle.meaning.specs.Inversions.{Wants, wants-bind, target-name, target-malformed, target-wants, lookup-ends, lookup-one, lookup-wants, wants-says}
 use Rattle.selection.specs.declared.modifiers.Modifier.{Modifier}
 use Rattle.mechanisms.specs.declared.Tried.{Tried}
 use Rattle.selection.specs.Modifiers.{ModifierIs}

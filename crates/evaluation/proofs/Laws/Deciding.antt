@@ -1,16 +1,15 @@
 -- The check of a domain as it was given, the explanation after it, and the refusals before it: one rule for each way out of their functions; and what
 -- the definition says, by the table's list of entries. From the definitions of the evaluation and the inversions of the answers below.
-use Prim.Native.Nat.{ℕ, zero, suc, _+_, _≤_, _<_}
-use mathlib.Core.Path.{_≡_, refl, sym, ap, subst, _∙_}
+use Prim.Native.Nat.{ℕ, suc, _+_, _≤_}
+use mathlib.Core.Path.{_≡_, refl, sym, ap, _∙_}
 use mathlib.Core.List.{List, [], map}
 use mathlib.Core.Bool.{Bool, true, false, cond, _&&_}
 use native.Mathlib.Omega.{arith}
-use lib.Dec.{eqb, leb}
+use lib.Dec.{leb}
 use lib.ListN.{length, take, length-take}
-use borrow.Author.Tests.{le-leb, lt-leb, leb-true, eq-eqb, ne-eqb}
+use borrow.Author.Tests.{leb-true}
 use Rattle.text.specs.Bytes.{part, lower, within, isPrintable}
 use Rattle.text.specs.Lists.{all}
-use Rattle.text.specs.Writing.{overwritten}
 use Rattle.text.proofs.Laws.Spans.{front-part}
 use Rattle.text.proofs.Laws.Tests.{cond-elim, and-left, and-right}
 use Rattle.address.specs.declared.Address.{Address}
@@ -20,8 +19,8 @@ use Rattle.domain.specs.Normal.{Naming, name, malformed, withoutDot, lowered, n
 use Rattle.domain.specs.declared.Name.{Name}
 use Rattle.table.specs.declared.TableAnswer.{TableAnswer}
 use Rattle.table.specs.declared.TableAnswer.the-variants.{Accepted, TooLong, Malformed, Repeated}
-use Rattle.table.specs.Numbers.{Report, Place, nowhere, byte, accepted, refused as table-refused, reported as table-reported}
-use Rattle.table.specs.Answers.{TableAnswers, Encoded, whole}
+use Rattle.table.specs.Numbers.{Place, nowhere, byte, accepted, refused as table-refused, reported as table-reported}
+use Rattle.table.specs.Answers.{TableAnswers, whole}
 use Rattle.table.specs.Reader.{entriesOf, checkTable}
 use Rattle.table.proofs.Laws.Checks.{checked, checked-is}
 use Rattle.table.proofs.Laws.Entries.{entries-complete}
@@ -31,14 +30,14 @@ use Rattle.meaning.specs.declared.Ending.{Ending}
 use Rattle.meaning.specs.declared.Explained.{Explained}
 use Rattle.meaning.specs.declared.Target.{Target}
 use Rattle.meaning.specs.declared.Checked.{Checked}
-use Rattle.meaning.specs.Tree.{Table, Check, give, Settled, settled, wanting, bind, then, run, run-bind}
+use Rattle.meaning.specs.Tree.{Check, give, Settled, settled, wanting, bind, run}
 use Rattle.meaning.specs.Tables.{tableIn}
 use Rattle.meaning.specs.Mechanisms.{Mail}
-use Rattle.meaning.specs.Evaluation.{Result, ended, checkName, check, noCounts, evaluation, explanation, Verdict, verdict}
-use Rattle.meaning.specs.Outcomes.{mailOf, wantedBuffer, TargetIs, failingOf, CheckedIs, SaysCheck, SaysText}
+use Rattle.meaning.specs.Evaluation.{Result, checkName, check, noCounts, evaluation, explanation, Verdict, verdict}
+use Rattle.meaning.specs.Outcomes.{mailOf, wantedBuffer, failingOf, CheckedIs, SaysCheck, SaysText}
 use Rattle.meaning.specs.Runs.{bind-is}
-use Rattle.meaning.specs.Inversions.{Gives, Wants, wants-bind, target-name, checked-result, checked-wants, text-written, text-wants}
-use Rattle.targets.proofs.Laws.Naming.{Short, name-short, naming-written, naming-malformed}
+use Rattle.meaning.specs.Inversions.{Wants, wants-bind, target-name, checked-result, checked-wants, text-written, text-wants}
+use Rattle.targets.proofs.Laws.Naming.{Short, name-short, naming-written}
 use Rattle.evaluation.specs.declared.Answer.{Answer}
 use Rattle.evaluation.specs.Checks.{endedOf}
 use Rattle.evaluation.specs.Numbers.{Outcome, refused, refused-at, settles, reported, answerOf, reportOf, nameAfter, textAfter, Says}

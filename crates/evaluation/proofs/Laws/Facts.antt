@@ -2,14 +2,14 @@
 -- added to the table; "text written only for 3"; lookups never exceed 10, and voids never 3. From `evaluated-answers` (Deciding) and the theorems of
 -- `meaning`.
 use Prim.Native.Nat.{ℕ}
-use mathlib.Core.Path.{_≡_, refl, sym, ap, subst, _∙_}
+use mathlib.Core.Path.{_≡_, sym, ap, _∙_}
 use mathlib.Core.List.{List, []}
 use mathlib.Core.Bool.{true}
 use native.Mathlib.Omega.{arith}
 use Rattle.address.specs.declared.Address.{Address}
 use Rattle.domain.specs.Names.{isTableName}
 use Rattle.table.specs.Layout.{Entry}
-use Rattle.table.specs.Numbers.{Place, nowhere, byte}
+use Rattle.table.specs.Numbers.{nowhere, byte}
 use Rattle.table.specs.Answers.{Encoded}
 use Rattle.table.proofs.Laws.Entries.{entries-complete}
 use Rattle.meaning.specs.declared.Counts.{Counts}
@@ -21,7 +21,7 @@ use Rattle.meaning.specs.Bounds.{AskedBounds, AnsweredBounds, verdict-bounded}
 use Rattle.meaning.specs.Askable.{Settles, TextOfFail, verdict-settles}
 use Rattle.evaluation.specs.Numbers.{Outcome, refused, refused-at, settles}
 use Rattle.evaluation.specs.Evaluating.{mailFor, evaluated}
-use Rattle.evaluation.specs.Answers.{tableOf, Answers, no-sender, no-host, long-domain, no-room, bad-table, decides}
+use Rattle.evaluation.specs.Answers.{Answers, no-sender, no-host, long-domain, no-room, bad-table, decides}
 use Rattle.evaluation.proofs.Laws.Deciding.{table-is, evaluated-answers}
 
 -- what is settled, if anything is

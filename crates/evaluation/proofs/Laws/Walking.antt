@@ -13,14 +13,13 @@ use borrow.Author.Tests.{lt-ltb}
 use Rattle.text.specs.Bytes.{part}
 use Rattle.text.specs.Texts.{bytes}
 use Rattle.text.proofs.Laws.Tests.{cond-elim}
-use Rattle.records.specs.Readings.{Optional, absent, present, Said, Placed}
+use Rattle.records.specs.Readings.{Placed}
 use Rattle.records.specs.Reader.{readTerm}
-use Rattle.records.specs.Numbers.{TermReport, end, refused, term, termReport, saidOf, networkSaid}
+use Rattle.records.specs.Numbers.{termReport, saidOf}
 use Rattle.records.specs.declared.Term.{Term}
 use Rattle.records.specs.declared.TermAnswer.{TermAnswer}
 use Rattle.records.proofs.TermAnswer as answer-type
-use Rattle.records.proofs.Laws.Checking.{next-inside, next-less}
-use Rattle.address.specs.declared.Address.{Address}
+use Rattle.records.proofs.Laws.Checking.{next-less}
 use Rattle.address.specs.declared.Address.the-variants.{IPv4, IPv6}
 use Rattle.meaning.specs.declared.Counts.{Counts}
 use Rattle.meaning.specs.declared.Ending.{Ending}
@@ -29,12 +28,12 @@ use Rattle.meaning.specs.declared.Matched.{Matched}
 use Rattle.meaning.specs.declared.Stepped.{Stepped}
 use Rattle.meaning.specs.declared.Span.{Span}
 use Rattle.meaning.specs.declared.Checked.{Checked}
-use Rattle.meaning.specs.Tree.{Table, Check, Settled, settled, wanting, run}
+use Rattle.meaning.specs.Tree.{Settled, run}
 use Rattle.meaning.specs.Tables.{tableIn}
-use Rattle.meaning.specs.Mechanisms.{Mail, Match, yes, no, stop, Step}
-use Rattle.meaning.specs.Evaluation.{Result, Sub, ended, numberOr, termStep, signResult, modifierOf, failingAt, signed, noMatch, afterStep, tryTerms, termsAfter, termsFrom, termsOf, check}
+use Rattle.meaning.specs.Mechanisms.{Mail, yes, no, stop}
+use Rattle.meaning.specs.Evaluation.{Result, numberOr, termStep, signResult, modifierOf, signed, noMatch, afterStep, tryTerms, termsAfter, termsFrom, termsOf, check}
 use Rattle.meaning.specs.Outcomes.{wantedBuffer, spanOf, failingOf, SaysStep, CheckedIs, SaysCheck}
-use Rattle.meaning.specs.Inversions.{Gives, Wants, step-yes, step-no, step-result, step-wants, wants-says}
+use Rattle.meaning.specs.Inversions.{Gives, step-yes, step-no, step-result, step-wants, wants-says}
 use Rattle.meaning.specs.Steps.{term-then, term-wants, no-bounded}
 use Rattle.evaluation.specs.Checks.{endedOf, signOf, signedOf}
 

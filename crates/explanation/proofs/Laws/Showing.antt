@@ -2,12 +2,11 @@
 use Prim.Native.Nat.{ℕ, _≤_, _<_}
 use mathlib.Core.Path.{_≡_, refl, sym, ap, subst, _∙_}
 use mathlib.Core.List.{List, [], _∷_}
-use mathlib.Core.Bool.{Bool, true, false, cond}
+use mathlib.Core.Bool.{Bool, true, false}
 use native.Mathlib.Omega.{arith}
-use lib.Dec.{leb}
-use lib.ListN.{length, take, drop}
-use lib.Seq.{take-at, take-nil}
-use borrow.Author.Tests.{leb-true, leb-false, le-leb, lt-leb}
+use lib.ListN.{length, take}
+use lib.Seq.{take-nil}
+use borrow.Author.Tests.{le-leb, lt-leb}
 use Rattle.text.specs.Bytes.{part, isPrintable}
 use Rattle.text.specs.Lists.{all}
 use Rattle.text.specs.Runs.{isIn}
@@ -22,17 +21,17 @@ use Rattle.macros.specs.declared.Expanded.{Expanded}
 use Rattle.macros.specs.declared.Expanded.the-variants.{Written, Refused}
 use Rattle.macros.specs.Reader.{pieces, isMacroString, usesP}
 use Rattle.macros.specs.Expansion.{given, lettersOf, textOf}
-use Rattle.macros.specs.Numbers.{refused, expanded as expandedTo, fitted, answerOf, bufferOf, Says}
+use Rattle.macros.specs.Numbers.{fitted, Says}
 use Rattle.meaning.specs.declared.Counts.{Counts}
 use Rattle.meaning.specs.declared.PValue.{PValue}
 use Rattle.meaning.specs.declared.Explained.{Explained}
 use Rattle.meaning.specs.Tree.{bind, Settled, settled, run}
 use Rattle.meaning.specs.Tables.{tableIn}
-use Rattle.meaning.specs.Mechanisms.{Mail, pValue, expansion, givesExpansion, expanded}
+use Rattle.meaning.specs.Mechanisms.{pValue, expansion, givesExpansion, expanded}
 use Rattle.meaning.specs.Evaluation.{most-text, shown, givesShown, explained}
 use Rattle.meaning.specs.Outcomes.{mailOf, wantedBuffer, SaysP, ExplainedIs, textBuffer, SaysText}
-use Rattle.meaning.specs.Runs.{bind-is}
-use Rattle.meaning.specs.Inversions.{Gives, Wants, wants-bind, p-current, p-listed, p-unknown, p-wants}
+use Rattle.meaning.specs.Inversions.{Gives, Wants, p-current, p-listed, p-unknown, p-wants}
+use Rattle.targets.proofs.Laws.Expansions.{text-taken, text-fits, text-over, expansion-given, expansion-wanted}
 use Rattle.explanation.specs.Stages.{Shows, printed, withP}
 
 -- an explanation that is settled, one that is empty, and one that is wanted
@@ -76,59 +75,32 @@ module _ (s : List ℕ) (b : Bool) (e : b ≡ all (isIn Printable) s) where
   unfolding printed
   printed-none h text = shows-none (printed s) text (rw (tested, h))
 
--- what an expansion in an array tells of its text
-unfoldable TextIs : (xs z : List ℕ) → Expanded → List ℕ → Type 0
-TextIs xs z (Written n) v = (n ≡ length xs) × (length xs ≤ length z) × (take n v ≡ xs)
-TextIs xs z (Refused k) v = length z < length xs
-
-text-is : (xs z v : List ℕ) (x : Expanded) → Says (fitted xs (length z)) x z v → TextIs xs z x v
-unfolding fitted TextIs
-text-is xs z v x says = by (leb (length xs) (length z)) refl (says .answer) (says .buffer)
-  where
-    by : (b : Bool) → leb (length xs) (length z) ≡ b → x ≡ answerOf (cond b (expandedTo xs) (refused 41)) → v ≡ bufferOf (cond b (expandedTo xs) (refused 41)) z → TextIs xs z x v
-    by true e a u = let l = leb-true (length xs) (length z) e in rw a (refl, l, rw u (take-at xs (drop (length xs) z) (length xs) refl))
-    by false e a u = let l = leb-false (length xs) (length z) e in rw a l
-
 -- `write_shown`
 module _ (client : Address) (sender helo receiver : List ℕ) (seconds : ℕ) (d s p z v : List ℕ) (x : Expanded)
     (says : Says (fitted (textOf (lettersOf (given sender helo receiver d p client seconds)) (pieces Explanation s .list)) (length z)) x z v) where
-  by-case : (y : Expanded) → x ≡ y → TextIs (expansion (mailOf client sender helo receiver seconds) d Explanation s p) z y v
+  abbrev text : List ℕ
+  text = expansion (mailOf client sender helo receiver seconds) d Explanation s p
+
+  pub shown-written : length z ≤ most-text → (n : ℕ) → x ≡ Written n → (r : ℕ) (u u′ : List ℕ) → Shows (printed (take n v)) r u u′ → Shows (shown text) r u u′
   unfolding expansion
-  by-case y e = subst (λ (w : Expanded). TextIs (expansion (mailOf client sender helo receiver seconds) d Explanation s p) z w v) e (text-is _ z v x says)
+  shown-written room n e r u u′ o =
+      let l = text-fits text z v x says n e in
+      let m : length text ≤ most-text = omega arith in
+      rw (shown-short text m, ← text-taken text z v x says n e) o
 
-  pub shown-written : length z ≤ most-text → (n : ℕ) → x ≡ Written n → (r : ℕ) (text text′ : List ℕ) → Shows (printed (take n v)) r text text′
-      → Shows (shown (expansion (mailOf client sender helo receiver seconds) d Explanation s p)) r text text′
-  unfolding TextIs
-  shown-written room n e r text text′ o =
-      let w = by-case (Written n) e in
-      let y = expansion (mailOf client sender helo receiver seconds) d Explanation s p in
-      rw (shown-short y (omega (arith, w .1)), ← (w .2)) o
-
-  pub shown-refused : most-text ≤ length z → (k : ℕ) → x ≡ Refused k → (text : List ℕ)
-      → Shows (shown (expansion (mailOf client sender helo receiver seconds) d Explanation s p)) 0 text text
-  unfolding TextIs
-  shown-refused room k e text =
-      let w = by-case (Refused k) e in
-      shows-none _ text (shown-over (expansion (mailOf client sender helo receiver seconds) d Explanation s p) (omega arith))
+  pub shown-refused : most-text ≤ length z → (k : ℕ) → x ≡ Refused k → (u : List ℕ) → Shows (shown text) 0 u u
+  unfolding expansion
+  shown-refused room k e u = let l = text-over text z v x says k e in let m : most-text < length text = omega arith in shows-none _ u (shown-over text m)
 
 -- `explain_with_p`
-module _ (mail : Mail) (c : Counts) (t d s b a : List ℕ) where
-  with-value : (p : List ℕ) → Gives (run (tableIn t) (pValue (mail .client) d c)) p b a
-      → Gives (run (tableIn t) (withP mail d s c)) (shown (expansion mail d Explanation s p)) b a
-  unfolding withP givesExpansion givesShown run
-  with-value p g =
-      let m = bind (pValue (mail .client) d c) (givesExpansion mail d Explanation s) in
-      let y : run (tableIn t) m ≡ settled (expansion mail d Explanation s p) = bind-is (tableIn t) (pValue (mail .client) d c) (givesExpansion mail d Explanation s) p (g .is) in
-      record { is = bind-is (tableIn t) m givesShown (expansion mail d Explanation s p) y; kept = g .kept }
-
 module _ (client : Address) (sender helo receiver : List ℕ) (seconds : ℕ) (c : Counts) (t d s b a : List ℕ) (v : PValue)
     (says : SaysP c d t (run (tableIn t) (pValue client d c)) v b a) where
   with-given : (p : List ℕ) → Gives (run (tableIn t) (pValue client d c)) p b a → (n : ℕ) (u u′ : List ℕ)
       → Shows (shown (expansion (mailOf client sender helo receiver seconds) d Explanation s p)) n u u′
       → SaysText c (run (tableIn t) (withP (mailOf client sender helo receiver seconds) d s c)) (Explained.Text n) u u′ b a
+  unfolding withP givesShown
   with-given p g n u u′ w =
-      text-settled c (run (tableIn t) (withP (mailOf client sender helo receiver seconds) d s c)) _ n u u′ b a
-      (with-value (mailOf client sender helo receiver seconds) c t d s b a p g) w
+      text-settled c _ _ n u u′ b a (expansion-given givesShown shown (λ _. refl) (mailOf client sender helo receiver seconds) Explanation c t d s b a p g) w
 
   pub with-current : v ≡ PValue.Current → (n : ℕ) (u u′ : List ℕ)
       → Shows (shown (expansion (mailOf client sender helo receiver seconds) d Explanation s d)) n u u′
@@ -148,13 +120,11 @@ module _ (client : Address) (sender helo receiver : List ℕ) (seconds : ℕ) (c
 
   pub with-wanting : (kind size : ℕ) → v ≡ PValue.Wanting kind size → (u : List ℕ)
       → SaysText c (run (tableIn t) (withP (mailOf client sender helo receiver seconds) d s c)) (Explained.Wanting kind size) u u b a
-  unfolding withP
+  unfolding withP givesShown
   with-wanting kind size e u =
-      let mail = mailOf client sender helo receiver seconds in
-      let m = bind (pValue client d c) (givesExpansion mail d Explanation s) in
-      let w = p-wants c d t _ v b a says kind size e in
-      text-wanted c (run (tableIn t) (bind m givesShown)) kind size u b a
-      (wants-bind (tableIn t) m givesShown kind size c b a (wants-bind (tableIn t) (pValue client d c) (givesExpansion mail d Explanation s) kind size c b a w))
+      text-wanted c _ kind size u b a
+      (expansion-wanted givesShown shown (λ _. refl) (mailOf client sender helo receiver seconds) Explanation c t d s b a kind size
+      (p-wants c d t _ v b a says kind size e))
 
 -- `explain_text`
 module _ (client : Address) (sender helo receiver : List ℕ) (seconds : ℕ) (c : Counts) (t d s : List ℕ) (g : Bool) (e : g ≡ isMacroString Explanation s) where

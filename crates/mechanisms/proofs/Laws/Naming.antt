@@ -1,14 +1,14 @@
 -- A mechanism that asks for a name: the eleventh lookup, a malformed target, a question of p without an entry, and its own questions.
 -- One rule for each way out of `named_step` and `ask`. From the definitions of `named` and the inversions of a target's answer.
 use Prim.Native.Nat.{ℕ, _≤_, _<_}
-use mathlib.Core.Path.{_≡_, refl, sym, ap, _∙_}
+use mathlib.Core.Path.{_≡_, refl, _∙_}
 use mathlib.Core.List.{List}
-use lib.ListN.{length, take}
+use lib.ListN.{take}
 use borrow.Author.Tests.{lt-ltb, le-ltb}
 use Rattle.text.specs.Bytes.{part}
 use Rattle.text.proofs.Laws.Spans.{front-part}
 use Rattle.address.specs.declared.Address.{Address}
-use Rattle.domain.specs.Normal.{Naming, name, malformed}
+use Rattle.domain.specs.Normal.{name, malformed}
 use Rattle.records.specs.Readings.{Optional}
 use Rattle.meaning.specs.declared.Counts.{Counts}
 use Rattle.meaning.specs.declared.Ending.{Ending}
@@ -16,10 +16,10 @@ use Rattle.meaning.specs.declared.Matched.{Matched}
 use Rattle.meaning.specs.declared.Stepped.{Stepped}
 use Rattle.meaning.specs.declared.Target.{Target}
 use Rattle.meaning.specs.Tree.{Table, Check, run}
-use Rattle.meaning.specs.Mechanisms.{Mail, Step, no, stop, step, targetOr, begun, counting, withName, naming, named, askA, askMx, askPtr, askExists}
+use Rattle.meaning.specs.Mechanisms.{Mail, Step, targetOr, begun, counting, withName, naming, named, askA, askMx, askPtr, askExists}
 use Rattle.meaning.specs.Outcomes.{wantedBuffer, matchedOf, steppedOf, SaysStep, SaysTarget}
 use Rattle.meaning.specs.Runs.{bind-is}
-use Rattle.meaning.specs.Inversions.{Gives, Wants, wants-bind, says-gives, says-wants, target-name, target-malformed, target-wants}
+use Rattle.meaning.specs.Inversions.{wants-bind, says-wants, target-name, target-malformed, target-wants}
 use Rattle.mechanisms.specs.declared.Question.{Question}
 use Rattle.mechanisms.specs.Terms.{asker}
 

@@ -1,70 +1,60 @@
 -- What a term of each case comes to, whatever the check one level down. One rule for each way out of `try_plain`. From the terms' names in a reading.
 use Prim.Native.Nat.{ℕ}
-use mathlib.Core.Path.{_≡_, refl, sym, ap, _∙_}
+use mathlib.Core.Path.{_≡_, refl, _∙_}
 use mathlib.Core.List.{List}
 use mathlib.Core.Bool.{Bool, true, false, cond}
 use lib.Dec.{eqb}
-use borrow.Author.Tests.{eq-eqb, ne-eqb}
 use Rattle.text.specs.Bytes.{part}
 use Rattle.text.specs.Lists.{same}
 use Rattle.text.specs.Texts.{bytes}
 use Rattle.address.specs.declared.Address.{Address}
 use Rattle.address.specs.declared.Address.the-variants.{IPv4, IPv6}
 use Rattle.address.specs.Matching.{matchesAt}
-use Rattle.records.specs.Readings.{Optional, absent, present, hosts}
+use Rattle.records.specs.Readings.{absent, present, hosts}
 use Rattle.records.specs.Numbers.{optional, saidOf}
 use Rattle.records.specs.declared.Term.{Term}
 use Rattle.meaning.specs.declared.Counts.{Counts}
-use Rattle.meaning.specs.declared.Matched.{Matched}
 use Rattle.meaning.specs.declared.Stepped.{Stepped}
-use Rattle.meaning.specs.Tree.{Table, Check, run}
-use Rattle.meaning.specs.Mechanisms.{Mail, Step, yes, no, step, named, aStep, mxStep, ptrStep, existsStep}
-use Rattle.meaning.specs.Evaluation.{Sub, includeStep, bytesOr, numberOr, lengthFor, networkStep, mechanismStep, termStep}
+use Rattle.meaning.specs.Tree.{Table, run}
+use Rattle.meaning.specs.Mechanisms.{Mail, Step, yes, no, step, matched, named, aStep, mxStep, ptrStep, existsStep}
+use Rattle.meaning.specs.Evaluation.{Sub, bytesOr, numberOr, lengthFor, networkStep, mechanismStep, termStep}
 use Rattle.meaning.specs.Outcomes.{wantedBuffer, matchedOf, steppedOf, SaysStep}
+use Rattle.questions.specs.Steps.{matchAnswer}
+use Rattle.questions.proofs.Laws.Replies.{match-says}
 use Rattle.mechanisms.specs.declared.Question.{Question}
 use Rattle.mechanisms.specs.declared.Tried.{Tried}
-use Rattle.mechanisms.specs.Terms.{asker, lengthOf, specIf, steppedIf, TriedIs}
+use Rattle.mechanisms.specs.Terms.{asker, lengthOf, specIf, TriedIs}
 
 -- a term that asks nothing
-module _ (t : Table) (c : Counts) (b : List ℕ) (o : Stepped) where
-  yes-says : o ≡ steppedIf true c → SaysStep (run t (step yes c)) o b b
-  unfolding run steppedOf wantedBuffer matchedOf
-  yes-says e = record { outcome = e; buffer = refl }
-
-  no-says : o ≡ steppedIf false c → SaysStep (run t (step no c)) o b b
-  unfolding run steppedOf wantedBuffer matchedOf
-  no-says e = record { outcome = e; buffer = refl }
-
-  test-says : (m : Bool) → o ≡ steppedIf m c → SaysStep (run t (cond m (step yes c) (step no c))) o b b
-  test-says true e = yes-says e
-  test-says false e = no-says e
+test-says : (t : Table) (c : Counts) (b : List ℕ) (o : Stepped) (m : Bool) → o ≡ matchAnswer m c → SaysStep (run t (matched m c)) o b b
+test-says t c b o m e = rw e (match-says t m c b)
 
 module _ (t : Table) (mail : Mail) (d w : List ℕ) (x : Term) (c : Counts) (b : List ℕ) where
   module _ (o : Stepped) where
-    pub tried-all : (sign : ℕ) → x ≡ Term.All sign → o ≡ steppedIf true c → TriedIs t mail d w x c b b (Tried.Step o)
+    pub tried-all : (sign : ℕ) → x ≡ Term.All sign → o ≡ matchAnswer true c → TriedIs t mail d w x c b b (Tried.Step o)
     unfolding TriedIs termStep mechanismStep saidOf same
-    tried-all sign e h sub = rw e (yes-says t c b o h)
+    tried-all sign e h sub = rw e (test-says t c b o true h)
 
-    pub tried-redirect : (from to : ℕ) → x ≡ Term.Redirect from to → o ≡ steppedIf false c → TriedIs t mail d w x c b b (Tried.Step o)
+    pub tried-redirect : (from to : ℕ) → x ≡ Term.Redirect from to → o ≡ matchAnswer false c → TriedIs t mail d w x c b b (Tried.Step o)
     unfolding TriedIs termStep saidOf
-    tried-redirect from to e h sub = rw e (no-says t c b o h)
+    tried-redirect from to e h sub = rw e (test-says t c b o false h)
 
-    pub tried-explanation : (from to : ℕ) → x ≡ Term.Explanation from to → o ≡ steppedIf false c → TriedIs t mail d w x c b b (Tried.Step o)
+    pub tried-explanation : (from to : ℕ) → x ≡ Term.Explanation from to → o ≡ matchAnswer false c → TriedIs t mail d w x c b b (Tried.Step o)
     unfolding TriedIs termStep saidOf
-    tried-explanation from to e h sub = rw e (no-says t c b o h)
+    tried-explanation from to e h sub = rw e (test-says t c b o false h)
 
-    pub tried-unknown : (n to : ℕ) → x ≡ Term.Unknown n to → o ≡ steppedIf false c → TriedIs t mail d w x c b b (Tried.Step o)
+    pub tried-unknown : (n to : ℕ) → x ≡ Term.Unknown n to → o ≡ matchAnswer false c → TriedIs t mail d w x c b b (Tried.Step o)
     unfolding TriedIs termStep saidOf
-    tried-unknown n to e h sub = rw e (no-says t c b o h)
+    tried-unknown n to e h sub = rw e (test-says t c b o false h)
 
-    network-says : (sign from to n : ℕ) (a : Address) (sub : Sub) → o ≡ steppedIf (matchesAt (mail .client) a n) c
+    network-says : (sign from to n : ℕ) (a : Address) (sub : Sub) → o ≡ matchAnswer (matchesAt (mail .client) a n) c
         → SaysStep (run t (termStep mail sub d (saidOf w (Term.Network sign from to a n)) (saidOf w (Term.Network sign from to a n) .sign) c)) o b b
     unfolding termStep mechanismStep networkStep numberOr saidOf same
     network-says sign from to n (IPv4 v) sub h = test-says t c b o (matchesAt (mail .client) (IPv4 v) n) h
     network-says sign from to n (IPv6 g l) sub h = test-says t c b o (matchesAt (mail .client) (IPv6 g l) n) h
 
     pub tried-network : (sign from to n : ℕ) (a : Address) → x ≡ Term.Network sign from to a n → (m : Bool) → m ≡ matchesAt (mail .client) a n
-        → o ≡ steppedIf m c → TriedIs t mail d w x c b b (Tried.Step o)
+        → o ≡ matchAnswer m c → TriedIs t mail d w x c b b (Tried.Step o)
     unfolding TriedIs
     tried-network sign from to n a e m i h sub = rw e (network-says sign from to n a sub (h ∙ rw i))
 

@@ -8,8 +8,8 @@ use Rattle.mechanisms.proofs.try_plain.Lts as lts
 use Rattle.address.proofs.matches.Reads as matches-reads
 use Rattle.mechanisms.proofs.differ.Reads as differ-reads
 use Rattle.mechanisms.proofs.length_of.Reads as length-of-reads
-use Rattle.mechanisms.proofs.matched.Reads as matched-reads
 use Rattle.mechanisms.proofs.named_step.Reads as named-step-reads
+use Rattle.questions.proofs.matched.Reads as matched-reads
 use Rattle.text.proofs.bytes.part.Reads as part-reads
 
 enum-told : tie.Need-enum-told

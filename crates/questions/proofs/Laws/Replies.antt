@@ -44,13 +44,8 @@ pub void-third : (c : Counts) → 2 ≤ c .voids → record { matched = Matched.
 unfolding voidAnswer
 void-third c h = rw (le-ltb (c .voids) most-voids h)
 
-pub match-some : (t u : Bool) (c : Counts) → u ≡ t → u ≡ true → record { matched = Matched.Yes; counts = c } ≡ matchAnswer t c
-unfolding matchAnswer
-match-some t u c e h = rw (← e, h)
-
-pub match-none : (t u : Bool) (c : Counts) → u ≡ t → u ≡ false → record { matched = Matched.No; counts = c } ≡ matchAnswer t c
-unfolding matchAnswer
-match-none t u c e h = rw (← e, h)
+pub match-by : (t u : Bool) (c : Counts) (r : Stepped) → u ≡ t → r ≡ matchAnswer u c → r ≡ matchAnswer t c
+match-by t u c r e h = h ∙ rw e
 
 -- what is given, and what these say of it
 pub gives-says : (t : Table) (m : Match) (c : Counts) (b : List ℕ) → SaysStep (run t (step m c)) (record { matched = matchedOf m; counts = c }) b b
@@ -68,7 +63,7 @@ unfolding orVoid voidAnswer
 void-says t c rest b = tests-void t (ltb (c .voids) most-voids) (voided c) b
 
 pub match-says : (t : Table) (u : Bool) (c : Counts) (b : List ℕ) → SaysStep (run t (matched u c)) (matchAnswer u c) b b
-unfolding matchAnswer matchedOf
+unfolding matchedOf
 match-says t true c b = gives-says t yes c b
 match-says t false c b = gives-says t no c b
 

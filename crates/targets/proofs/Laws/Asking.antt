@@ -30,7 +30,7 @@ use Rattle.targets.specs.declared.Choice.{Choice}
 use Rattle.targets.specs.declared.Choice.the-variants.{Nobody}
 use Rattle.targets.specs.declared.Validity.{Validity}
 use Rattle.targets.specs.declared.Validity.the-variants.{Yes, No, Wanting}
-use Rattle.targets.specs.Choosing.{withName, valueOf, givesValid, valid, SaysValid}
+use Rattle.targets.specs.Choosing.{choiceWith, valueOf, givesValid, valid, SaysValid}
 use Rattle.table.proofs.Laws.Places.{item-part}
 use Rattle.targets.proofs.Laws.Choosing.{Picks, picks-none, picks-more, picks-value}
 
@@ -126,7 +126,7 @@ module _ (client : Address) (c : Counts) (t d s b out : List ℕ) (choice : Choi
     rest-is = rw (← names-are) (w .rest)
 
     module _ (v : Validity) (out′ : List ℕ) (says : SaysValid c (run (tableIn t) (valid client c n)) v out out′) where
-      pub chosen-yes : v ≡ Yes → (x : Choice) → x ≡ withName choice d n (start + i + 2) (start + next) → Chosen client c t d s b out′ x next (left - 1)
+      pub chosen-yes : v ≡ Yes → (x : Choice) → x ≡ choiceWith choice d n (start + i + 2) (start + next) → Chosen client c t d s b out′ x next (left - 1)
       unfolding SaysValid
       chosen-yes y x q =
           let g = subst (λ (a : Validity). SaysValid c (run (tableIn t) (valid client c n)) a out out′) y says in

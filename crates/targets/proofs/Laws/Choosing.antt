@@ -15,7 +15,7 @@ use Rattle.meaning.specs.Mechanisms.{holdsName, firstBelow, firstOr, chosen}
 use Rattle.meaning.specs.Outcomes.{PIs}
 use Rattle.targets.specs.declared.Choice.{Choice}
 use Rattle.targets.specs.declared.Choice.the-variants.{Current, Below, First, Nobody}
-use Rattle.targets.specs.Choosing.{laterChoice, withName, valueOf}
+use Rattle.targets.specs.Choosing.{laterChoice, choiceWith, valueOf}
 
 -- what a choice tells of the names that are found, for the current domain d and the table's bytes t
 unfoldable pub Picks : (d t : List ℕ) → Choice → List (List ℕ) → Type 0
@@ -82,8 +82,8 @@ module _ (d n : List ℕ) where
 
 -- one more validated name
 pub picks-more : (d t n : List ℕ) (from to : ℕ) → n ≡ part t from to → (choice : Choice) (found : List (List ℕ)) → Picks d t choice found
-    → Picks d t (withName choice d n from to) (found ++ (n ∷ []))
-unfolding withName Picks
+    → Picks d t (choiceWith choice d n from to) (found ++ (n ∷ []))
+unfolding choiceWith Picks
 picks-more d t n from to e choice found p =
     cond-elim (λ (x : Choice). Picks d t x (found ++ (n ∷ []))) (same n d)
     (λ k. holds-here d n found k)
@@ -129,12 +129,12 @@ module _ (choice : Choice) (from to : ℕ) where
   later-nobody-below below e h = rw (e, h)
 
   module _ (d n : List ℕ) (r : Bool) (e : r ≡ same n d) where
-    pub choose-current : r ≡ true → Current ≡ withName choice d n from to
-    unfolding withName
+    pub choose-current : r ≡ true → Current ≡ choiceWith choice d n from to
+    unfolding choiceWith
     choose-current h = rw (← e, h)
 
-    pub choose-later : r ≡ false → (below : Bool) → below ≡ atOrBelow n d → (x : Choice) → x ≡ laterChoice choice below from to → x ≡ withName choice d n from to
-    unfolding withName
+    pub choose-later : r ≡ false → (below : Bool) → below ≡ atOrBelow n d → (x : Choice) → x ≡ laterChoice choice below from to → x ≡ choiceWith choice d n from to
+    unfolding choiceWith
     choose-later h below k x w = rw (← e, h, ← k) w
 
 -- a way out of `value_of`

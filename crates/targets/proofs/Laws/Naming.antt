@@ -1,13 +1,13 @@
 -- The name of a target, from the value of p to the question name: a rule for each way out. From the contracts of macros and Inversions.
 use Prim.Native.Nat.{ℕ, _≤_, _<_}
-use mathlib.Core.Path.{_≡_, refl, sym, ap, subst, _∙_}
-use mathlib.Core.List.{List, [], _++_, map}
+use mathlib.Core.Path.{_≡_, refl, sym, ap, subst}
+use mathlib.Core.List.{List, [], map}
 use mathlib.Core.Bool.{Bool, true, false, cond, _&&_}
 use native.Mathlib.Omega.{arith}
 use lib.Dec.{leb}
-use lib.ListN.{length, take, drop, length-append}
+use lib.ListN.{length, take, drop}
 use lib.Seq.{take-at}
-use borrow.Author.Tests.{leb-true, leb-false}
+use borrow.Author.Tests.{leb-true}
 use Rattle.text.specs.Bytes.{part, within, lower}
 use Rattle.text.specs.Lists.{all}
 use Rattle.text.specs.Texts.{bytes}
@@ -24,7 +24,7 @@ use Rattle.macros.specs.declared.Expanded.{Expanded}
 use Rattle.macros.specs.declared.Expanded.the-variants.{Written, Refused}
 use Rattle.macros.specs.Reader.{pieces, usesP}
 use Rattle.macros.specs.Expansion.{given, lettersOf, textOf}
-use Rattle.macros.specs.Numbers.{refused, expanded as expandedTo, fitted, answerOf, bufferOf, Says}
+use Rattle.macros.specs.Numbers.{fitted, Says}
 use Rattle.macros.specs.Question.{questionName}
 use Rattle.macros.proofs.Laws.Expanding.{question-long}
 use Rattle.records.specs.Readings.{absent, present}
@@ -35,9 +35,9 @@ use Rattle.meaning.specs.Tree.{bind, Settled, settled, run}
 use Rattle.meaning.specs.Tables.{tableIn}
 use Rattle.meaning.specs.Mechanisms.{Mail, pValue, expansion, givesExpansion, expanded, givesName, target, targetOr}
 use Rattle.meaning.specs.Outcomes.{mailOf, wantedBuffer, TargetIs, SaysTarget, SaysP}
-use Rattle.meaning.specs.Runs.{bind-is}
-use Rattle.meaning.specs.Inversions.{Gives, Wants, wants-bind, p-current, p-listed, p-unknown, p-wants}
+use Rattle.meaning.specs.Inversions.{Gives, Wants, p-current, p-listed, p-unknown, p-wants}
 use Rattle.targets.specs.Choosing.{targetWithP}
+use Rattle.targets.proofs.Laws.Expansions.{text-taken, text-over, expansion-given, expansion-wanted}
 
 -- a name has at most 253 bytes
 unfoldable pub Short : Naming → Type 0
@@ -82,39 +82,7 @@ module _ (s to to′ : List ℕ) (r : Name) (a : r ≡ nameAnswer (questionName 
   pub named-malformed : r ≡ Name.Malformed → (c : Counts) → TargetIs c (settled (questionName s)) Target.Malformed to′
   named-malformed e c = naming-malformed (questionName s) to′ r a e c
 
--- `write_target`: what an expansion in an array tells of the text
-unfoldable pub TextIs : (xs z : List ℕ) → Expanded → List ℕ → Type 0
-TextIs xs z (Written n) v = (n ≡ length xs) × (n ≤ length z) × (v ≡ xs ++ drop (length xs) z)
-TextIs xs z (Refused k) v = length z < length xs
-
-text-is : (xs z v : List ℕ) (x : Expanded) → Says (fitted xs (length z)) x z v → TextIs xs z x v
-unfolding fitted TextIs
-text-is xs z v x says = by (leb (length xs) (length z)) refl (says .answer) (says .buffer)
-  where
-    by : (b : Bool) → leb (length xs) (length z) ≡ b → x ≡ answerOf (cond b (expandedTo xs) (refused 41)) → v ≡ bufferOf (cond b (expandedTo xs) (refused 41)) z → TextIs xs z x v
-    by true e a u = let l = leb-true (length xs) (length z) e in rw a (refl, l, u)
-    by false e a u = let l = leb-false (length xs) (length z) e in rw a l
-
-module _ (xs z v : List ℕ) (x : Expanded) (says : Says (fitted xs (length z)) x z v) where
-  by-case : (y : Expanded) → x ≡ y → TextIs xs z y v
-  by-case y e = subst (λ (w : Expanded). TextIs xs z w v) e (text-is xs z v x says)
-
-  text-taken : (n : ℕ) → x ≡ Written n → take n v ≡ xs
-  unfolding TextIs
-  text-taken n e = let w = by-case (Written n) e in rw (w .2) (take-at xs (drop (length xs) z) n (sym (w .0)))
-
-  pub text-inside : (n : ℕ) → x ≡ Written n → n ≤ length v
-  unfolding TextIs
-  text-inside n e = let w = by-case (Written n) e in rw (w .2, length-append) (omega (arith, w .0))
-
-  pub text-whole : (n : ℕ) → x ≡ Written n → n ≡ length (take n v)
-  unfolding TextIs
-  text-whole n e = by-case (Written n) e .0 ∙ sym (ap length (text-taken n e))
-
-  text-long : (k : ℕ) → 4096 ≤ length z → x ≡ Refused k → questionName xs ≡ malformed
-  unfolding TextIs
-  text-long k room e = let w = by-case (Refused k) e in question-long xs (omega arith)
-
+-- `write_target`
 module _ (client : Address) (sender helo receiver : List ℕ) (seconds : ℕ) (d spec p z v : List ℕ) (x : Expanded)
     (says : Says (fitted (textOf (lettersOf (given sender helo receiver d p client seconds)) (pieces DomainSpec spec .list)) (length z)) x z v) where
   pub target-written : (n : ℕ) → x ≡ Written n → (r : Target) (to : List ℕ) → ((c : Counts) → TargetIs c (settled (questionName (take n v))) r to)
@@ -125,7 +93,11 @@ module _ (client : Address) (sender helo receiver : List ℕ) (seconds : ℕ) (d
   pub target-long : 4096 ≤ length z → (k : ℕ) → x ≡ Refused k → (to : List ℕ)
       → (c : Counts) → TargetIs c (settled (questionName (expansion (mailOf client sender helo receiver seconds) d DomainSpec spec p))) Target.Malformed to
   unfolding expansion TargetIs
-  target-long room k e to c = rw (text-long _ z v x says k room e) refl
+  target-long room k e to c =
+      let xs = expansion (mailOf client sender helo receiver seconds) d DomainSpec spec p in
+      let l : length z < length xs = text-over xs z v x says k e in
+      let m : 4096 < length xs = omega arith in
+      rw (question-long xs m) refl
 
 -- a target that is settled, and one that is wanted
 pub target-settled : (c : Counts) (x : Settled Naming) (n : Naming) (r : Target) (to b a : List ℕ) → Gives x n b a → TargetIs c (settled n) r to → SaysTarget c x r to b a
@@ -137,23 +109,15 @@ unfolding TargetIs wantedBuffer
 target-wanted c x kind size to b a w = rw (w .is, w .size-is) (record { target = (refl, refl); buffer = w .buffer })
 
 -- `write_target_with_p`
-module _ (mail : Mail) (c : Counts) (t d spec b a : List ℕ) where
-  with-value : (p : List ℕ) → Gives (run (tableIn t) (pValue (mail .client) d c)) p b a
-      → Gives (run (tableIn t) (targetWithP mail d spec c)) (questionName (expansion mail d DomainSpec spec p)) b a
-  unfolding targetWithP givesExpansion givesName run
-  with-value p g =
-      let m = bind (pValue (mail .client) d c) (givesExpansion mail d DomainSpec spec) in
-      let y : run (tableIn t) m ≡ settled (expansion mail d DomainSpec spec p) = bind-is (tableIn t) (pValue (mail .client) d c) (givesExpansion mail d DomainSpec spec) p (g .is) in
-      record { is = bind-is (tableIn t) m givesName (expansion mail d DomainSpec spec p) y; kept = g .kept }
-
 module _ (client : Address) (sender helo receiver : List ℕ) (seconds : ℕ) (c : Counts) (t d spec b a : List ℕ) (v : PValue)
     (says : SaysP c d t (run (tableIn t) (pValue client d c)) v b a) where
   with-given : (p : List ℕ) → Gives (run (tableIn t) (pValue client d c)) p b a → (r : Target) (to : List ℕ)
       → ((k : Counts) → TargetIs k (settled (questionName (expansion (mailOf client sender helo receiver seconds) d DomainSpec spec p))) r to)
       → SaysTarget c (run (tableIn t) (targetWithP (mailOf client sender helo receiver seconds) d spec c)) r to b a
+  unfolding targetWithP givesName
   with-given p g r to w =
-      target-settled c (run (tableIn t) (targetWithP (mailOf client sender helo receiver seconds) d spec c)) _ r to b a
-      (with-value (mailOf client sender helo receiver seconds) c t d spec b a p g) (w c)
+      target-settled c _ _ r to b a
+      (expansion-given givesName questionName (λ _. refl) (mailOf client sender helo receiver seconds) DomainSpec c t d spec b a p g) (w c)
 
   pub with-current : v ≡ PValue.Current → (r : Target) (to : List ℕ)
       → ((k : Counts) → TargetIs k (settled (questionName (expansion (mailOf client sender helo receiver seconds) d DomainSpec spec d))) r to)
@@ -173,13 +137,11 @@ module _ (client : Address) (sender helo receiver : List ℕ) (seconds : ℕ) (c
 
   pub with-wanting : (kind size : ℕ) → v ≡ PValue.Wanting kind size → (to : List ℕ)
       → SaysTarget c (run (tableIn t) (targetWithP (mailOf client sender helo receiver seconds) d spec c)) (Target.Wanting kind size) to b a
-  unfolding targetWithP
+  unfolding targetWithP givesName
   with-wanting kind size e to =
-      let mail = mailOf client sender helo receiver seconds in
-      let m = bind (pValue client d c) (givesExpansion mail d DomainSpec spec) in
-      let w = p-wants c d t _ v b a says kind size e in
-      target-wanted c (run (tableIn t) (bind m givesName)) kind size to b a
-      (wants-bind (tableIn t) m givesName kind size c b a (wants-bind (tableIn t) (pValue client d c) (givesExpansion mail d DomainSpec spec) kind size c b a w))
+      target-wanted c _ kind size to b a
+      (expansion-wanted givesName questionName (λ _. refl) (mailOf client sender helo receiver seconds) DomainSpec c t d spec b a kind size
+      (p-wants c d t _ v b a says kind size e))
 
 -- `make_target`
 module _ (client : Address) (sender helo receiver : List ℕ) (seconds : ℕ) (c : Counts) (t d spec : List ℕ) (u : Bool) (e : u ≡ usesP DomainSpec spec) where

@@ -1,5 +1,6 @@
 -- `targets::write_target` meets its contract. From the laws of Naming.
-use Rattle.targets.proofs.Laws.Naming.{text-inside, text-whole, target-written, target-long}
+use Rattle.targets.proofs.Laws.Naming.{target-written, target-long}
+use Rattle.targets.proofs.Laws.Expansions.{text-inside, text-whole}
 use borrow.Author.Needs.{needs}
 use Rattle.targets.proofs.write_target.Statement.{statement}
 use Rattle.targets.proofs.write_target.Tie as tie

@@ -1,17 +1,21 @@
 -- `questions::replies::addresses` meets its contract. From the laws of Replies.
-use Rattle.questions.proofs.Laws.Replies.{match-some, match-none}
+use Rattle.questions.proofs.Laws.Replies.{match-by}
 use borrow.Author.Needs.{needs}
 use Rattle.questions.proofs.replies.addresses.Statement.{statement}
 use Rattle.questions.proofs.replies.addresses.Tie as tie
+use Rattle.questions.proofs.replies.addresses.Reads as reads
+use Rattle.questions.proofs.replies.addresses.Lts as lts
+use Rattle.answers.proofs.any_matches.Reads as any-matches-reads
+use Rattle.questions.proofs.matched.Reads as matched-reads
 
 any-matches-requires : tie.Need-any-matches-requires
 any-matches-requires c κs = search needs
 
-returns : tie.Need-returns
-returns c = search match-some
+matched-requires : tie.Need-matched-requires
+matched-requires c κs = search needs
 
-returns-2 : tie.Need-returns-2
-returns-2 c = search match-none
+returns : tie.Need-returns
+returns c = search match-by
 
 pub addresses-spec : {M : Type 1} → statement M
-addresses-spec = tie.close (tie.spec any-matches-requires returns returns-2)
+addresses-spec = tie.close (tie.spec any-matches-requires matched-requires returns)
