@@ -87,27 +87,15 @@ check-domain-at t =
 
 abbrev check-domain-below : ℕ → In 6 check-domain-kinds.ps
 check-domain-below t =
-    and
-    6
-    check-domain-kinds.ps
-    (falls 6 check-domain-kinds.ps _<_ μ-check-domain t)
-    check-domain.Pre
+    and 6 check-domain-kinds.ps (falls 6 check-domain-kinds.ps _<_ μ-check-domain t) check-domain.Pre
 
 abbrev evaluate-record-at : ℕ → In 5 evaluate-record-kinds.ps
 evaluate-record-at t =
-    and
-    5
-    evaluate-record-kinds.ps
-    (is 5 evaluate-record-kinds.ps μ-evaluate-record t)
-    evaluate-record.Pre
+    and 5 evaluate-record-kinds.ps (is 5 evaluate-record-kinds.ps μ-evaluate-record t) evaluate-record.Pre
 
 abbrev evaluate-record-below : ℕ → In 5 evaluate-record-kinds.ps
 evaluate-record-below t =
-    and
-    5
-    evaluate-record-kinds.ps
-    (falls 5 evaluate-record-kinds.ps _<_ μ-evaluate-record t)
-    evaluate-record.Pre
+    and 5 evaluate-record-kinds.ps (falls 5 evaluate-record-kinds.ps _<_ μ-evaluate-record t) evaluate-record.Pre
 
 abbrev include-at : ℕ → In 6 include-kinds.ps
 include-at t = and 6 include-kinds.ps (is 6 include-kinds.ps μ-include t) include.Pre
@@ -136,889 +124,268 @@ abbrev try-terms-below : ℕ → In 5 try-terms-kinds.ps
 try-terms-below t =
     and 5 try-terms-kinds.ps (falls 5 try-terms-kinds.ps _<_ μ-try-terms t) try-terms.Pre
 
-begin-check-ended-requires : (t : ℕ) → begin-check-lts.Need-ended-requires (
-  ended-reads.Asked,
-  ended-reads.Learnt,
-  part-reads.Asked,
-  part-reads.Learnt,
-  make-target-reads.Asked,
-  make-target-reads.Learnt,
-  wanting-reads.Asked,
-  wanting-reads.Learnt,
-  check-domain-below t,
-  check-domain.Post,
-) (begin-check-at t) begin-check.Post
+abbrev begin-check-claims : ℕ → begin-check-lts.Claims
+begin-check-claims t = (
+  ended-reads.Asked, ended-reads.Learnt,
+  part-reads.Asked, part-reads.Learnt,
+  make-target-reads.Asked, make-target-reads.Learnt,
+  wanting-reads.Asked, wanting-reads.Learnt,
+  check-domain-below t, check-domain.Post,
+)
+
+abbrev check-domain-claims : ℕ → check-domain-lts.Claims
+check-domain-claims t = (
+  count-labels-reads.Asked, count-labels-reads.Learnt,
+  ended-reads.Asked, ended-reads.Learnt,
+  select-record-reads.Asked, select-record-reads.Learnt,
+  wanting-reads.Asked, wanting-reads.Learnt,
+  evaluate-record-below t, evaluate-record.Post,
+)
+
+abbrev evaluate-record-claims : ℕ → evaluate-record-lts.Claims
+evaluate-record-claims t = (
+  part-reads.Asked, part-reads.Learnt,
+  read-record-reads.Asked, read-record-reads.Learnt,
+  ended-reads.Asked, ended-reads.Learnt,
+  try-terms-below t, try-terms.Post,
+)
+
+abbrev include-claims : ℕ → include-lts.Claims
+include-claims t = (
+  begin-check-below t, begin-check.Post,
+  include-of-reads.Asked, include-of-reads.Learnt,
+)
+
+abbrev no-match-claims : ℕ → no-match-lts.Claims
+no-match-claims t = (
+  find-redirect-reads.Asked, find-redirect-reads.Learnt,
+  ended-reads.Asked, ended-reads.Learnt,
+  part-reads.Asked, part-reads.Learnt,
+  begin-check-below t, begin-check.Post,
+  none-is-permerror-reads.Asked, none-is-permerror-reads.Learnt,
+)
+
+abbrev try-term-claims : ℕ → try-term-lts.Claims
+try-term-claims t = (
+  part-reads.Asked, part-reads.Learnt,
+  try-plain-reads.Asked, try-plain-reads.Learnt,
+  include-below t, include.Post,
+)
+
+abbrev try-terms-claims : ℕ → try-terms-lts.Claims
+try-terms-claims t = (
+  part-reads.Asked, part-reads.Learnt,
+  read-term-reads.Asked, read-term-reads.Learnt,
+  no-match-below t, no-match.Post,
+  try-term-below t, try-term.Post,
+  signed-reads.Asked, signed-reads.Learnt,
+)
+
+begin-check-ended-requires : (t : ℕ) → begin-check-lts.Need-ended-requires (begin-check-claims t) (begin-check-at t) begin-check.Post
 begin-check-ended-requires t c κs = search needs
 
-begin-check-returns : (t : ℕ) → begin-check-lts.Need-returns (
-  ended-reads.Asked,
-  ended-reads.Learnt,
-  part-reads.Asked,
-  part-reads.Learnt,
-  make-target-reads.Asked,
-  make-target-reads.Learnt,
-  wanting-reads.Asked,
-  wanting-reads.Learnt,
-  check-domain-below t,
-  check-domain.Post,
-) (begin-check-at t) begin-check.Post
+begin-check-returns : (t : ℕ) → begin-check-lts.Need-returns (begin-check-claims t) (begin-check-at t) begin-check.Post
 begin-check-returns t c = search begin-eleventh
 
-begin-check-add-t18 : (t : ℕ) → begin-check-lts.Need-add-t18 (
-  ended-reads.Asked,
-  ended-reads.Learnt,
-  part-reads.Asked,
-  part-reads.Learnt,
-  make-target-reads.Asked,
-  make-target-reads.Learnt,
-  wanting-reads.Asked,
-  wanting-reads.Learnt,
-  check-domain-below t,
-  check-domain.Post,
-) (begin-check-at t) begin-check.Post
+begin-check-add-t18 : (t : ℕ) → begin-check-lts.Need-add-t18 (begin-check-claims t) (begin-check-at t) begin-check.Post
 begin-check-add-t18 t c = search needs
 
-begin-check-part-requires : (t : ℕ) → begin-check-lts.Need-part-requires (
-  ended-reads.Asked,
-  ended-reads.Learnt,
-  part-reads.Asked,
-  part-reads.Learnt,
-  make-target-reads.Asked,
-  make-target-reads.Learnt,
-  wanting-reads.Asked,
-  wanting-reads.Learnt,
-  check-domain-below t,
-  check-domain.Post,
-) (begin-check-at t) begin-check.Post
+begin-check-part-requires : (t : ℕ) → begin-check-lts.Need-part-requires (begin-check-claims t) (begin-check-at t) begin-check.Post
 begin-check-part-requires t c κs = search needs
 
-begin-check-slice-aggregate-make-target :
-    (t : ℕ) → begin-check-lts.Need-slice-aggregate-make-target (
-      ended-reads.Asked,
-      ended-reads.Learnt,
-      part-reads.Asked,
-      part-reads.Learnt,
-      make-target-reads.Asked,
-      make-target-reads.Learnt,
-      wanting-reads.Asked,
-      wanting-reads.Learnt,
-      check-domain-below t,
-      check-domain.Post,
-    ) (begin-check-at t) begin-check.Post
+begin-check-slice-aggregate-make-target : (t : ℕ) → begin-check-lts.Need-slice-aggregate-make-target (begin-check-claims t) (begin-check-at t) begin-check.Post
 begin-check-slice-aggregate-make-target t c = search needs
 
-begin-check-make-target-requires : (t : ℕ) → begin-check-lts.Need-make-target-requires (
-  ended-reads.Asked,
-  ended-reads.Learnt,
-  part-reads.Asked,
-  part-reads.Learnt,
-  make-target-reads.Asked,
-  make-target-reads.Learnt,
-  wanting-reads.Asked,
-  wanting-reads.Learnt,
-  check-domain-below t,
-  check-domain.Post,
-) (begin-check-at t) begin-check.Post
+begin-check-make-target-requires : (t : ℕ) → begin-check-lts.Need-make-target-requires (begin-check-claims t) (begin-check-at t) begin-check.Post
 begin-check-make-target-requires t c κs = search needs
 
-begin-check-enum-told : (t : ℕ) → begin-check-lts.Need-enum-told (
-  ended-reads.Asked,
-  ended-reads.Learnt,
-  part-reads.Asked,
-  part-reads.Learnt,
-  make-target-reads.Asked,
-  make-target-reads.Learnt,
-  wanting-reads.Asked,
-  wanting-reads.Learnt,
-  check-domain-below t,
-  check-domain.Post,
-) (begin-check-at t) begin-check.Post
+begin-check-enum-told : (t : ℕ) → begin-check-lts.Need-enum-told (begin-check-claims t) (begin-check-at t) begin-check.Post
 begin-check-enum-told t c = search needs
 
-begin-check-ended-requires-2 : (t : ℕ) → begin-check-lts.Need-ended-requires-2 (
-  ended-reads.Asked,
-  ended-reads.Learnt,
-  part-reads.Asked,
-  part-reads.Learnt,
-  make-target-reads.Asked,
-  make-target-reads.Learnt,
-  wanting-reads.Asked,
-  wanting-reads.Learnt,
-  check-domain-below t,
-  check-domain.Post,
-) (begin-check-at t) begin-check.Post
+begin-check-ended-requires-2 : (t : ℕ) → begin-check-lts.Need-ended-requires-2 (begin-check-claims t) (begin-check-at t) begin-check.Post
 begin-check-ended-requires-2 t c κs = search needs
 
-begin-check-enum-known-kind : (t : ℕ) → begin-check-lts.Need-enum-known-kind (
-  ended-reads.Asked,
-  ended-reads.Learnt,
-  part-reads.Asked,
-  part-reads.Learnt,
-  make-target-reads.Asked,
-  make-target-reads.Learnt,
-  wanting-reads.Asked,
-  wanting-reads.Learnt,
-  check-domain-below t,
-  check-domain.Post,
-) (begin-check-at t) begin-check.Post
+begin-check-enum-known-kind : (t : ℕ) → begin-check-lts.Need-enum-known-kind (begin-check-claims t) (begin-check-at t) begin-check.Post
 begin-check-enum-known-kind t c = search needs
 
-begin-check-wanting-requires : (t : ℕ) → begin-check-lts.Need-wanting-requires (
-  ended-reads.Asked,
-  ended-reads.Learnt,
-  part-reads.Asked,
-  part-reads.Learnt,
-  make-target-reads.Asked,
-  make-target-reads.Learnt,
-  wanting-reads.Asked,
-  wanting-reads.Learnt,
-  check-domain-below t,
-  check-domain.Post,
-) (begin-check-at t) begin-check.Post
+begin-check-wanting-requires : (t : ℕ) → begin-check-lts.Need-wanting-requires (begin-check-claims t) (begin-check-at t) begin-check.Post
 begin-check-wanting-requires t c κs = search needs
 
-begin-check-enum-known-n : (t : ℕ) → begin-check-lts.Need-enum-known-n (
-  ended-reads.Asked,
-  ended-reads.Learnt,
-  part-reads.Asked,
-  part-reads.Learnt,
-  make-target-reads.Asked,
-  make-target-reads.Learnt,
-  wanting-reads.Asked,
-  wanting-reads.Learnt,
-  check-domain-below t,
-  check-domain.Post,
-) (begin-check-at t) begin-check.Post
+begin-check-enum-known-n : (t : ℕ) → begin-check-lts.Need-enum-known-n (begin-check-claims t) (begin-check-at t) begin-check.Post
 begin-check-enum-known-n t c = search needs
 
-begin-check-slice-aggregate-part : (t : ℕ) → begin-check-lts.Need-slice-aggregate-part (
-  ended-reads.Asked,
-  ended-reads.Learnt,
-  part-reads.Asked,
-  part-reads.Learnt,
-  make-target-reads.Asked,
-  make-target-reads.Learnt,
-  wanting-reads.Asked,
-  wanting-reads.Learnt,
-  check-domain-below t,
-  check-domain.Post,
-) (begin-check-at t) begin-check.Post
+begin-check-slice-aggregate-part : (t : ℕ) → begin-check-lts.Need-slice-aggregate-part (begin-check-claims t) (begin-check-at t) begin-check.Post
 begin-check-slice-aggregate-part t c = search needs
 
-begin-check-part-requires-2 : (t : ℕ) → begin-check-lts.Need-part-requires-2 (
-  ended-reads.Asked,
-  ended-reads.Learnt,
-  part-reads.Asked,
-  part-reads.Learnt,
-  make-target-reads.Asked,
-  make-target-reads.Learnt,
-  wanting-reads.Asked,
-  wanting-reads.Learnt,
-  check-domain-below t,
-  check-domain.Post,
-) (begin-check-at t) begin-check.Post
+begin-check-part-requires-2 : (t : ℕ) → begin-check-lts.Need-part-requires-2 (begin-check-claims t) (begin-check-at t) begin-check.Post
 begin-check-part-requires-2 t c κs = search needs
 
-begin-check-check-domain-requires : (t : ℕ) → begin-check-lts.Need-check-domain-requires (
-  ended-reads.Asked,
-  ended-reads.Learnt,
-  part-reads.Asked,
-  part-reads.Learnt,
-  make-target-reads.Asked,
-  make-target-reads.Learnt,
-  wanting-reads.Asked,
-  wanting-reads.Learnt,
-  check-domain-below t,
-  check-domain.Post,
-) (begin-check-at t) begin-check.Post
+begin-check-check-domain-requires : (t : ℕ) → begin-check-lts.Need-check-domain-requires (begin-check-claims t) (begin-check-at t) begin-check.Post
 begin-check-check-domain-requires t c κs = (omega arith, search (target-small, needs))
 
-begin-check-same-length : (t : ℕ) → begin-check-lts.Need-same-length (
-  ended-reads.Asked,
-  ended-reads.Learnt,
-  part-reads.Asked,
-  part-reads.Learnt,
-  make-target-reads.Asked,
-  make-target-reads.Learnt,
-  wanting-reads.Asked,
-  wanting-reads.Learnt,
-  check-domain-below t,
-  check-domain.Post,
-) (begin-check-at t) begin-check.Post
+begin-check-same-length : (t : ℕ) → begin-check-lts.Need-same-length (begin-check-claims t) (begin-check-at t) begin-check.Post
 begin-check-same-length t c = cc
 
-begin-check-returns-2 : (t : ℕ) → begin-check-lts.Need-returns-2 (
-  ended-reads.Asked,
-  ended-reads.Learnt,
-  part-reads.Asked,
-  part-reads.Learnt,
-  make-target-reads.Asked,
-  make-target-reads.Learnt,
-  wanting-reads.Asked,
-  wanting-reads.Learnt,
-  check-domain-below t,
-  check-domain.Post,
-) (begin-check-at t) begin-check.Post
+begin-check-returns-2 : (t : ℕ) → begin-check-lts.Need-returns-2 (begin-check-claims t) (begin-check-at t) begin-check.Post
 begin-check-returns-2 t c = search begin-malformed
 
-begin-check-same-length-2 : (t : ℕ) → begin-check-lts.Need-same-length-2 (
-  ended-reads.Asked,
-  ended-reads.Learnt,
-  part-reads.Asked,
-  part-reads.Learnt,
-  make-target-reads.Asked,
-  make-target-reads.Learnt,
-  wanting-reads.Asked,
-  wanting-reads.Learnt,
-  check-domain-below t,
-  check-domain.Post,
-) (begin-check-at t) begin-check.Post
+begin-check-same-length-2 : (t : ℕ) → begin-check-lts.Need-same-length-2 (begin-check-claims t) (begin-check-at t) begin-check.Post
 begin-check-same-length-2 t c = cc
 
-begin-check-returns-3 : (t : ℕ) → begin-check-lts.Need-returns-3 (
-  ended-reads.Asked,
-  ended-reads.Learnt,
-  part-reads.Asked,
-  part-reads.Learnt,
-  make-target-reads.Asked,
-  make-target-reads.Learnt,
-  wanting-reads.Asked,
-  wanting-reads.Learnt,
-  check-domain-below t,
-  check-domain.Post,
-) (begin-check-at t) begin-check.Post
+begin-check-returns-3 : (t : ℕ) → begin-check-lts.Need-returns-3 (begin-check-claims t) (begin-check-at t) begin-check.Post
 begin-check-returns-3 t c = search begin-wants
 
-begin-check-same-length-3 : (t : ℕ) → begin-check-lts.Need-same-length-3 (
-  ended-reads.Asked,
-  ended-reads.Learnt,
-  part-reads.Asked,
-  part-reads.Learnt,
-  make-target-reads.Asked,
-  make-target-reads.Learnt,
-  wanting-reads.Asked,
-  wanting-reads.Learnt,
-  check-domain-below t,
-  check-domain.Post,
-) (begin-check-at t) begin-check.Post
+begin-check-same-length-3 : (t : ℕ) → begin-check-lts.Need-same-length-3 (begin-check-claims t) (begin-check-at t) begin-check.Post
 begin-check-same-length-3 t c = cc
 
-begin-check-returns-4 : (t : ℕ) → begin-check-lts.Need-returns-4 (
-  ended-reads.Asked,
-  ended-reads.Learnt,
-  part-reads.Asked,
-  part-reads.Learnt,
-  make-target-reads.Asked,
-  make-target-reads.Learnt,
-  wanting-reads.Asked,
-  wanting-reads.Learnt,
-  check-domain-below t,
-  check-domain.Post,
-) (begin-check-at t) begin-check.Post
+begin-check-returns-4 : (t : ℕ) → begin-check-lts.Need-returns-4 (begin-check-claims t) (begin-check-at t) begin-check.Post
 begin-check-returns-4 t c = search begin-checked
 
-check-domain-count-labels-requires : (t : ℕ) → check-domain-lts.Need-count-labels-requires (
-  count-labels-reads.Asked,
-  count-labels-reads.Learnt,
-  ended-reads.Asked,
-  ended-reads.Learnt,
-  select-record-reads.Asked,
-  select-record-reads.Learnt,
-  wanting-reads.Asked,
-  wanting-reads.Learnt,
-  evaluate-record-below t,
-  evaluate-record.Post,
-) (check-domain-at t) check-domain.Post
+check-domain-count-labels-requires : (t : ℕ) → check-domain-lts.Need-count-labels-requires (check-domain-claims t) (check-domain-at t) check-domain.Post
 check-domain-count-labels-requires t c κs = search needs
 
-check-domain-ended-requires : (t : ℕ) → check-domain-lts.Need-ended-requires (
-  count-labels-reads.Asked,
-  count-labels-reads.Learnt,
-  ended-reads.Asked,
-  ended-reads.Learnt,
-  select-record-reads.Asked,
-  select-record-reads.Learnt,
-  wanting-reads.Asked,
-  wanting-reads.Learnt,
-  evaluate-record-below t,
-  evaluate-record.Post,
-) (check-domain-at t) check-domain.Post
+check-domain-ended-requires : (t : ℕ) → check-domain-lts.Need-ended-requires (check-domain-claims t) (check-domain-at t) check-domain.Post
 check-domain-ended-requires t c κs = search needs
 
-check-domain-returns : (t : ℕ) → check-domain-lts.Need-returns (
-  count-labels-reads.Asked,
-  count-labels-reads.Learnt,
-  ended-reads.Asked,
-  ended-reads.Learnt,
-  select-record-reads.Asked,
-  select-record-reads.Learnt,
-  wanting-reads.Asked,
-  wanting-reads.Learnt,
-  evaluate-record-below t,
-  evaluate-record.Post,
-) (check-domain-at t) check-domain.Post
+check-domain-returns : (t : ℕ) → check-domain-lts.Need-returns (check-domain-claims t) (check-domain-at t) check-domain.Post
 check-domain-returns t c = search domain-single
 
-check-domain-select-record-requires : (t : ℕ) → check-domain-lts.Need-select-record-requires (
-  count-labels-reads.Asked,
-  count-labels-reads.Learnt,
-  ended-reads.Asked,
-  ended-reads.Learnt,
-  select-record-reads.Asked,
-  select-record-reads.Learnt,
-  wanting-reads.Asked,
-  wanting-reads.Learnt,
-  evaluate-record-below t,
-  evaluate-record.Post,
-) (check-domain-at t) check-domain.Post
+check-domain-select-record-requires : (t : ℕ) → check-domain-lts.Need-select-record-requires (check-domain-claims t) (check-domain-at t) check-domain.Post
 check-domain-select-record-requires t c κs = search needs
 
-check-domain-enum-known-value : (t : ℕ) → check-domain-lts.Need-enum-known-value (
-  count-labels-reads.Asked,
-  count-labels-reads.Learnt,
-  ended-reads.Asked,
-  ended-reads.Learnt,
-  select-record-reads.Asked,
-  select-record-reads.Learnt,
-  wanting-reads.Asked,
-  wanting-reads.Learnt,
-  evaluate-record-below t,
-  evaluate-record.Post,
-) (check-domain-at t) check-domain.Post
+check-domain-enum-known-value : (t : ℕ) → check-domain-lts.Need-enum-known-value (check-domain-claims t) (check-domain-at t) check-domain.Post
 check-domain-enum-known-value t c = search needs
 
-check-domain-ended-requires-2 : (t : ℕ) → check-domain-lts.Need-ended-requires-2 (
-  count-labels-reads.Asked,
-  count-labels-reads.Learnt,
-  ended-reads.Asked,
-  ended-reads.Learnt,
-  select-record-reads.Asked,
-  select-record-reads.Learnt,
-  wanting-reads.Asked,
-  wanting-reads.Learnt,
-  evaluate-record-below t,
-  evaluate-record.Post,
-) (check-domain-at t) check-domain.Post
+check-domain-ended-requires-2 : (t : ℕ) → check-domain-lts.Need-ended-requires-2 (check-domain-claims t) (check-domain-at t) check-domain.Post
 check-domain-ended-requires-2 t c κs = search needs
 
-check-domain-enum-known-kind : (t : ℕ) → check-domain-lts.Need-enum-known-kind (
-  count-labels-reads.Asked,
-  count-labels-reads.Learnt,
-  ended-reads.Asked,
-  ended-reads.Learnt,
-  select-record-reads.Asked,
-  select-record-reads.Learnt,
-  wanting-reads.Asked,
-  wanting-reads.Learnt,
-  evaluate-record-below t,
-  evaluate-record.Post,
-) (check-domain-at t) check-domain.Post
+check-domain-enum-known-kind : (t : ℕ) → check-domain-lts.Need-enum-known-kind (check-domain-claims t) (check-domain-at t) check-domain.Post
 check-domain-enum-known-kind t c = search needs
 
-check-domain-wanting-requires : (t : ℕ) → check-domain-lts.Need-wanting-requires (
-  count-labels-reads.Asked,
-  count-labels-reads.Learnt,
-  ended-reads.Asked,
-  ended-reads.Learnt,
-  select-record-reads.Asked,
-  select-record-reads.Learnt,
-  wanting-reads.Asked,
-  wanting-reads.Learnt,
-  evaluate-record-below t,
-  evaluate-record.Post,
-) (check-domain-at t) check-domain.Post
+check-domain-wanting-requires : (t : ℕ) → check-domain-lts.Need-wanting-requires (check-domain-claims t) (check-domain-at t) check-domain.Post
 check-domain-wanting-requires t c κs = search needs
 
-check-domain-enum-known-place : (t : ℕ) → check-domain-lts.Need-enum-known-place (
-  count-labels-reads.Asked,
-  count-labels-reads.Learnt,
-  ended-reads.Asked,
-  ended-reads.Learnt,
-  select-record-reads.Asked,
-  select-record-reads.Learnt,
-  wanting-reads.Asked,
-  wanting-reads.Learnt,
-  evaluate-record-below t,
-  evaluate-record.Post,
-) (check-domain-at t) check-domain.Post
+check-domain-enum-known-place : (t : ℕ) → check-domain-lts.Need-enum-known-place (check-domain-claims t) (check-domain-at t) check-domain.Post
 check-domain-enum-known-place t c = search needs
 
-check-domain-evaluate-record-requires : (t : ℕ) → check-domain-lts.Need-evaluate-record-requires (
-  count-labels-reads.Asked,
-  count-labels-reads.Learnt,
-  ended-reads.Asked,
-  ended-reads.Learnt,
-  select-record-reads.Asked,
-  select-record-reads.Learnt,
-  wanting-reads.Asked,
-  wanting-reads.Learnt,
-  evaluate-record-below t,
-  evaluate-record.Post,
-) (check-domain-at t) check-domain.Post
+check-domain-evaluate-record-requires : (t : ℕ) → check-domain-lts.Need-evaluate-record-requires (check-domain-claims t) (check-domain-at t) check-domain.Post
 check-domain-evaluate-record-requires t c κs = (omega arith, search (place-small, needs))
 
-check-domain-same-length : (t : ℕ) → check-domain-lts.Need-same-length (
-  count-labels-reads.Asked,
-  count-labels-reads.Learnt,
-  ended-reads.Asked,
-  ended-reads.Learnt,
-  select-record-reads.Asked,
-  select-record-reads.Learnt,
-  wanting-reads.Asked,
-  wanting-reads.Learnt,
-  evaluate-record-below t,
-  evaluate-record.Post,
-) (check-domain-at t) check-domain.Post
+check-domain-same-length : (t : ℕ) → check-domain-lts.Need-same-length (check-domain-claims t) (check-domain-at t) check-domain.Post
 check-domain-same-length t c = cc
 
-check-domain-returns-2 : (t : ℕ) → check-domain-lts.Need-returns-2 (
-  count-labels-reads.Asked,
-  count-labels-reads.Learnt,
-  ended-reads.Asked,
-  ended-reads.Learnt,
-  select-record-reads.Asked,
-  select-record-reads.Learnt,
-  wanting-reads.Asked,
-  wanting-reads.Learnt,
-  evaluate-record-below t,
-  evaluate-record.Post,
-) (check-domain-at t) check-domain.Post
+check-domain-returns-2 : (t : ℕ) → check-domain-lts.Need-returns-2 (check-domain-claims t) (check-domain-at t) check-domain.Post
 check-domain-returns-2 t c = search domain-ends
 
-check-domain-same-length-2 : (t : ℕ) → check-domain-lts.Need-same-length-2 (
-  count-labels-reads.Asked,
-  count-labels-reads.Learnt,
-  ended-reads.Asked,
-  ended-reads.Learnt,
-  select-record-reads.Asked,
-  select-record-reads.Learnt,
-  wanting-reads.Asked,
-  wanting-reads.Learnt,
-  evaluate-record-below t,
-  evaluate-record.Post,
-) (check-domain-at t) check-domain.Post
+check-domain-same-length-2 : (t : ℕ) → check-domain-lts.Need-same-length-2 (check-domain-claims t) (check-domain-at t) check-domain.Post
 check-domain-same-length-2 t c = cc
 
-check-domain-returns-3 : (t : ℕ) → check-domain-lts.Need-returns-3 (
-  count-labels-reads.Asked,
-  count-labels-reads.Learnt,
-  ended-reads.Asked,
-  ended-reads.Learnt,
-  select-record-reads.Asked,
-  select-record-reads.Learnt,
-  wanting-reads.Asked,
-  wanting-reads.Learnt,
-  evaluate-record-below t,
-  evaluate-record.Post,
-) (check-domain-at t) check-domain.Post
+check-domain-returns-3 : (t : ℕ) → check-domain-lts.Need-returns-3 (check-domain-claims t) (check-domain-at t) check-domain.Post
 check-domain-returns-3 t c = search domain-wants
 
-check-domain-same-length-3 : (t : ℕ) → check-domain-lts.Need-same-length-3 (
-  count-labels-reads.Asked,
-  count-labels-reads.Learnt,
-  ended-reads.Asked,
-  ended-reads.Learnt,
-  select-record-reads.Asked,
-  select-record-reads.Learnt,
-  wanting-reads.Asked,
-  wanting-reads.Learnt,
-  evaluate-record-below t,
-  evaluate-record.Post,
-) (check-domain-at t) check-domain.Post
+check-domain-same-length-3 : (t : ℕ) → check-domain-lts.Need-same-length-3 (check-domain-claims t) (check-domain-at t) check-domain.Post
 check-domain-same-length-3 t c = cc
 
-check-domain-returns-4 : (t : ℕ) → check-domain-lts.Need-returns-4 (
-  count-labels-reads.Asked,
-  count-labels-reads.Learnt,
-  ended-reads.Asked,
-  ended-reads.Learnt,
-  select-record-reads.Asked,
-  select-record-reads.Learnt,
-  wanting-reads.Asked,
-  wanting-reads.Learnt,
-  evaluate-record-below t,
-  evaluate-record.Post,
-) (check-domain-at t) check-domain.Post
+check-domain-returns-4 : (t : ℕ) → check-domain-lts.Need-returns-4 (check-domain-claims t) (check-domain-at t) check-domain.Post
 check-domain-returns-4 t c = search domain-one
 
-evaluate-record-part-requires : (t : ℕ) → evaluate-record-lts.Need-part-requires (
-  part-reads.Asked,
-  part-reads.Learnt,
-  read-record-reads.Asked,
-  read-record-reads.Learnt,
-  ended-reads.Asked,
-  ended-reads.Learnt,
-  try-terms-below t,
-  try-terms.Post,
-) (evaluate-record-at t) evaluate-record.Post
+evaluate-record-part-requires : (t : ℕ) → evaluate-record-lts.Need-part-requires (evaluate-record-claims t) (evaluate-record-at t) evaluate-record.Post
 evaluate-record-part-requires t c κs = search needs
 
-evaluate-record-read-record-requires : (t : ℕ) → evaluate-record-lts.Need-read-record-requires (
-  part-reads.Asked,
-  part-reads.Learnt,
-  read-record-reads.Asked,
-  read-record-reads.Learnt,
-  ended-reads.Asked,
-  ended-reads.Learnt,
-  try-terms-below t,
-  try-terms.Post,
-) (evaluate-record-at t) evaluate-record.Post
+evaluate-record-read-record-requires : (t : ℕ) → evaluate-record-lts.Need-read-record-requires (evaluate-record-claims t) (evaluate-record-at t) evaluate-record.Post
 evaluate-record-read-record-requires t c κs = search needs
 
-evaluate-record-enum-told : (t : ℕ) → evaluate-record-lts.Need-enum-told (
-  part-reads.Asked,
-  part-reads.Learnt,
-  read-record-reads.Asked,
-  read-record-reads.Learnt,
-  ended-reads.Asked,
-  ended-reads.Learnt,
-  try-terms-below t,
-  try-terms.Post,
-) (evaluate-record-at t) evaluate-record.Post
+evaluate-record-enum-told : (t : ℕ) → evaluate-record-lts.Need-enum-told (evaluate-record-claims t) (evaluate-record-at t) evaluate-record.Post
 evaluate-record-enum-told t c = search needs
 
-evaluate-record-ended-requires : (t : ℕ) → evaluate-record-lts.Need-ended-requires (
-  part-reads.Asked,
-  part-reads.Learnt,
-  read-record-reads.Asked,
-  read-record-reads.Learnt,
-  ended-reads.Asked,
-  ended-reads.Learnt,
-  try-terms-below t,
-  try-terms.Post,
-) (evaluate-record-at t) evaluate-record.Post
+evaluate-record-ended-requires : (t : ℕ) → evaluate-record-lts.Need-ended-requires (evaluate-record-claims t) (evaluate-record-at t) evaluate-record.Post
 evaluate-record-ended-requires t c κs = search needs
 
-evaluate-record-enum-known-first : (t : ℕ) → evaluate-record-lts.Need-enum-known-first (
-  part-reads.Asked,
-  part-reads.Learnt,
-  read-record-reads.Asked,
-  read-record-reads.Learnt,
-  ended-reads.Asked,
-  ended-reads.Learnt,
-  try-terms-below t,
-  try-terms.Post,
-) (evaluate-record-at t) evaluate-record.Post
+evaluate-record-enum-known-first : (t : ℕ) → evaluate-record-lts.Need-enum-known-first (evaluate-record-claims t) (evaluate-record-at t) evaluate-record.Post
 evaluate-record-enum-known-first t c = search needs
 
-evaluate-record-try-terms-requires : (t : ℕ) → evaluate-record-lts.Need-try-terms-requires (
-  part-reads.Asked,
-  part-reads.Learnt,
-  read-record-reads.Asked,
-  read-record-reads.Learnt,
-  ended-reads.Asked,
-  ended-reads.Learnt,
-  try-terms-below t,
-  try-terms.Post,
-) (evaluate-record-at t) evaluate-record.Post
+evaluate-record-try-terms-requires : (t : ℕ) → evaluate-record-lts.Need-try-terms-requires (evaluate-record-claims t) (evaluate-record-at t) evaluate-record.Post
 evaluate-record-try-terms-requires t c κs = (omega arith, search needs)
 
-evaluate-record-returns : (t : ℕ) → evaluate-record-lts.Need-returns (
-  part-reads.Asked,
-  part-reads.Learnt,
-  read-record-reads.Asked,
-  read-record-reads.Learnt,
-  ended-reads.Asked,
-  ended-reads.Learnt,
-  try-terms-below t,
-  try-terms.Post,
-) (evaluate-record-at t) evaluate-record.Post
+evaluate-record-returns : (t : ℕ) → evaluate-record-lts.Need-returns (evaluate-record-claims t) (evaluate-record-at t) evaluate-record.Post
 evaluate-record-returns t c = search record-refused
 
-evaluate-record-same-length : (t : ℕ) → evaluate-record-lts.Need-same-length (
-  part-reads.Asked,
-  part-reads.Learnt,
-  read-record-reads.Asked,
-  read-record-reads.Learnt,
-  ended-reads.Asked,
-  ended-reads.Learnt,
-  try-terms-below t,
-  try-terms.Post,
-) (evaluate-record-at t) evaluate-record.Post
+evaluate-record-same-length : (t : ℕ) → evaluate-record-lts.Need-same-length (evaluate-record-claims t) (evaluate-record-at t) evaluate-record.Post
 evaluate-record-same-length t c = cc
 
-evaluate-record-returns-2 : (t : ℕ) → evaluate-record-lts.Need-returns-2 (
-  part-reads.Asked,
-  part-reads.Learnt,
-  read-record-reads.Asked,
-  read-record-reads.Learnt,
-  ended-reads.Asked,
-  ended-reads.Learnt,
-  try-terms-below t,
-  try-terms.Post,
-) (evaluate-record-at t) evaluate-record.Post
+evaluate-record-returns-2 : (t : ℕ) → evaluate-record-lts.Need-returns-2 (evaluate-record-claims t) (evaluate-record-at t) evaluate-record.Post
 evaluate-record-returns-2 t c = search record-tried
 
-include-begin-check-requires : (t : ℕ) → include-lts.Need-begin-check-requires (
-  begin-check-below t,
-  begin-check.Post,
-  include-of-reads.Asked,
-  include-of-reads.Learnt,
-) (include-at t) include.Post
+include-begin-check-requires : (t : ℕ) → include-lts.Need-begin-check-requires (include-claims t) (include-at t) include.Post
 include-begin-check-requires t c κs = (omega arith, search needs)
 
-include-include-of-requires : (t : ℕ) → include-lts.Need-include-of-requires (
-  begin-check-below t,
-  begin-check.Post,
-  include-of-reads.Asked,
-  include-of-reads.Learnt,
-) (include-at t) include.Post
+include-include-of-requires : (t : ℕ) → include-lts.Need-include-of-requires (include-claims t) (include-at t) include.Post
 include-include-of-requires t c κs = search needs
 
-include-same-length : (t : ℕ) → include-lts.Need-same-length (
-  begin-check-below t,
-  begin-check.Post,
-  include-of-reads.Asked,
-  include-of-reads.Learnt,
-) (include-at t) include.Post
+include-same-length : (t : ℕ) → include-lts.Need-same-length (include-claims t) (include-at t) include.Post
 include-same-length t c = cc
 
-include-returns : (t : ℕ) → include-lts.Need-returns (
-  begin-check-below t,
-  begin-check.Post,
-  include-of-reads.Asked,
-  include-of-reads.Learnt,
-) (include-at t) include.Post
+include-returns : (t : ℕ) → include-lts.Need-returns (include-claims t) (include-at t) include.Post
 include-returns t c = search include-done
 
-no-match-find-redirect-requires : (t : ℕ) → no-match-lts.Need-find-redirect-requires (
-  find-redirect-reads.Asked,
-  find-redirect-reads.Learnt,
-  ended-reads.Asked,
-  ended-reads.Learnt,
-  part-reads.Asked,
-  part-reads.Learnt,
-  begin-check-below t,
-  begin-check.Post,
-  none-is-permerror-reads.Asked,
-  none-is-permerror-reads.Learnt,
-) (no-match-at t) no-match.Post
+no-match-find-redirect-requires : (t : ℕ) → no-match-lts.Need-find-redirect-requires (no-match-claims t) (no-match-at t) no-match.Post
 no-match-find-redirect-requires t c κs = search needs
 
-no-match-enum-known-from : (t : ℕ) → no-match-lts.Need-enum-known-from (
-  find-redirect-reads.Asked,
-  find-redirect-reads.Learnt,
-  ended-reads.Asked,
-  ended-reads.Learnt,
-  part-reads.Asked,
-  part-reads.Learnt,
-  begin-check-below t,
-  begin-check.Post,
-  none-is-permerror-reads.Asked,
-  none-is-permerror-reads.Learnt,
-) (no-match-at t) no-match.Post
+no-match-enum-known-from : (t : ℕ) → no-match-lts.Need-enum-known-from (no-match-claims t) (no-match-at t) no-match.Post
 no-match-enum-known-from t c = search needs
 
-no-match-enum-told : (t : ℕ) → no-match-lts.Need-enum-told (
-  find-redirect-reads.Asked,
-  find-redirect-reads.Learnt,
-  ended-reads.Asked,
-  ended-reads.Learnt,
-  part-reads.Asked,
-  part-reads.Learnt,
-  begin-check-below t,
-  begin-check.Post,
-  none-is-permerror-reads.Asked,
-  none-is-permerror-reads.Learnt,
-) (no-match-at t) no-match.Post
+no-match-enum-told : (t : ℕ) → no-match-lts.Need-enum-told (no-match-claims t) (no-match-at t) no-match.Post
 no-match-enum-told t c = search needs
 
-no-match-ended-requires : (t : ℕ) → no-match-lts.Need-ended-requires (
-  find-redirect-reads.Asked,
-  find-redirect-reads.Learnt,
-  ended-reads.Asked,
-  ended-reads.Learnt,
-  part-reads.Asked,
-  part-reads.Learnt,
-  begin-check-below t,
-  begin-check.Post,
-  none-is-permerror-reads.Asked,
-  none-is-permerror-reads.Learnt,
-) (no-match-at t) no-match.Post
+no-match-ended-requires : (t : ℕ) → no-match-lts.Need-ended-requires (no-match-claims t) (no-match-at t) no-match.Post
 no-match-ended-requires t c κs = search needs
 
-no-match-returns : (t : ℕ) → no-match-lts.Need-returns (
-  find-redirect-reads.Asked,
-  find-redirect-reads.Learnt,
-  ended-reads.Asked,
-  ended-reads.Learnt,
-  part-reads.Asked,
-  part-reads.Learnt,
-  begin-check-below t,
-  begin-check.Post,
-  none-is-permerror-reads.Asked,
-  none-is-permerror-reads.Learnt,
-) (no-match-at t) no-match.Post
+no-match-returns : (t : ℕ) → no-match-lts.Need-returns (no-match-claims t) (no-match-at t) no-match.Post
 no-match-returns t c = search nothing-left
 
-no-match-part-requires : (t : ℕ) → no-match-lts.Need-part-requires (
-  find-redirect-reads.Asked,
-  find-redirect-reads.Learnt,
-  ended-reads.Asked,
-  ended-reads.Learnt,
-  part-reads.Asked,
-  part-reads.Learnt,
-  begin-check-below t,
-  begin-check.Post,
-  none-is-permerror-reads.Asked,
-  none-is-permerror-reads.Learnt,
-) (no-match-at t) no-match.Post
+no-match-part-requires : (t : ℕ) → no-match-lts.Need-part-requires (no-match-claims t) (no-match-at t) no-match.Post
 no-match-part-requires t c κs = search needs
 
-no-match-begin-check-requires : (t : ℕ) → no-match-lts.Need-begin-check-requires (
-  find-redirect-reads.Asked,
-  find-redirect-reads.Learnt,
-  ended-reads.Asked,
-  ended-reads.Learnt,
-  part-reads.Asked,
-  part-reads.Learnt,
-  begin-check-below t,
-  begin-check.Post,
-  none-is-permerror-reads.Asked,
-  none-is-permerror-reads.Learnt,
-) (no-match-at t) no-match.Post
+no-match-begin-check-requires : (t : ℕ) → no-match-lts.Need-begin-check-requires (no-match-claims t) (no-match-at t) no-match.Post
 no-match-begin-check-requires t c κs = (omega arith, search needs)
 
-no-match-none-is-permerror-requires : (t : ℕ) → no-match-lts.Need-none-is-permerror-requires (
-  find-redirect-reads.Asked,
-  find-redirect-reads.Learnt,
-  ended-reads.Asked,
-  ended-reads.Learnt,
-  part-reads.Asked,
-  part-reads.Learnt,
-  begin-check-below t,
-  begin-check.Post,
-  none-is-permerror-reads.Asked,
-  none-is-permerror-reads.Learnt,
-) (no-match-at t) no-match.Post
+no-match-none-is-permerror-requires : (t : ℕ) → no-match-lts.Need-none-is-permerror-requires (no-match-claims t) (no-match-at t) no-match.Post
 no-match-none-is-permerror-requires t c κs = search needs
 
-no-match-same-length : (t : ℕ) → no-match-lts.Need-same-length (
-  find-redirect-reads.Asked,
-  find-redirect-reads.Learnt,
-  ended-reads.Asked,
-  ended-reads.Learnt,
-  part-reads.Asked,
-  part-reads.Learnt,
-  begin-check-below t,
-  begin-check.Post,
-  none-is-permerror-reads.Asked,
-  none-is-permerror-reads.Learnt,
-) (no-match-at t) no-match.Post
+no-match-same-length : (t : ℕ) → no-match-lts.Need-same-length (no-match-claims t) (no-match-at t) no-match.Post
 no-match-same-length t c = cc
 
-no-match-returns-2 : (t : ℕ) → no-match-lts.Need-returns-2 (
-  find-redirect-reads.Asked,
-  find-redirect-reads.Learnt,
-  ended-reads.Asked,
-  ended-reads.Learnt,
-  part-reads.Asked,
-  part-reads.Learnt,
-  begin-check-below t,
-  begin-check.Post,
-  none-is-permerror-reads.Asked,
-  none-is-permerror-reads.Learnt,
-) (no-match-at t) no-match.Post
+no-match-returns-2 : (t : ℕ) → no-match-lts.Need-returns-2 (no-match-claims t) (no-match-at t) no-match.Post
 no-match-returns-2 t c = search redirected
 
-try-term-part-requires : (t : ℕ) → try-term-lts.Need-part-requires (
-  part-reads.Asked,
-  part-reads.Learnt,
-  try-plain-reads.Asked,
-  try-plain-reads.Learnt,
-  include-below t,
-  include.Post,
-) (try-term-at t) try-term.Post
+try-term-part-requires : (t : ℕ) → try-term-lts.Need-part-requires (try-term-claims t) (try-term-at t) try-term.Post
 try-term-part-requires t c κs = search needs
 
-try-term-try-plain-requires : (t : ℕ) → try-term-lts.Need-try-plain-requires (
-  part-reads.Asked,
-  part-reads.Learnt,
-  try-plain-reads.Asked,
-  try-plain-reads.Learnt,
-  include-below t,
-  include.Post,
-) (try-term-at t) try-term.Post
+try-term-try-plain-requires : (t : ℕ) → try-term-lts.Need-try-plain-requires (try-term-claims t) (try-term-at t) try-term.Post
 try-term-try-plain-requires t c κs = search (span-small, needs)
 
-try-term-enum-known-step : (t : ℕ) → try-term-lts.Need-enum-known-step (
-  part-reads.Asked,
-  part-reads.Learnt,
-  try-plain-reads.Asked,
-  try-plain-reads.Learnt,
-  include-below t,
-  include.Post,
-) (try-term-at t) try-term.Post
+try-term-enum-known-step : (t : ℕ) → try-term-lts.Need-enum-known-step (try-term-claims t) (try-term-at t) try-term.Post
 try-term-enum-known-step t c = search needs
 
-try-term-enum-known-from : (t : ℕ) → try-term-lts.Need-enum-known-from (
-  part-reads.Asked,
-  part-reads.Learnt,
-  try-plain-reads.Asked,
-  try-plain-reads.Learnt,
-  include-below t,
-  include.Post,
-) (try-term-at t) try-term.Post
+try-term-enum-known-from : (t : ℕ) → try-term-lts.Need-enum-known-from (try-term-claims t) (try-term-at t) try-term.Post
 try-term-enum-known-from t c = search needs
 
-try-term-part-requires-2 : (t : ℕ) → try-term-lts.Need-part-requires-2 (
-  part-reads.Asked,
-  part-reads.Learnt,
-  try-plain-reads.Asked,
-  try-plain-reads.Learnt,
-  include-below t,
-  include.Post,
-) (try-term-at t) try-term.Post
+try-term-part-requires-2 : (t : ℕ) → try-term-lts.Need-part-requires-2 (try-term-claims t) (try-term-at t) try-term.Post
 try-term-part-requires-2 t c κs = search needs
 
-try-term-include-requires : (t : ℕ) → try-term-lts.Need-include-requires (
-  part-reads.Asked,
-  part-reads.Learnt,
-  try-plain-reads.Asked,
-  try-plain-reads.Learnt,
-  include-below t,
-  include.Post,
-) (try-term-at t) try-term.Post
+try-term-include-requires : (t : ℕ) → try-term-lts.Need-include-requires (try-term-claims t) (try-term-at t) try-term.Post
 try-term-include-requires t c κs = (omega arith, search needs)
 
-try-term-same-length : (t : ℕ) → try-term-lts.Need-same-length (
-  part-reads.Asked,
-  part-reads.Learnt,
-  try-plain-reads.Asked,
-  try-plain-reads.Learnt,
-  include-below t,
-  include.Post,
-) (try-term-at t) try-term.Post
+try-term-same-length : (t : ℕ) → try-term-lts.Need-same-length (try-term-claims t) (try-term-at t) try-term.Post
 try-term-same-length t c = cc
 
-try-term-returns : (t : ℕ) → try-term-lts.Need-returns (
-  part-reads.Asked,
-  part-reads.Learnt,
-  try-plain-reads.Asked,
-  try-plain-reads.Learnt,
-  include-below t,
-  include.Post,
-) (try-term-at t) try-term.Post
+try-term-returns : (t : ℕ) → try-term-lts.Need-returns (try-term-claims t) (try-term-at t) try-term.Post
 try-term-returns t c = search tried-step
 
-try-term-same-length-2 : (t : ℕ) → try-term-lts.Need-same-length-2 (
-  part-reads.Asked,
-  part-reads.Learnt,
-  try-plain-reads.Asked,
-  try-plain-reads.Learnt,
-  include-below t,
-  include.Post,
-) (try-term-at t) try-term.Post
+try-term-same-length-2 : (t : ℕ) → try-term-lts.Need-same-length-2 (try-term-claims t) (try-term-at t) try-term.Post
 try-term-same-length-2 t c = cc
 
-try-term-returns-2 : (t : ℕ) → try-term-lts.Need-returns-2 (
-  part-reads.Asked,
-  part-reads.Learnt,
-  try-plain-reads.Asked,
-  try-plain-reads.Learnt,
-  include-below t,
-  include.Post,
-) (try-term-at t) try-term.Post
+try-term-returns-2 : (t : ℕ) → try-term-lts.Need-returns-2 (try-term-claims t) (try-term-at t) try-term.Post
 try-term-returns-2 t c = search tried-include
 
 abbrev try-terms-Inv-loop : try-terms-lts.InvT-loop
@@ -1027,312 +394,70 @@ try-terms-Inv-loop client sender helo receiver seconds table domain text first o
 abbrev try-terms-μ-loop : try-terms-lts.MeasureT-loop
 try-terms-μ-loop client sender helo receiver seconds table domain text first out₀ s at₀ so-far₀ out at so-far = length s + 1 - at
 
-try-terms-part-requires : (t : ℕ) → try-terms-lts.Need-part-requires (
-  part-reads.Asked,
-  part-reads.Learnt,
-  read-term-reads.Asked,
-  read-term-reads.Learnt,
-  no-match-below t,
-  no-match.Post,
-  try-term-below t,
-  try-term.Post,
-  signed-reads.Asked,
-  signed-reads.Learnt,
-) (try-terms-at t) try-terms.Post try-terms-Inv-loop try-terms-μ-loop
+try-terms-part-requires : (t : ℕ) → try-terms-lts.Need-part-requires (try-terms-claims t) (try-terms-at t) try-terms.Post try-terms-Inv-loop try-terms-μ-loop
 try-terms-part-requires t c κs = search needs
 
-try-terms-loop-holds : (t : ℕ) → try-terms-lts.Need-loop-holds (
-  part-reads.Asked,
-  part-reads.Learnt,
-  read-term-reads.Asked,
-  read-term-reads.Learnt,
-  no-match-below t,
-  no-match.Post,
-  try-term-below t,
-  try-term.Post,
-  signed-reads.Asked,
-  signed-reads.Learnt,
-) (try-terms-at t) try-terms.Post try-terms-Inv-loop try-terms-μ-loop
+try-terms-loop-holds : (t : ℕ) → try-terms-lts.Need-loop-holds (try-terms-claims t) (try-terms-at t) try-terms.Post try-terms-Inv-loop try-terms-μ-loop
 try-terms-loop-holds t c = search walk-start
 
-try-terms-read-term-requires : (t : ℕ) → try-terms-lts.Need-read-term-requires (
-  part-reads.Asked,
-  part-reads.Learnt,
-  read-term-reads.Asked,
-  read-term-reads.Learnt,
-  no-match-below t,
-  no-match.Post,
-  try-term-below t,
-  try-term.Post,
-  signed-reads.Asked,
-  signed-reads.Learnt,
-) (try-terms-at t) try-terms.Post try-terms-Inv-loop try-terms-μ-loop
+try-terms-read-term-requires : (t : ℕ) → try-terms-lts.Need-read-term-requires (try-terms-claims t) (try-terms-at t) try-terms.Post try-terms-Inv-loop try-terms-μ-loop
 try-terms-read-term-requires t c κs = search needs
 
-try-terms-enum-known-place : (t : ℕ) → try-terms-lts.Need-enum-known-place (
-  part-reads.Asked,
-  part-reads.Learnt,
-  read-term-reads.Asked,
-  read-term-reads.Learnt,
-  no-match-below t,
-  no-match.Post,
-  try-term-below t,
-  try-term.Post,
-  signed-reads.Asked,
-  signed-reads.Learnt,
-) (try-terms-at t) try-terms.Post try-terms-Inv-loop try-terms-μ-loop
+try-terms-enum-known-place : (t : ℕ) → try-terms-lts.Need-enum-known-place (try-terms-claims t) (try-terms-at t) try-terms.Post try-terms-Inv-loop try-terms-μ-loop
 try-terms-enum-known-place t c = search needs
 
-try-terms-no-match-requires : (t : ℕ) → try-terms-lts.Need-no-match-requires (
-  part-reads.Asked,
-  part-reads.Learnt,
-  read-term-reads.Asked,
-  read-term-reads.Learnt,
-  no-match-below t,
-  no-match.Post,
-  try-term-below t,
-  try-term.Post,
-  signed-reads.Asked,
-  signed-reads.Learnt,
-) (try-terms-at t) try-terms.Post try-terms-Inv-loop try-terms-μ-loop
+try-terms-no-match-requires : (t : ℕ) → try-terms-lts.Need-no-match-requires (try-terms-claims t) (try-terms-at t) try-terms.Post try-terms-Inv-loop try-terms-μ-loop
 try-terms-no-match-requires t c κs = (omega arith, search (walk-small, walk-few, needs))
 
-try-terms-same-length : (t : ℕ) → try-terms-lts.Need-same-length (
-  part-reads.Asked,
-  part-reads.Learnt,
-  read-term-reads.Asked,
-  read-term-reads.Learnt,
-  no-match-below t,
-  no-match.Post,
-  try-term-below t,
-  try-term.Post,
-  signed-reads.Asked,
-  signed-reads.Learnt,
-) (try-terms-at t) try-terms.Post try-terms-Inv-loop try-terms-μ-loop
+try-terms-same-length : (t : ℕ) → try-terms-lts.Need-same-length (try-terms-claims t) (try-terms-at t) try-terms.Post try-terms-Inv-loop try-terms-μ-loop
 try-terms-same-length t c = cc
 
-try-terms-returns : (t : ℕ) → try-terms-lts.Need-returns (
-  part-reads.Asked,
-  part-reads.Learnt,
-  read-term-reads.Asked,
-  read-term-reads.Learnt,
-  no-match-below t,
-  no-match.Post,
-  try-term-below t,
-  try-term.Post,
-  signed-reads.Asked,
-  signed-reads.Learnt,
-) (try-terms-at t) try-terms.Post try-terms-Inv-loop try-terms-μ-loop
+try-terms-returns : (t : ℕ) → try-terms-lts.Need-returns (try-terms-claims t) (try-terms-at t) try-terms.Post try-terms-Inv-loop try-terms-μ-loop
 try-terms-returns t c = search walk-ended
 
-try-terms-part-requires-2 : (t : ℕ) → try-terms-lts.Need-part-requires-2 (
-  part-reads.Asked,
-  part-reads.Learnt,
-  read-term-reads.Asked,
-  read-term-reads.Learnt,
-  no-match-below t,
-  no-match.Post,
-  try-term-below t,
-  try-term.Post,
-  signed-reads.Asked,
-  signed-reads.Learnt,
-) (try-terms-at t) try-terms.Post try-terms-Inv-loop try-terms-μ-loop
+try-terms-part-requires-2 : (t : ℕ) → try-terms-lts.Need-part-requires-2 (try-terms-claims t) (try-terms-at t) try-terms.Post try-terms-Inv-loop try-terms-μ-loop
 try-terms-part-requires-2 t c κs = search needs
 
-try-terms-try-term-requires : (t : ℕ) → try-terms-lts.Need-try-term-requires (
-  part-reads.Asked,
-  part-reads.Learnt,
-  read-term-reads.Asked,
-  read-term-reads.Learnt,
-  no-match-below t,
-  no-match.Post,
-  try-term-below t,
-  try-term.Post,
-  signed-reads.Asked,
-  signed-reads.Learnt,
-) (try-terms-at t) try-terms.Post try-terms-Inv-loop try-terms-μ-loop
+try-terms-try-term-requires : (t : ℕ) → try-terms-lts.Need-try-term-requires (try-terms-claims t) (try-terms-at t) try-terms.Post try-terms-Inv-loop try-terms-μ-loop
 try-terms-try-term-requires t c κs = (omega arith, search (walk-small, walk-few, needs))
 
-try-terms-enum-told : (t : ℕ) → try-terms-lts.Need-enum-told (
-  part-reads.Asked,
-  part-reads.Learnt,
-  read-term-reads.Asked,
-  read-term-reads.Learnt,
-  no-match-below t,
-  no-match.Post,
-  try-term-below t,
-  try-term.Post,
-  signed-reads.Asked,
-  signed-reads.Learnt,
-) (try-terms-at t) try-terms.Post try-terms-Inv-loop try-terms-μ-loop
+try-terms-enum-told : (t : ℕ) → try-terms-lts.Need-enum-told (try-terms-claims t) (try-terms-at t) try-terms.Post try-terms-Inv-loop try-terms-μ-loop
 try-terms-enum-told t c = search needs
 
-try-terms-signed-requires : (t : ℕ) → try-terms-lts.Need-signed-requires (
-  part-reads.Asked,
-  part-reads.Learnt,
-  read-term-reads.Asked,
-  read-term-reads.Learnt,
-  no-match-below t,
-  no-match.Post,
-  try-term-below t,
-  try-term.Post,
-  signed-reads.Asked,
-  signed-reads.Learnt,
-) (try-terms-at t) try-terms.Post try-terms-Inv-loop try-terms-μ-loop
+try-terms-signed-requires : (t : ℕ) → try-terms-lts.Need-signed-requires (try-terms-claims t) (try-terms-at t) try-terms.Post try-terms-Inv-loop try-terms-μ-loop
 try-terms-signed-requires t c κs = search needs
 
-try-terms-same-length-2 : (t : ℕ) → try-terms-lts.Need-same-length-2 (
-  part-reads.Asked,
-  part-reads.Learnt,
-  read-term-reads.Asked,
-  read-term-reads.Learnt,
-  no-match-below t,
-  no-match.Post,
-  try-term-below t,
-  try-term.Post,
-  signed-reads.Asked,
-  signed-reads.Learnt,
-) (try-terms-at t) try-terms.Post try-terms-Inv-loop try-terms-μ-loop
+try-terms-same-length-2 : (t : ℕ) → try-terms-lts.Need-same-length-2 (try-terms-claims t) (try-terms-at t) try-terms.Post try-terms-Inv-loop try-terms-μ-loop
 try-terms-same-length-2 t c = walk-room _ _ _ _ _ _ _ _ _ _ (c .before .before .before .before .before .before .before .before .before .before .before .before .before .before .loop .inv) _ _ _ _ (c .before .before .before .before .before .before .try-term .ensures) (c .before .enum-told .given .1)
 
-try-terms-returns-2 : (t : ℕ) → try-terms-lts.Need-returns-2 (
-  part-reads.Asked,
-  part-reads.Learnt,
-  read-term-reads.Asked,
-  read-term-reads.Learnt,
-  no-match-below t,
-  no-match.Post,
-  try-term-below t,
-  try-term.Post,
-  signed-reads.Asked,
-  signed-reads.Learnt,
-) (try-terms-at t) try-terms.Post try-terms-Inv-loop try-terms-μ-loop
+try-terms-returns-2 : (t : ℕ) → try-terms-lts.Need-returns-2 (try-terms-claims t) (try-terms-at t) try-terms.Post try-terms-Inv-loop try-terms-μ-loop
 try-terms-returns-2 t c = walk-yes _ _ _ _ _ _ _ _ _ _ _ _ _ (c .signed .ensures) refl refl _ _ _ _ (c .before .before .before .before .before .before .before .before .before .before .before .before .before .before .loop .inv) (c .before .before .before .before .before .before .before .before .before .before .before .before .before .before .before .part .ensures) _ (c .before .before .before .before .before .before .before .before .before .before .before .before .read-term .ensures .0) _ _ (c .before .before .before .before .before .before .before .before .before .before .place .given .1) (c .before .before .before .before .before .before .before .before .before .before .before .before .before .loop-test .taken) _ (c .before .before .before .before .before .before .before .before .part2 .ensures) (c .before .before .before .before .before .before .try-term .ensures) (c .before .enum-told .given .1)
 
-try-terms-enum-known-matched : (t : ℕ) → try-terms-lts.Need-enum-known-matched (
-  part-reads.Asked,
-  part-reads.Learnt,
-  read-term-reads.Asked,
-  read-term-reads.Learnt,
-  no-match-below t,
-  no-match.Post,
-  try-term-below t,
-  try-term.Post,
-  signed-reads.Asked,
-  signed-reads.Learnt,
-) (try-terms-at t) try-terms.Post try-terms-Inv-loop try-terms-μ-loop
+try-terms-enum-known-matched : (t : ℕ) → try-terms-lts.Need-enum-known-matched (try-terms-claims t) (try-terms-at t) try-terms.Post try-terms-Inv-loop try-terms-μ-loop
 try-terms-enum-known-matched t c = search needs
 
-try-terms-same-length-3 : (t : ℕ) → try-terms-lts.Need-same-length-3 (
-  part-reads.Asked,
-  part-reads.Learnt,
-  read-term-reads.Asked,
-  read-term-reads.Learnt,
-  no-match-below t,
-  no-match.Post,
-  try-term-below t,
-  try-term.Post,
-  signed-reads.Asked,
-  signed-reads.Learnt,
-) (try-terms-at t) try-terms.Post try-terms-Inv-loop try-terms-μ-loop
+try-terms-same-length-3 : (t : ℕ) → try-terms-lts.Need-same-length-3 (try-terms-claims t) (try-terms-at t) try-terms.Post try-terms-Inv-loop try-terms-μ-loop
 try-terms-same-length-3 t c = cc
 
-try-terms-returns-3 : (t : ℕ) → try-terms-lts.Need-returns-3 (
-  part-reads.Asked,
-  part-reads.Learnt,
-  read-term-reads.Asked,
-  read-term-reads.Learnt,
-  no-match-below t,
-  no-match.Post,
-  try-term-below t,
-  try-term.Post,
-  signed-reads.Asked,
-  signed-reads.Learnt,
-) (try-terms-at t) try-terms.Post try-terms-Inv-loop try-terms-μ-loop
+try-terms-returns-3 : (t : ℕ) → try-terms-lts.Need-returns-3 (try-terms-claims t) (try-terms-at t) try-terms.Post try-terms-Inv-loop try-terms-μ-loop
 try-terms-returns-3 t c = search walk-stop
 
-try-terms-enum-told-2 : (t : ℕ) → try-terms-lts.Need-enum-told-2 (
-  part-reads.Asked,
-  part-reads.Learnt,
-  read-term-reads.Asked,
-  read-term-reads.Learnt,
-  no-match-below t,
-  no-match.Post,
-  try-term-below t,
-  try-term.Post,
-  signed-reads.Asked,
-  signed-reads.Learnt,
-) (try-terms-at t) try-terms.Post try-terms-Inv-loop try-terms-μ-loop
+try-terms-enum-told-2 : (t : ℕ) → try-terms-lts.Need-enum-told-2 (try-terms-claims t) (try-terms-at t) try-terms.Post try-terms-Inv-loop try-terms-μ-loop
 try-terms-enum-told-2 t c = search needs
 
-try-terms-loop-less : (t : ℕ) → try-terms-lts.Need-loop-less (
-  part-reads.Asked,
-  part-reads.Learnt,
-  read-term-reads.Asked,
-  read-term-reads.Learnt,
-  no-match-below t,
-  no-match.Post,
-  try-term-below t,
-  try-term.Post,
-  signed-reads.Asked,
-  signed-reads.Learnt,
-) (try-terms-at t) try-terms.Post try-terms-Inv-loop try-terms-μ-loop
+try-terms-loop-less : (t : ℕ) → try-terms-lts.Need-loop-less (try-terms-claims t) (try-terms-at t) try-terms.Post try-terms-Inv-loop try-terms-μ-loop
 try-terms-loop-less t c = search walk-less
 
-try-terms-loop-again : (t : ℕ) → try-terms-lts.Need-loop-again (
-  part-reads.Asked,
-  part-reads.Learnt,
-  read-term-reads.Asked,
-  read-term-reads.Learnt,
-  no-match-below t,
-  no-match.Post,
-  try-term-below t,
-  try-term.Post,
-  signed-reads.Asked,
-  signed-reads.Learnt,
-) (try-terms-at t) try-terms.Post try-terms-Inv-loop try-terms-μ-loop
+try-terms-loop-again : (t : ℕ) → try-terms-lts.Need-loop-again (try-terms-claims t) (try-terms-at t) try-terms.Post try-terms-Inv-loop try-terms-μ-loop
 try-terms-loop-again t c = search walk-no
 
-try-terms-no-match-requires-2 : (t : ℕ) → try-terms-lts.Need-no-match-requires-2 (
-  part-reads.Asked,
-  part-reads.Learnt,
-  read-term-reads.Asked,
-  read-term-reads.Learnt,
-  no-match-below t,
-  no-match.Post,
-  try-term-below t,
-  try-term.Post,
-  signed-reads.Asked,
-  signed-reads.Learnt,
-) (try-terms-at t) try-terms.Post try-terms-Inv-loop try-terms-μ-loop
+try-terms-no-match-requires-2 : (t : ℕ) → try-terms-lts.Need-no-match-requires-2 (try-terms-claims t) (try-terms-at t) try-terms.Post try-terms-Inv-loop try-terms-μ-loop
 try-terms-no-match-requires-2 t c κs = (omega arith, search (walk-small, walk-few, needs))
 
-try-terms-same-length-4 : (t : ℕ) → try-terms-lts.Need-same-length-4 (
-  part-reads.Asked,
-  part-reads.Learnt,
-  read-term-reads.Asked,
-  read-term-reads.Learnt,
-  no-match-below t,
-  no-match.Post,
-  try-term-below t,
-  try-term.Post,
-  signed-reads.Asked,
-  signed-reads.Learnt,
-) (try-terms-at t) try-terms.Post try-terms-Inv-loop try-terms-μ-loop
+try-terms-same-length-4 : (t : ℕ) → try-terms-lts.Need-same-length-4 (try-terms-claims t) (try-terms-at t) try-terms.Post try-terms-Inv-loop try-terms-μ-loop
 try-terms-same-length-4 t c = cc
 
-try-terms-returns-4 : (t : ℕ) → try-terms-lts.Need-returns-4 (
-  part-reads.Asked,
-  part-reads.Learnt,
-  read-term-reads.Asked,
-  read-term-reads.Learnt,
-  no-match-below t,
-  no-match.Post,
-  try-term-below t,
-  try-term.Post,
-  signed-reads.Asked,
-  signed-reads.Learnt,
-) (try-terms-at t) try-terms.Post try-terms-Inv-loop try-terms-μ-loop
+try-terms-returns-4 : (t : ℕ) → try-terms-lts.Need-returns-4 (try-terms-claims t) (try-terms-at t) try-terms.Post try-terms-Inv-loop try-terms-μ-loop
 try-terms-returns-4 t c = search walk-past
 
 pub +begin-check+check-domain+evaluate-record+include+no-match+try-term+try-terms-spec :
@@ -1346,18 +471,7 @@ pub +begin-check+check-domain+evaluate-record+include+no-match+try-term+try-term
     μ-no-match
     μ-try-term
     μ-try-terms
-    (λ t. begin-check-lts.spec (
-      ended-reads.Asked,
-      ended-reads.Learnt,
-      part-reads.Asked,
-      part-reads.Learnt,
-      make-target-reads.Asked,
-      make-target-reads.Learnt,
-      wanting-reads.Asked,
-      wanting-reads.Learnt,
-      check-domain-below t,
-      check-domain.Post,
-    )
+    (λ t. begin-check-lts.spec (begin-check-claims t)
     (begin-check-at t)
     begin-check.Post
     (begin-check-ended-requires t)
@@ -1380,18 +494,7 @@ pub +begin-check+check-domain+evaluate-record+include+no-match+try-term+try-term
     (begin-check-returns-3 t)
     (begin-check-same-length-3 t)
     (begin-check-returns-4 t))
-    (λ t. check-domain-lts.spec (
-      count-labels-reads.Asked,
-      count-labels-reads.Learnt,
-      ended-reads.Asked,
-      ended-reads.Learnt,
-      select-record-reads.Asked,
-      select-record-reads.Learnt,
-      wanting-reads.Asked,
-      wanting-reads.Learnt,
-      evaluate-record-below t,
-      evaluate-record.Post,
-    )
+    (λ t. check-domain-lts.spec (check-domain-claims t)
     (check-domain-at t)
     check-domain.Post
     (check-domain-count-labels-requires t)
@@ -1410,16 +513,7 @@ pub +begin-check+check-domain+evaluate-record+include+no-match+try-term+try-term
     (check-domain-returns-3 t)
     (check-domain-same-length-3 t)
     (check-domain-returns-4 t))
-    (λ t. evaluate-record-lts.spec (
-      part-reads.Asked,
-      part-reads.Learnt,
-      read-record-reads.Asked,
-      read-record-reads.Learnt,
-      ended-reads.Asked,
-      ended-reads.Learnt,
-      try-terms-below t,
-      try-terms.Post,
-    )
+    (λ t. evaluate-record-lts.spec (evaluate-record-claims t)
     (evaluate-record-at t)
     evaluate-record.Post
     (evaluate-record-part-requires t)
@@ -1431,30 +525,14 @@ pub +begin-check+check-domain+evaluate-record+include+no-match+try-term+try-term
     (evaluate-record-returns t)
     (evaluate-record-same-length t)
     (evaluate-record-returns-2 t))
-    (λ t. include-lts.spec (
-      begin-check-below t,
-      begin-check.Post,
-      include-of-reads.Asked,
-      include-of-reads.Learnt,
-    )
+    (λ t. include-lts.spec (include-claims t)
     (include-at t)
     include.Post
     (include-begin-check-requires t)
     (include-include-of-requires t)
     (include-same-length t)
     (include-returns t))
-    (λ t. no-match-lts.spec (
-      find-redirect-reads.Asked,
-      find-redirect-reads.Learnt,
-      ended-reads.Asked,
-      ended-reads.Learnt,
-      part-reads.Asked,
-      part-reads.Learnt,
-      begin-check-below t,
-      begin-check.Post,
-      none-is-permerror-reads.Asked,
-      none-is-permerror-reads.Learnt,
-    )
+    (λ t. no-match-lts.spec (no-match-claims t)
     (no-match-at t)
     no-match.Post
     (no-match-find-redirect-requires t)
@@ -1467,14 +545,7 @@ pub +begin-check+check-domain+evaluate-record+include+no-match+try-term+try-term
     (no-match-none-is-permerror-requires t)
     (no-match-same-length t)
     (no-match-returns-2 t))
-    (λ t. try-term-lts.spec (
-      part-reads.Asked,
-      part-reads.Learnt,
-      try-plain-reads.Asked,
-      try-plain-reads.Learnt,
-      include-below t,
-      include.Post,
-    )
+    (λ t. try-term-lts.spec (try-term-claims t)
     (try-term-at t)
     try-term.Post
     (try-term-part-requires t)
@@ -1487,18 +558,7 @@ pub +begin-check+check-domain+evaluate-record+include+no-match+try-term+try-term
     (try-term-returns t)
     (try-term-same-length-2 t)
     (try-term-returns-2 t))
-    λ t. try-terms-lts.spec (
-      part-reads.Asked,
-      part-reads.Learnt,
-      read-term-reads.Asked,
-      read-term-reads.Learnt,
-      no-match-below t,
-      no-match.Post,
-      try-term-below t,
-      try-term.Post,
-      signed-reads.Asked,
-      signed-reads.Learnt,
-    )
+    λ t. try-terms-lts.spec (try-terms-claims t)
     (try-terms-at t)
     try-terms.Post
     try-terms-Inv-loop
