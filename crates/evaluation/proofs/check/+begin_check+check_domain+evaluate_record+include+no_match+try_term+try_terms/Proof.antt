@@ -52,6 +52,7 @@ use Rattle.evaluation.proofs.check.+begin_check+check_domain+evaluate_r
   close,
 }
 
+-- the measure: 7 for each lookup left, and how far from the next lookup the function stands
 abbrev μ-begin-check : Measures 6 begin-check-kinds.ps ℕ
 μ-begin-check κs a = 7 * (10 - a .1 .1 .1 .1 .1 .1 .1 .1 .0 .lookups) + 1
 
@@ -73,6 +74,7 @@ abbrev μ-try-term : Measures 6 try-term-kinds.ps ℕ
 abbrev μ-try-terms : Measures 5 try-terms-kinds.ps ℕ
 μ-try-terms κs a = 7 * (10 - a .1 .1 .1 .1 .1 .1 .1 .1 .1 .0 .lookups) + 4
 
+-- a call at the measure t, and one below it
 abbrev begin-check-at : ℕ → In 6 begin-check-kinds.ps
 begin-check-at t =
     and 6 begin-check-kinds.ps (is 6 begin-check-kinds.ps μ-begin-check t) begin-check.Pre
@@ -124,62 +126,34 @@ abbrev try-terms-below : ℕ → In 5 try-terms-kinds.ps
 try-terms-below t =
     and 5 try-terms-kinds.ps (falls 5 try-terms-kinds.ps _<_ μ-try-terms t) try-terms.Pre
 
+-- what each function may assume of those it calls; of those of the cycle, only below the measure t
 abbrev begin-check-claims : ℕ → begin-check-lts.Claims
-begin-check-claims t = (
-  ended-reads.Asked, ended-reads.Learnt,
-  part-reads.Asked, part-reads.Learnt,
-  make-target-reads.Asked, make-target-reads.Learnt,
-  wanting-reads.Asked, wanting-reads.Learnt,
-  check-domain-below t, check-domain.Post,
-)
+begin-check-claims t =
+    (ended-reads.Asked, ended-reads.Learnt, part-reads.Asked, part-reads.Learnt, make-target-reads.Asked, make-target-reads.Learnt, wanting-reads.Asked, wanting-reads.Learnt, check-domain-below t, check-domain.Post)
 
 abbrev check-domain-claims : ℕ → check-domain-lts.Claims
-check-domain-claims t = (
-  count-labels-reads.Asked, count-labels-reads.Learnt,
-  ended-reads.Asked, ended-reads.Learnt,
-  select-record-reads.Asked, select-record-reads.Learnt,
-  wanting-reads.Asked, wanting-reads.Learnt,
-  evaluate-record-below t, evaluate-record.Post,
-)
+check-domain-claims t =
+    (count-labels-reads.Asked, count-labels-reads.Learnt, ended-reads.Asked, ended-reads.Learnt, select-record-reads.Asked, select-record-reads.Learnt, wanting-reads.Asked, wanting-reads.Learnt, evaluate-record-below t, evaluate-record.Post)
 
 abbrev evaluate-record-claims : ℕ → evaluate-record-lts.Claims
-evaluate-record-claims t = (
-  part-reads.Asked, part-reads.Learnt,
-  read-record-reads.Asked, read-record-reads.Learnt,
-  ended-reads.Asked, ended-reads.Learnt,
-  try-terms-below t, try-terms.Post,
-)
+evaluate-record-claims t =
+    (part-reads.Asked, part-reads.Learnt, read-record-reads.Asked, read-record-reads.Learnt, ended-reads.Asked, ended-reads.Learnt, try-terms-below t, try-terms.Post)
 
 abbrev include-claims : ℕ → include-lts.Claims
-include-claims t = (
-  begin-check-below t, begin-check.Post,
-  include-of-reads.Asked, include-of-reads.Learnt,
-)
+include-claims t =
+    (begin-check-below t, begin-check.Post, include-of-reads.Asked, include-of-reads.Learnt)
 
 abbrev no-match-claims : ℕ → no-match-lts.Claims
-no-match-claims t = (
-  find-redirect-reads.Asked, find-redirect-reads.Learnt,
-  ended-reads.Asked, ended-reads.Learnt,
-  part-reads.Asked, part-reads.Learnt,
-  begin-check-below t, begin-check.Post,
-  none-is-permerror-reads.Asked, none-is-permerror-reads.Learnt,
-)
+no-match-claims t =
+    (find-redirect-reads.Asked, find-redirect-reads.Learnt, ended-reads.Asked, ended-reads.Learnt, part-reads.Asked, part-reads.Learnt, begin-check-below t, begin-check.Post, none-is-permerror-reads.Asked, none-is-permerror-reads.Learnt)
 
 abbrev try-term-claims : ℕ → try-term-lts.Claims
-try-term-claims t = (
-  part-reads.Asked, part-reads.Learnt,
-  try-plain-reads.Asked, try-plain-reads.Learnt,
-  include-below t, include.Post,
-)
+try-term-claims t =
+    (part-reads.Asked, part-reads.Learnt, try-plain-reads.Asked, try-plain-reads.Learnt, include-below t, include.Post)
 
 abbrev try-terms-claims : ℕ → try-terms-lts.Claims
-try-terms-claims t = (
-  part-reads.Asked, part-reads.Learnt,
-  read-term-reads.Asked, read-term-reads.Learnt,
-  no-match-below t, no-match.Post,
-  try-term-below t, try-term.Post,
-  signed-reads.Asked, signed-reads.Learnt,
-)
+try-terms-claims t =
+    (part-reads.Asked, part-reads.Learnt, read-term-reads.Asked, read-term-reads.Learnt, no-match-below t, no-match.Post, try-term-below t, try-term.Post, signed-reads.Asked, signed-reads.Learnt)
 
 begin-check-ended-requires : (t : ℕ) → begin-check-lts.Need-ended-requires (begin-check-claims t) (begin-check-at t) begin-check.Post
 begin-check-ended-requires t c κs = search needs
