@@ -1,0 +1,2 @@
+-- Walking: the loops over a text's fields.
+pub mod Walking

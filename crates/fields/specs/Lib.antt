@@ -1,0 +1,2 @@
+-- Fields: the parts of a text between separators.
+pub mod Fields
