@@ -32,7 +32,8 @@ fn read_input(input: &mut [u8]) -> Line {
 fn run_input(input: &[u8]) {
     let mut name = [0u8; 253];
     let mut text = [0u8; 500];
-    checking::check_input(input, &mut name, &mut text);
+    let answer = checking::check_input(input, &mut name, &mut text);
+    checking::print(answer, &name, &text);
 }
 
 // At most as many lines as the budget says; a table has at most 65,535 bytes, and the six lines before it have room for 4,465.

@@ -107,7 +107,7 @@ fn check(
     let mut text = [0u8; 500];
     let n = io::read_full(0, &mut table);
     skip_rest();
-    checking::check_lines(
+    let answer = checking::check_lines(
         client,
         domain,
         sender,
@@ -118,6 +118,7 @@ fn check(
         &mut name,
         &mut text,
     );
+    checking::print(answer, &name, &text);
 }
 
 // Each buffer has one byte more than its line may have: an address at most 45, a number below 2^64 at most 20 digits.

@@ -1,14 +1,61 @@
-// What the input of a check means, and how its answer is printed.
-//
-// An input is client, domain, sender, HELO, receiver and t, a line each, and then the answer table. A missing line is an empty one. An answer is number,
-// kind or place and both counts on a line, and for 3 and 7 the text or name on a second; a client or t that cannot be read prints `input`.
+// The check of an input: client, domain, sender, HELO, receiver and t, a line each, and then the answer table; and how its answer is printed.
+ghost use Rattle.checking.specs.Input.{checkedLines, checkedInput, SaysInput};
 use evaluation::Answer;
 use evaluation::evaluate;
+use fields::after_fields;
+use fields::field;
 use meaning::Counts;
 use networks::Network;
 use text::bytes::part;
 use text::decimal;
 use text::decimal::Number;
+
+// What an input is answered: that its client or t can't be read, or what the evaluation answers.
+pub enum InputAnswer {
+    Unreadable,
+    Evaluated(Answer),
+}
+
+// Checks with client and t as they are written.
+pub fn check_lines(
+    client: &[u8],
+    domain: &[u8],
+    sender: &[u8],
+    helo: &[u8],
+    receiver: &[u8],
+    seconds: &[u8],
+    table: &[u8],
+    name: &mut [u8],
+    text: &mut [u8],
+) -> InputAnswer
+    ensures { λ r. ⌜ SaysInput (checkedLines (now (client .entry)) (now (domain .entry)) (now (sender .entry)) (now (helo .entry)) (now (receiver .entry)) (now (seconds .entry)) (now (table .entry)) (now (name .entry)) (now (text .entry))) r (now (name .entry)) (now (name .exit)) (now (text .entry)) (now (text .exit)) ⌝ }
+{
+    let Network::Is(a) = networks::read_address(client) else {
+        return InputAnswer::Unreadable;
+    };
+    let Number::Value(t) = decimal::read_decimal(seconds, 18446744073709551615) else {
+        return InputAnswer::Unreadable;
+    };
+    let answer = evaluate(a, domain, sender, helo, receiver, t, table, name, text);
+    InputAnswer::Evaluated(answer)
+}
+
+// Checks a whole input.
+pub fn check_input(input: &[u8], name: &mut [u8], text: &mut [u8]) -> InputAnswer
+    ensures { λ r. ⌜ SaysInput (checkedInput (now (input .entry)) (now (name .entry)) (now (text .entry))) r (now (name .entry)) (now (name .exit)) (now (text .entry)) (now (text .exit)) ⌝ }
+{
+    check_lines(
+        field(input, 10, 0),
+        field(input, 10, 1),
+        field(input, 10, 2),
+        field(input, 10, 3),
+        field(input, 10, 4),
+        field(input, 10, 5),
+        after_fields(input, 10, 6),
+        name,
+        text,
+    )
+}
 
 fn print_line(s: &[u8]) {
     io::write_all(1, s);
@@ -52,8 +99,8 @@ fn print_wanting(kind: u16, counts: Counts, name: &[u8]) {
     print_line(name);
 }
 
-// Prints an answer; name and text are the buffers that were lent for it.
-pub fn print_answer(answer: Answer, name: &[u8], text: &[u8]) {
+// Prints an answer of the evaluation; name and text are the buffers that were lent for it.
+fn print_answer(answer: Answer, name: &[u8], text: &[u8]) {
     match answer {
         Answer::Decided {
             value,
@@ -70,79 +117,11 @@ pub fn print_answer(answer: Answer, name: &[u8], text: &[u8]) {
     }
 }
 
-// Reads client and t as they are written, checks and prints.
-pub fn check_lines(
-    client: &[u8],
-    domain: &[u8],
-    sender: &[u8],
-    helo: &[u8],
-    receiver: &[u8],
-    seconds: &[u8],
-    table: &[u8],
-    name: &mut [u8],
-    text: &mut [u8],
-) {
-    let Network::Is(a) = networks::read_address(client) else {
-        print_line(b"input");
-        return;
-    };
-    let Number::Value(t) = decimal::read_decimal(seconds, 18446744073709551615) else {
-        print_line(b"input");
-        return;
-    };
-    let answer = evaluate(a, domain, sender, helo, receiver, t, table, name, text);
-    print_answer(answer, name, text);
-}
-
-// The end of the line that begins at a place.
-fn line_end(s: &[u8], from: usize) -> usize {
-    let mut i = from;
-    while i < s.len() {
-        if s[i] == 10 {
-            return i;
-        }
-        i += 1;
+// Prints the answer to an input: number, kind or place (`.` where absent) and both counts on a line, and for 3 and 7 the text or name on a second, from the
+// buffers that were lent; `input` for a client or t that can't be read.
+pub fn print(answer: InputAnswer, name: &[u8], text: &[u8]) {
+    match answer {
+        InputAnswer::Unreadable => print_line(b"input"),
+        InputAnswer::Evaluated(evaluated) => print_answer(evaluated, name, text),
     }
-    i
-}
-
-// The place after the line that begins at a place and its newline.
-fn next_line(s: &[u8], from: usize) -> usize {
-    let end = line_end(s, from);
-    if end < s.len() {
-        return end + 1;
-    }
-    s.len()
-}
-
-// Where the k-th line begins, counted from 0; a missing line is an empty one at the end.
-fn line_start(s: &[u8], k: usize) -> usize {
-    let mut at = 0;
-    let mut i = 0;
-    while i < k {
-        at = next_line(s, at);
-        i += 1;
-    }
-    at
-}
-
-// The k-th line without its newline.
-fn line(s: &[u8], k: usize) -> &[u8] {
-    let at = line_start(s, k);
-    part(s, at, line_end(s, at))
-}
-
-// Checks a whole input and prints the answer.
-pub fn check_input(input: &[u8], name: &mut [u8], text: &mut [u8]) {
-    check_lines(
-        line(input, 0),
-        line(input, 1),
-        line(input, 2),
-        line(input, 3),
-        line(input, 4),
-        line(input, 5),
-        part(input, line_start(input, 6), input.len()),
-        name,
-        text,
-    );
 }

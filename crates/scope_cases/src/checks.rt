@@ -4,7 +4,8 @@ use text::bytes::part;
 // The check with the front of the text buffer.
 fn check_text(input: &[u8], name: &mut [u8], text: &mut [u8], text_room: usize) {
     if text_room <= text.len() {
-        return checking::check_input(input, name, &mut text[..text_room]);
+        let answer = checking::check_input(input, name, &mut text[..text_room]);
+        return checking::print(answer, name, text);
     }
     cases::print_line(b"too long");
 }

@@ -1,0 +1,2 @@
+-- Inputs: the ways of the check of an input.
+pub mod Inputs

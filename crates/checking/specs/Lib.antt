@@ -1,0 +1,2 @@
+-- Input: what an input of the check program means.
+pub mod Input
