@@ -2,15 +2,10 @@
 use crate::random;
 use crate::terms;
 use crate::texts;
+use cases::entries;
 use text::bytes::part;
 use text::words;
 use text::writing;
-
-// The two bytes of a number below 65,536, the lower one first.
-fn put_number(out: &mut [u8], at: usize, n: usize) -> usize {
-    let next = writing::put(out, at, (n % 256) as u8);
-    writing::put(out, next, (n / 256 % 256) as u8)
-}
 
 // How far a place is behind another.
 fn distance(from: usize, to: usize) -> usize {
@@ -51,7 +46,7 @@ fn put_host(seed: u64, out: &mut [u8], at: usize) -> usize {
 
 // A preference and a host, or no host.
 fn put_exchange(seed: u64, out: &mut [u8], at: usize) -> usize {
-    let preferred = put_number(out, at, random::up_to(seed, 1, 2) * 10);
+    let preferred = entries::put_number(out, at, random::up_to(seed, 1, 2) * 10);
     if random::chance(seed, 2, 50) {
         return preferred;
     }
@@ -97,9 +92,9 @@ fn put_value(seed: u64, kind: u16, name: &[u8], out: &mut [u8], at: usize) -> us
 
 // An item: its length and its bytes.
 fn put_item(seed: u64, kind: u16, name: &[u8], out: &mut [u8], at: usize) -> usize {
-    let start = put_number(out, at, 0);
+    let start = entries::put_number(out, at, 0);
     let end = put_value(seed, kind, name, out, start);
-    put_number(out, at, distance(start, end));
+    entries::put_number(out, at, distance(start, end));
     end
 }
 
@@ -155,15 +150,12 @@ fn put_answers(seed: u64, kind: u16, status: u8, name: &[u8], out: &mut [u8], at
 }
 
 // An entry of a kind and name.
-pub fn put_entry(seed: u64, kind: u16, name: &[u8], out: &mut [u8], at: usize) -> usize {
+fn put_entry(seed: u64, kind: u16, name: &[u8], out: &mut [u8], at: usize) -> usize {
     let status = pick_status(random::draw(seed, 1), kind);
-    let start = put_number(out, at, 0);
-    let kinded = put_number(out, start, kind as usize);
-    let stated = writing::put(out, kinded, status);
-    let measured = writing::put(out, stated, (name.len() % 256) as u8);
-    let named = writing::put_all(name, out, measured);
-    let end = put_answers(random::draw(seed, 2), kind, status, name, out, named);
-    put_number(out, at, distance(start, end));
+    let start = entries::put_number(out, at, 0);
+    let headed = entries::put_head(out, start, kind, status, name);
+    let end = put_answers(random::draw(seed, 2), kind, status, name, out, headed);
+    entries::put_number(out, at, distance(start, end));
     end
 }
 
@@ -207,11 +199,7 @@ fn put_pairs(seed: u64, times: usize, out: &mut [u8], at: usize) -> usize {
 // An entry of a name of its own without items.
 fn put_small(k: usize, out: &mut [u8], at: usize) -> usize {
     let name = [97 + (k % 26) as u8, 97 + (k / 26 % 26) as u8];
-    let sized = put_number(out, at, 6);
-    let kinded = put_number(out, sized, 1);
-    let stated = writing::put(out, kinded, 0);
-    let measured = writing::put(out, stated, 2);
-    writing::put_all(&name, out, measured)
+    entries::put_entry(out, at, 1, 0, &name, b"")
 }
 
 // A crowd of entries.

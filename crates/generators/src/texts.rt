@@ -43,7 +43,7 @@ fn run_byte(i: usize, step: usize) -> u8 {
 }
 
 // A run of letters and dots.
-pub fn put_run(size: usize, step: usize, out: &mut [u8], at: usize) -> usize {
+fn put_run(size: usize, step: usize, out: &mut [u8], at: usize) -> usize {
     let mut next = at;
     let mut i = size;
     while 0 < i {

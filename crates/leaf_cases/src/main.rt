@@ -12,7 +12,6 @@
 //     mx NAME TABLE                     the preference and host of each MX item
 //
 // Any other line is printed as it is.
-use address::Address;
 use address::FromOctets;
 use cases::Line;
 use domain::Name;
@@ -22,15 +21,6 @@ use text::bytes::part;
 use text::decimal;
 use text::decimal::Number;
 use text::words;
-
-// Prints a test's answer.
-fn print_test(yes: bool) {
-    if yes {
-        cases::print_line(b"1");
-        return;
-    }
-    cases::print_line(b"0");
-}
 
 fn run_address(line: &[u8]) {
     let mut a = [0u8; 16];
@@ -49,7 +39,7 @@ fn run_address(line: &[u8]) {
         cases::print_line(b"no length");
         return;
     };
-    print_test(address::matches(client, network, v as usize));
+    cases::print_test(address::matches(client, network, v as usize));
 }
 
 fn run_client(line: &[u8]) {
@@ -59,11 +49,7 @@ fn run_client(line: &[u8]) {
         cases::print_line(b"no address");
         return;
     };
-    match address::as_client(given) {
-        Address::IPv4(v) => cases::print_bytes(&address::octets4(v)),
-        Address::IPv6(high, low) => cases::print_bytes(&address::octets16(high, low)),
-    }
-    cases::print_line(b"");
+    cases::print_address(address::as_client(given));
 }
 
 fn run_name(line: &[u8]) {
@@ -80,7 +66,7 @@ fn run_name(line: &[u8]) {
 fn run_table_name(line: &[u8]) {
     let mut text = [0u8; 1024];
     let n = cases::unhex(cases::word(line, 1), &mut text);
-    print_test(domain::is_table_name(part(&text, 0, n)));
+    cases::print_test(domain::is_table_name(part(&text, 0, n)));
 }
 
 fn run_labels(line: &[u8]) {
@@ -94,7 +80,7 @@ fn run_below(line: &[u8]) {
     let mut target = [0u8; 1024];
     let n = cases::unhex(cases::word(line, 1), &mut name);
     let m = cases::unhex(cases::word(line, 2), &mut target);
-    print_test(domain::at_or_below(part(&name, 0, n), part(&target, 0, m)));
+    cases::print_test(domain::at_or_below(part(&name, 0, n), part(&target, 0, m)));
 }
 
 fn run_shorten(line: &[u8]) {

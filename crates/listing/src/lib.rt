@@ -138,7 +138,7 @@ pub fn print_term(record: &[u8], at: usize, next: usize, term: Term) {
 }
 
 // Prints a refusal: its number and its place.
-pub fn print_refused(number: u8, at: usize) {
+fn print_refused(number: u8, at: usize) {
     io::write_all(1, b"refused ");
     io::print_decimal(1, number as u64);
     io::write_all(1, b" at ");

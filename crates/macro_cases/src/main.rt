@@ -8,25 +8,12 @@
 //     reversed ADDRESS                  the name that a PTR question asks for an address
 //
 // FORM is `domain-spec`, `modifier-value` or `explanation`. Any other line is printed as it is.
-use address::Address;
-use address::FromOctets;
 use cases::Line;
 use domain::Name;
 use macros::Expanded;
 use macros::Form;
 use text::bytes::part;
-use text::decimal;
-use text::decimal::Number;
 use text::words;
-
-// Prints a test's answer.
-fn print_test(yes: bool) {
-    if yes {
-        cases::print_line(b"1");
-        return;
-    }
-    cases::print_line(b"0");
-}
 
 // The form that a word names.
 fn form_of(word: &[u8]) -> Form {
@@ -37,24 +24,6 @@ fn form_of(word: &[u8]) -> Form {
         return Form::Explanation;
     }
     Form::ModifierValue
-}
-
-// The number that a word writes, or 0.
-fn number_of(word: &[u8]) -> u64 {
-    let Number::Value(v) = decimal::read_decimal(word, 18446744073709551615) else {
-        return 0;
-    };
-    v
-}
-
-// The address that a word writes, or 0.0.0.0.
-fn address_of(word: &[u8]) -> Address {
-    let mut a = [0u8; 16];
-    let n = cases::unhex(word, &mut a);
-    let FromOctets::Is(x) = address::from_octets(part(&a, 0, n)) else {
-        return Address::IPv4(0);
-    };
-    x
 }
 
 // Prints what an expansion answered.
@@ -86,8 +55,8 @@ fn expand_front(
     out: &mut [u8],
 ) -> Expanded {
     let form = form_of(cases::word(line, 1));
-    let client = address_of(cases::word(line, 2));
-    let seconds = number_of(cases::word(line, 7));
+    let client = cases::address_of(cases::word(line, 2));
+    let seconds = cases::number_of(cases::word(line, 7));
     if room <= out.len() {
         return macros::expand(
             form,
@@ -116,7 +85,7 @@ fn run_given(
     text: &[u8],
 ) {
     let mut space = [0u8; 65536];
-    let room = (number_of(cases::word(line, 9)) % 65536) as usize;
+    let room = (cases::number_of(cases::word(line, 9)) % 65536) as usize;
     let answer = expand_front(
         line,
         sender,
@@ -169,13 +138,13 @@ fn run_macro(line: &[u8]) {
 fn run_form(line: &[u8]) {
     let mut text = [0u8; 8192];
     let n = cases::unhex(cases::word(line, 2), &mut text);
-    print_test(macros::read_macro_string(form_of(cases::word(line, 1)), part(&text, 0, n)));
+    cases::print_test(macros::read_macro_string(form_of(cases::word(line, 1)), part(&text, 0, n)));
 }
 
 fn run_asks_p(line: &[u8]) {
     let mut text = [0u8; 8192];
     let n = cases::unhex(cases::word(line, 2), &mut text);
-    print_test(macros::uses_p(form_of(cases::word(line, 1)), part(&text, 0, n)));
+    cases::print_test(macros::uses_p(form_of(cases::word(line, 1)), part(&text, 0, n)));
 }
 
 fn run_question(line: &[u8]) {
@@ -191,7 +160,7 @@ fn run_question(line: &[u8]) {
 
 fn run_reversed(line: &[u8]) {
     let mut out = [0u8; 80];
-    let n = notation::put_reversed_name(address_of(cases::word(line, 1)), &mut out, 0);
+    let n = notation::put_reversed_name(cases::address_of(cases::word(line, 1)), &mut out, 0);
     cases::print_line(part(&out, 0, n));
 }
 

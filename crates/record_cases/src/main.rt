@@ -175,11 +175,7 @@ fn run_address(line: &[u8]) {
         cases::print_line(b"none");
         return;
     };
-    match a {
-        Address::IPv4(v) => cases::print_bytes(&address::octets4(v)),
-        Address::IPv6(high, low) => cases::print_bytes(&address::octets16(high, low)),
-    }
-    cases::print_line(b"");
+    cases::print_address(a);
 }
 
 fn run_line(line: &[u8]) {

@@ -9,22 +9,10 @@
 // Any other line is printed as it is.
 mod relay;
 
-use address::Address;
-use address::FromOctets;
 use cases::Line;
 use text::bytes::part;
 use text::words;
 use text::writing;
-
-// The address that a word writes, or 0.0.0.0.
-fn address_of(word: &[u8]) -> Address {
-    let mut a = [0u8; 16];
-    let n = cases::unhex(word, &mut a);
-    let FromOctets::Is(x) = address::from_octets(part(&a, 0, n)) else {
-        return Address::IPv4(0);
-    };
-    x
-}
 
 // Adds an entry to a zone of a size; answers the new size.
 fn add_entry(line: &[u8], zone: &mut [u8], size: usize) -> usize {
@@ -44,7 +32,7 @@ fn run_case(line: &[u8], zone: &[u8]) {
     io::write_all(1, b" ");
     relay::run(
         zone,
-        address_of(cases::word(line, 2)),
+        cases::address_of(cases::word(line, 2)),
         part(&domain, 0, d),
         part(&sender, 0, s),
         part(&helo, 0, h),

@@ -1,27 +1,10 @@
 // The relay: it begins with an empty table, fetches each answer that is missing from the zone, and asks again until the check is decided.
 use address::Address;
+use cases::entries;
 use evaluation::Answer;
 use evaluation::evaluate;
 use table::Found;
 use text::bytes::part;
-use text::writing;
-
-// The two bytes of a number below 65,536, the lower one first.
-fn put_number(out: &mut [u8], at: usize, n: usize) -> usize {
-    let next = writing::put(out, at, (n % 256) as u8);
-    writing::put(out, next, (n / 256 % 256) as u8)
-}
-
-// Puts an entry at a place of a table; answers the place after it.
-fn put_entry(out: &mut [u8], at: usize, kind: u16, status: u8, name: &[u8], items: &[u8]) -> usize {
-    let n = name.len() % 256;
-    let sized = put_number(out, at, 4 + n + items.len() % 65536);
-    let kinded = put_number(out, sized, kind as usize);
-    let stated = writing::put(out, kinded, status);
-    let measured = writing::put(out, stated, n as u8);
-    let named = writing::put_all(name, out, measured);
-    writing::put_all(items, out, named)
-}
 
 // Puts the zone's answer to a question at a place of a table; a name that the zone lacks doesn't exist.
 fn put_answer(zone: &[u8], kind: u16, name: &[u8], out: &mut [u8], at: usize) -> usize {
@@ -31,8 +14,8 @@ fn put_answer(zone: &[u8], kind: u16, name: &[u8], out: &mut [u8], at: usize) ->
             status,
             start: _,
             end: _,
-        } => put_entry(out, at, kind, status, name, table::found_items(zone, found)),
-        Found::Missing => put_entry(out, at, kind, 3, name, b""),
+        } => entries::put_entry(out, at, kind, status, name, table::found_items(zone, found)),
+        Found::Missing => entries::put_entry(out, at, kind, 3, name, b""),
     }
 }
 

@@ -15,29 +15,17 @@
 // FORM is `domain-spec` or `explanation`. Any other line is printed as it is.
 mod checks;
 
-use address::Address;
-use address::FromOctets;
 use cases::Line;
 use macros::Expanded;
 use macros::Form;
 use records::TermAnswer;
 use text::bytes::part;
-use text::decimal;
-use text::decimal::Number;
 use text::words;
 
 fn run_record(line: &[u8]) {
     let mut s = [0u8; 8192];
     let n = cases::unhex(cases::word(line, 2), &mut s);
     listing::print_reading(part(&s, 0, n));
-}
-
-// The number that a word writes, or 0.
-fn number_of(word: &[u8]) -> u64 {
-    let Number::Value(v) = decimal::read_decimal(word, 18446744073709551615) else {
-        return 0;
-    };
-    v
 }
 
 // Reads the term of a record at a place and prints what is answered.
@@ -56,27 +44,17 @@ fn print_term_at(s: &[u8], place: usize) {
 fn run_term(line: &[u8]) {
     let mut s = [0u8; 8192];
     let n = cases::unhex(cases::word(line, 2), &mut s);
-    print_term_at(part(&s, 0, n), number_of(cases::word(line, 3)) as usize);
-}
-
-// The address that a word writes, or 0.0.0.0.
-fn address_of(word: &[u8]) -> Address {
-    let mut a = [0u8; 16];
-    let n = cases::unhex(word, &mut a);
-    let FromOctets::Is(x) = address::from_octets(part(&a, 0, n)) else {
-        return Address::IPv4(0);
-    };
-    x
+    print_term_at(
+        part(&s, 0, n),
+        cases::number_of(cases::word(line, 3)) as usize,
+    );
 }
 
 fn run_match(line: &[u8]) {
-    let client = address_of(cases::word(line, 2));
-    let network = address_of(cases::word(line, 3));
-    if address::matches(client, network, number_of(cases::word(line, 4)) as usize) {
-        cases::print_line(b"1");
-        return;
-    }
-    cases::print_line(b"0");
+    let client = cases::address_of(cases::word(line, 2));
+    let network = cases::address_of(cases::word(line, 3));
+    let length = cases::number_of(cases::word(line, 4)) as usize;
+    cases::print_test(address::matches(client, network, length));
 }
 
 // The form that a word names.
@@ -127,7 +105,7 @@ fn run_expand(line: &[u8]) {
         b"",
         part(&domain, 0, d),
         part(&p, 0, q),
-        address_of(cases::word(line, 3)),
+        cases::address_of(cases::word(line, 3)),
         7,
         &mut out,
     );
@@ -136,7 +114,7 @@ fn run_expand(line: &[u8]) {
 
 // A number that a word writes, as a length.
 fn length_of(word: &[u8]) -> usize {
-    (number_of(word) % 65537) as usize
+    (cases::number_of(word) % 65537) as usize
 }
 
 fn run_check(line: &[u8]) {

@@ -1,19 +1,19 @@
--- `cases::unhex` meets its contract.
-use mathlib.Core.Path.{_≡_}
+-- `cases::unhex` meets its contract. From the laws of Hex.
+use Prim.Native.Nat.{_-_}
+use Rattle.text.proofs.Laws.Writing.{copied-length}
+use Rattle.cases.proofs.Laws.Hex.{Unhexed, unhexed-start, unhexed-less, unhexed-next, unhexed-written, unhexed-all, unhexed-front}
 use borrow.Author.Needs.{needs}
-use Prim.Native.Nat.{_-_, _≤_}
-use lib.ListN.{length, length-set}
 use Rattle.cases.proofs.unhex.Statement.{statement}
 use Rattle.cases.proofs.unhex.Tie as tie
 
 abbrev Inv-loop : tie.InvT-loop
-Inv-loop text out₀ n i₀ out i = (i ≤ n) × (length out ≡ length out₀) × (i ≤ length out)
+Inv-loop text out₀ n i₀ out i = Unhexed text out₀ i out
 
 abbrev μ-loop : tie.MeasureT-loop
 μ-loop text out₀ n i₀ out i = n - i
 
 loop-holds : tie.Need-loop-holds Inv-loop μ-loop
-loop-holds c = search needs
+loop-holds c = search unhexed-start
 
 mul-hex-byte : tie.Need-mul-hex-byte Inv-loop μ-loop
 mul-hex-byte c = search needs
@@ -33,29 +33,26 @@ shared-slice-read-hex-byte-2 c = search needs
 hex-byte-requires : tie.Need-hex-byte-requires Inv-loop μ-loop
 hex-byte-requires c κs = search needs
 
-slice-write-out : tie.Need-slice-write-out Inv-loop μ-loop
-slice-write-out c = search needs
-
-add-i : tie.Need-add-i Inv-loop μ-loop
-add-i c = search needs
+put-requires : tie.Need-put-requires Inv-loop μ-loop
+put-requires c κs = search needs
 
 loop-less : tie.Need-loop-less Inv-loop μ-loop
-loop-less c = search needs
+loop-less c = search unhexed-less
 
 loop-again : tie.Need-loop-again Inv-loop μ-loop
-loop-again c = simp length-set (search needs)
+loop-again c = search unhexed-next
 
 same-length : tie.Need-same-length Inv-loop μ-loop
-same-length c = search needs
+same-length c = search copied-length
 
 returns : tie.Need-returns Inv-loop μ-loop
-returns c = search needs
+returns c = (search unhexed-all, search unhexed-written)
 
 same-length-2 : tie.Need-same-length-2 Inv-loop μ-loop
-same-length-2 c = search needs
+same-length-2 c = search copied-length
 
 returns-2 : tie.Need-returns-2 Inv-loop μ-loop
-returns-2 c = search needs
+returns-2 c = (search unhexed-front, search unhexed-written)
 
 pub unhex-spec : {M : Type 1} → statement M
 unhex-spec =
@@ -70,8 +67,7 @@ unhex-spec =
     add-hex-byte
     shared-slice-read-hex-byte-2
     hex-byte-requires
-    slice-write-out
-    add-i
+    put-requires
     loop-less
     loop-again
     same-length

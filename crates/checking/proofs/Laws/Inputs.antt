@@ -1,6 +1,6 @@
 -- One rule for each way out of `check_lines` and `check_input`. From the definitions of Input.
 use Prim.Native.Nat.{ℕ}
-use mathlib.Core.Path.{_≡_, refl, sym, subst, _∙_}
+use mathlib.Core.Path.{_≡_, refl, sym, _∙_}
 use mathlib.Core.List.{List}
 use Rattle.text.specs.Decimal.{readDecimal}
 use Rattle.text.specs.declared.decimal.Number.{Number}

@@ -1,0 +1,8 @@
+-- Hex: bytes written in hex.
+pub mod Hex
+-- Values: numbers and addresses.
+pub mod Values
+-- Reading: a line as it is read.
+pub mod Reading
+-- Entries: the bytes of an entry.
+pub mod Entries

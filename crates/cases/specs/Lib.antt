@@ -1,0 +1,6 @@
+-- Words: what the words of a case write.
+pub mod Words
+-- Lines: what is promised of a line of the input.
+pub mod Lines
+-- Entries: the bytes of an entry of an answer table.
+pub mod Entries
