@@ -121,24 +121,29 @@ fn print_counts(counts: &[u64]) {
     print_count(b"buffers changed", counts, tally::CHANGED);
 }
 
+// Runs the rounds; answers the digest.
+fn run_rounds(table: &mut [u8], counts: &mut [u64]) -> u64 {
+    let mut digest = tally::START;
+    let mut budget: usize = 20000;
+    while 0 < budget {
+        digest = run_round(random::draw(7208, budget as u64), table, counts, digest);
+        budget -= 1;
+    }
+    digest
+}
+
+fn print_digest(digest: u64) {
+    io::write_all(1, b"digest ");
+    io::print_hex(1, digest, 16);
+    io::write_all(1, b"\n");
+}
+
 // The table's space is one byte more than a table may have.
 fn main() {
     let mut table = [0u8; 65536];
     let mut counts = [0u64; 256];
-    let mut digest = tally::START;
-    let mut budget: usize = 20000;
-    while 0 < budget {
-        digest = run_round(
-            random::draw(7208, budget as u64),
-            &mut table,
-            &mut counts,
-            digest,
-        );
-        budget -= 1;
-    }
+    let digest = run_rounds(&mut table, &mut counts);
     io::write_all(1, b"rounds 20000\n");
     print_counts(&counts);
-    io::write_all(1, b"digest ");
-    io::print_hex(1, digest, 16);
-    io::write_all(1, b"\n");
+    print_digest(digest);
 }
