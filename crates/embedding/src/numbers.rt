@@ -126,17 +126,16 @@ pub fn put_network(term: Term, out: &mut [u8; 16])
     }
 }
 
-// The shape of a term without prefix lengths.
-fn plain(kind: u8, sign: u8, from: usize, to: usize) -> Shape
-    ensures { λ r. ⌜ r ≡ shape kind sign from to 0 0 ⌝ }
+fn make_shape(kind: u8, sign: u8, from: usize, to: usize, four: u8, six: u8) -> Shape
+    ensures { λ r. ⌜ r ≡ shape kind sign from to four six ⌝ }
 {
     Shape {
         kind,
         sign,
         from,
         to,
-        four: 0,
-        six: 0,
+        four,
+        six,
     }
 }
 
@@ -145,22 +144,8 @@ fn network(sign: u8, from: usize, to: usize, a: Address, bits: u8) -> Shape
     ensures { λ r. ⌜ r ≡ networkShape sign from to a bits ⌝ }
 {
     match a {
-        Address::IPv4(_) => Shape {
-            kind: 6,
-            sign,
-            from,
-            to,
-            four: bits,
-            six: 0,
-        },
-        Address::IPv6(_, _) => Shape {
-            kind: 7,
-            sign,
-            from,
-            to,
-            four: 0,
-            six: bits,
-        },
+        Address::IPv4(_) => make_shape(6, sign, from, to, bits, 0),
+        Address::IPv6(_, _) => make_shape(7, sign, from, to, 0, bits),
     }
 }
 
@@ -170,37 +155,23 @@ fn shape_of(size: usize, term: Term) -> Shape
     ensures { λ r. ⌜ r ≡ shapeOf size term ⌝ }
 {
     match term {
-        Term::All { sign } => plain(1, sign, size, size),
-        Term::Include { sign, from, to } => plain(2, sign, from, to),
+        Term::All { sign } => make_shape(1, sign, size, size, 0, 0),
+        Term::Include { sign, from, to } => make_shape(2, sign, from, to, 0, 0),
         Term::A {
             sign,
             from,
             to,
             four,
             six,
-        } => Shape {
-            kind: 3,
-            sign,
-            from,
-            to,
-            four,
-            six,
-        },
+        } => make_shape(3, sign, from, to, four, six),
         Term::Mx {
             sign,
             from,
             to,
             four,
             six,
-        } => Shape {
-            kind: 4,
-            sign,
-            from,
-            to,
-            four,
-            six,
-        },
-        Term::Ptr { sign, from, to } => plain(5, sign, from, to),
+        } => make_shape(4, sign, from, to, four, six),
+        Term::Ptr { sign, from, to } => make_shape(5, sign, from, to, 0, 0),
         Term::Network {
             sign,
             from,
@@ -208,10 +179,10 @@ fn shape_of(size: usize, term: Term) -> Shape
             address,
             length,
         } => network(sign, from, to, address, length),
-        Term::Exists { sign, from, to } => plain(8, sign, from, to),
-        Term::Redirect { from, to } => plain(9, 0, from, to),
-        Term::Explanation { from, to } => plain(10, 0, from, to),
-        Term::Unknown { name, to } => plain(11, 0, name + 1, to),
+        Term::Exists { sign, from, to } => make_shape(8, sign, from, to, 0, 0),
+        Term::Redirect { from, to } => make_shape(9, 0, from, to, 0, 0),
+        Term::Explanation { from, to } => make_shape(10, 0, from, to, 0, 0),
+        Term::Unknown { name, to } => make_shape(11, 0, name + 1, to, 0, 0),
     }
 }
 

@@ -83,14 +83,14 @@ no-network (Term.Explanation from to) h b = nothing-written b
 no-network (Term.Unknown name to) h b = nothing-written b
 
 -- `network`
-module _ (sign from to n : ℕ) (a : Address) where
-  pub network-four : (v : ℕ) → a ≡ IPv4 v → shape 6 sign from to n 0 ≡ networkShape sign from to a n
+module _ (sign from to n : ℕ) (a : Address) (x : Shape) where
+  pub network-four : (v : ℕ) → a ≡ IPv4 v → x ≡ shape 6 sign from to n 0 → x ≡ networkShape sign from to a n
   unfolding networkShape
-  network-four v e = rw e
+  network-four v e h = h ∙ rw e
 
-  pub network-six : (h l : ℕ) → a ≡ IPv6 h l → shape 7 sign from to 0 n ≡ networkShape sign from to a n
+  pub network-six : (high low : ℕ) → a ≡ IPv6 high low → x ≡ shape 7 sign from to 0 n → x ≡ networkShape sign from to a n
   unfolding networkShape
-  network-six h l e = rw e
+  network-six high low e h = h ∙ rw e
 
 -- `shape_of`
 pub shape-by : (size : ℕ) (t u : Term) (x : Shape) → t ≡ u → x ≡ shapeOf size u → x ≡ shapeOf size t

@@ -3,7 +3,7 @@ use Prim.Native.Nat.{ℕ, _-_, _≤_}
 use mathlib.Core.Path.{_≡_, refl, sym, ap, _∙_}
 use mathlib.Core.Logic.{_↔_}
 use mathlib.Core.List.{List, [], _∷_}
-use mathlib.Core.Bool.{Bool, true, false}
+use mathlib.Core.Bool.{Bool, true, false, cond}
 use native.Mathlib.Omega.{arith}
 use lib.ListN.{length}
 use Rattle.text.specs.Writing.{overwritten}
@@ -100,33 +100,27 @@ module _ (c n : FromOctets) (bits : ℕ) (x : FromOctets) (p : x ≡ c) where
   module _ (a : Address) (e : x ≡ Is a) (y : FromOctets) (p′ : y ≡ n) (b : Address) (e′ : y ≡ Is b) (t : Bool)
       (h : (t ≡ matchesAt a b bits) × ((t ≡ true) ↔ Matches a b bits)) where
     -- the addresses are those that were read
-    match-is : (m : Bool) → m ≡ t → (a′ b′ : Address) → c ≡ Is a′ → n ≡ Is b′ → (m ≡ true) ↔ Matches a′ b′ bits
-    match-is m q a′ b′ k l =
+    match-is : (a′ b′ : Address) → c ≡ Is a′ → n ≡ Is b′ → (t ≡ true) ↔ Matches a′ b′ bits
+    match-is a′ b′ k l =
         let i : a ≡ a′ = cc in
         let j : b ≡ b′ = cc in
-        rw (q, ← i, ← j) (h .1)
+        rw (← i, ← j) (h .1)
+
+    match-says : (r : ℕ) → r ≡ cond t 1 0 → ((r ≡ 1) ↔ (t ≡ true)) → MatchSays c n bits r
+    unfolding matchNumber
+    match-says r m i =
+        let q : c ≡ Is a = sym p ∙ e in
+        let q′ : n ≡ Is b = sym p′ ∙ e′ in
+        record {
+          answer = rw (q, q′, ← (h .0)) m;
+          matches = λ a′ b′ u v. let w = match-is a′ b′ u v in ((λ x. w .0 (i .0 x)), (λ x. i .1 (w .1 x)));
+        }
 
     pub match-yes : t ≡ true → MatchSays c n bits 1
-    unfolding matchNumber
-    match-yes k =
-        let q : c ≡ Is a = sym p ∙ e in
-        let q′ : n ≡ Is b = sym p′ ∙ e′ in
-        let m : matchesAt a b bits ≡ true = sym (h .0) ∙ k in
-        record {
-          answer = rw (q, q′, m);
-          matches = λ a′ b′ u v. let w = match-is t refl a′ b′ u v in ((λ _. w .0 k), (λ _. refl));
-        }
+    match-yes k = match-says 1 (rw k) ((λ _. k), (λ _. refl))
 
     pub match-no : t ≡ false → MatchSays c n bits 0
-    unfolding matchNumber
-    match-no k =
-        let q : c ≡ Is a = sym p ∙ e in
-        let q′ : n ≡ Is b = sym p′ ∙ e′ in
-        let m : matchesAt a b bits ≡ false = sym (h .0) ∙ k in
-        record {
-          answer = rw (q, q′, m);
-          matches = λ a′ b′ u v. let w = match-is t refl a′ b′ u v in ((λ z. absurd (omega (arith, z))), (λ y. absurd (true-false t (w .1 y) k)));
-        }
+    match-no k = match-says 0 (rw k) ((λ x. absurd (omega (arith, x))), (λ x. absurd (true-false t x k)))
 
 -- `talavorn_check_table`
 module _ (t : List ℕ) (x : TableAnswer) (p : x ≡ checkTable t) (h : TableAnswers t (table-reported x)) where

@@ -8,26 +8,32 @@ use Rattle.embedding.proofs.numbers.shape_of.Tie as tie
 enum-known-term : tie.Need-enum-known-term
 enum-known-term c = search needs
 
-plain-requires : tie.Need-plain-requires
-plain-requires c κs = search needs
+make-shape-requires : tie.Need-make-shape-requires
+make-shape-requires c κs = search needs
 
 enum-known-term-2 : tie.Need-enum-known-term-2
 enum-known-term-2 c = search needs
 
-plain-requires-2 : tie.Need-plain-requires-2
-plain-requires-2 c κs = search needs
+make-shape-requires-2 : tie.Need-make-shape-requires-2
+make-shape-requires-2 c κs = search needs
 
 enum-known-term-3 : tie.Need-enum-known-term-3
 enum-known-term-3 c = search needs
 
+make-shape-requires-3 : tie.Need-make-shape-requires-3
+make-shape-requires-3 c κs = search needs
+
 enum-known-term-4 : tie.Need-enum-known-term-4
 enum-known-term-4 c = search needs
+
+make-shape-requires-4 : tie.Need-make-shape-requires-4
+make-shape-requires-4 c κs = search needs
 
 enum-known-term-5 : tie.Need-enum-known-term-5
 enum-known-term-5 c = search needs
 
-plain-requires-3 : tie.Need-plain-requires-3
-plain-requires-3 c κs = search needs
+make-shape-requires-5 : tie.Need-make-shape-requires-5
+make-shape-requires-5 c κs = search needs
 
 enum-known-term-6 : tie.Need-enum-known-term-6
 enum-known-term-6 c = search needs
@@ -38,29 +44,29 @@ network-requires c κs = search needs
 enum-known-term-7 : tie.Need-enum-known-term-7
 enum-known-term-7 c = search needs
 
-plain-requires-4 : tie.Need-plain-requires-4
-plain-requires-4 c κs = search needs
+make-shape-requires-6 : tie.Need-make-shape-requires-6
+make-shape-requires-6 c κs = search needs
 
 enum-known-term-8 : tie.Need-enum-known-term-8
 enum-known-term-8 c = search needs
 
-plain-requires-5 : tie.Need-plain-requires-5
-plain-requires-5 c κs = search needs
+make-shape-requires-7 : tie.Need-make-shape-requires-7
+make-shape-requires-7 c κs = search needs
 
 enum-known-term-9 : tie.Need-enum-known-term-9
 enum-known-term-9 c = search needs
 
-plain-requires-6 : tie.Need-plain-requires-6
-plain-requires-6 c κs = search needs
+make-shape-requires-8 : tie.Need-make-shape-requires-8
+make-shape-requires-8 c κs = search needs
 
 enum-known-term-10 : tie.Need-enum-known-term-10
 enum-known-term-10 c = search needs
 
-add-plain : tie.Need-add-plain
-add-plain c = record { fits = name-room _ _ _ _ (c .before .term10 .given .1) (c .before .before .before .pre) (c .before .before .before .fits .size .fits) }
+add-make-shape : tie.Need-add-make-shape
+add-make-shape c = record { fits = name-room _ _ _ _ (c .before .term10 .given .1) (c .before .before .before .pre) (c .before .before .before .fits .size .fits) }
 
-plain-requires-7 : tie.Need-plain-requires-7
-plain-requires-7 c κs = search needs
+make-shape-requires-9 : tie.Need-make-shape-requires-9
+make-shape-requires-9 c κs = search needs
 
 returns : tie.Need-returns
 unfolding shapeOf
@@ -107,24 +113,26 @@ shape-of-spec =
     tie.close
     (tie.spec
     enum-known-term
-    plain-requires
+    make-shape-requires
     enum-known-term-2
-    plain-requires-2
+    make-shape-requires-2
     enum-known-term-3
+    make-shape-requires-3
     enum-known-term-4
+    make-shape-requires-4
     enum-known-term-5
-    plain-requires-3
+    make-shape-requires-5
     enum-known-term-6
     network-requires
     enum-known-term-7
-    plain-requires-4
+    make-shape-requires-6
     enum-known-term-8
-    plain-requires-5
+    make-shape-requires-7
     enum-known-term-9
-    plain-requires-6
+    make-shape-requires-8
     enum-known-term-10
-    add-plain
-    plain-requires-7
+    add-make-shape
+    make-shape-requires-9
     returns
     returns-2
     returns-3
