@@ -1,313 +1,384 @@
--- What a begun lookup and a void answer keep of the counts, a whole check keeps, on every way through it.
--- By induction on the terms and the depth, from the definitions of the mechanisms and of the evaluation.
-use Prim.Native.Nat.{ℕ, zero, suc, _<_}
+-- What every check keeps, whatever the table: the counts never fall and stay within 01's bounds, only a fail has an explanation, and, where the table
+-- and the domain are sound, every question has a name as the table has it. And a check settles the same with two checks one level down that do.
+-- By one walk over the definitions of the mechanisms and of the evaluation, on the terms and the depth, from the names that can be asked (Askable).
+use Prim.Native.Nat.{ℕ, zero, suc, _≤_, _<_}
+use native.Mathlib.Nat.{le-refl}
 use native.Mathlib.Omega.{arith}
-use mathlib.Core.Path.{_≡_}
+use mathlib.Core.Path.{_≡_, refl}
 use mathlib.Core.List.{List, [], _∷_}
-use mathlib.Core.Bool.{Bool, _&&_}
-use lib.ListN.{length, take}
+use mathlib.Core.Bool.{Bool, true, cond, _&&_}
+use lib.ListN.{length}
 use lib.Dec.{ltb, leb, eqb}
 use borrow.Author.Tests.{ltb-true, eqb-true, eqb-false}
-use Rattle.text.specs.Lists.{same}
+use Rattle.text.specs.Lists.{all, same}
 use Rattle.text.specs.Texts.{bytes}
+use Rattle.text.proofs.Laws.Parts.{all-first, all-rest}
 use Rattle.text.proofs.Laws.Tests.{cond-elim}
 use Rattle.address.specs.declared.Address.{Address}
 use Rattle.address.specs.declared.Address.the-variants.{IPv4, IPv6}
 use Rattle.address.specs.Matching.{matchesAt}
-use Rattle.domain.specs.Names.{atOrBelow, labelCount}
+use Rattle.domain.specs.Names.{isTableName, atOrBelow, labelCount}
 use Rattle.domain.specs.Normal.{Naming, name, malformed}
+use Rattle.table.specs.Layout.{isItem}
 use Rattle.macros.specs.declared.Form.{Form}
-use Rattle.macros.specs.Reader.{usesP}
+use Rattle.macros.specs.Reader.{isMacroString, usesP}
 use Rattle.records.specs.Readings.{Optional, absent, present, Said, Placed}
 use Rattle.records.specs.Reader.{readRecord}
 use Rattle.records.specs.declared.RecordAnswer.{RecordAnswer}
 use Rattle.meaning.specs.declared.Counts.{Counts}
-use Rattle.meaning.specs.Tree.{Reply, failed, items, Check}
-use Rattle.meaning.specs.Always.{Always, always-bind}
-use Rattle.meaning.specs.Mechanisms.{Mail, Match, yes, no, stop, Step, step, matched, includesClient, anyMatches, withValid, validated, namesOf, givesChosen, pReply, pValue, givesExpansion, expanded, givesName, target, targetOr, most-lookups, most-voids, most-hosts, most-names, begun, voided, counting, withName, naming, named, orVoid, aReply, askA, aStep, existsReply, askExists, existsStep, byPreference, hostReply, askHosts, mxItems, mxReply, askMx, mxStep, nameReply, askNames, ptrReply, askPtr, ptrStep}
-use Rattle.meaning.specs.Evaluation.{Failing, Result, ended, Sub, includeMatch, checkTarget, begunCheck, includeOf, includeStep, bytesOr, numberOr, lengthFor, networkStep, mechanismStep, termStep, signResult, modifierOf, signed, noneIsPermerror, redirectOf, noMatch, afterStep, tryTerms, termsOf, readOutcome, Selection, one, textReply, textLookup, spfItems, spfReply, recordLookup, afterLookup, checkName, check}
+use Rattle.meaning.specs.Tree.{Reply, failed, items, Table, Check}
+use Rattle.meaning.specs.Alike.{Alike, alike-give, alike-ask, alike-peek, alike-cond, alike-bind}
+use Rattle.meaning.specs.Reversed.{reversed-ok}
+use Rattle.meaning.specs.Askable.{NamingOk, question-ok, ReplyFits, Fitting, names-ok, host-ok, hosts-ok}
+use Rattle.meaning.specs.Mechanisms.{Mail, Match, yes, no, stop, Step, step, matched, includesClient, anyMatches, withValid, validated, namesOf, givesChosen, pReply, pValue, givesExpansion, expanded, givesName, target, targetOr, most-lookups, most-voids, most-hosts, begun, voided, counting, withName, naming, named, orVoid, aReply, askA, aStep, existsReply, askExists, existsStep, byPreference, hostReply, askHosts, mxItems, mxReply, askMx, mxStep, nameReply, askNames, ptrReply, askPtr, ptrStep}
+use Rattle.meaning.specs.Evaluation.{Failing, Result, ended, Sub, includeMatch, checkTarget, begunCheck, includeOf, includeStep, bytesOr, numberOr, lengthFor, networkStep, mechanismStep, termStep, signResult, modifierOf, failingAt, signed, noneIsPermerror, redirectOf, noMatch, afterStep, tryTerms, termsOf, readOutcome, Selection, ends, one, textReply, textLookup, spfItems, spfReply, recordLookup, afterLookup, checkName, check, givesShown, explained, explainReply, explainName, explanation}
 
--- p's questions hand the counts through: what holds of these holds at each of them
-module _ (ok : Counts → Type 0) where
-  module _ (client : Address) (c : Counts) (h : ok c) where
-    pub validated-asks : (ns found : List (List ℕ)) → Always ok (λ _. Unit {0}) (validated client c ns found)
-    unfolding validated Always
-    validated-asks [] found = tt
-    validated-asks (n ∷ ns) found = (h, λ r. validated-asks ns (withValid client n found r))
+-- the counts k of a question, or of a term that lets the check go on, after the counts c: none falls, and none passes its bound
+pub record Bounded (c k : Counts) : Type 0 where
+  pub lookups-grow : c .lookups ≤ k .lookups
+  pub lookups-small : c .lookups ≤ 10 → k .lookups ≤ 10
+  pub voids-grow : c .voids ≤ k .voids
+  pub voids-small : c .voids ≤ 2 → k .voids ≤ 2
 
-    pub p-asks : (d : List ℕ) → Always ok (λ _. Unit {0}) (pValue client d c)
-    unfolding pValue pReply givesChosen Always
-    p-asks d = (h, λ r. always-bind ok (λ _. Unit {0}) (λ _. Unit {0}) (validated client c (namesOf r) []) (givesChosen d) (validated-asks (namesOf r) []) (λ ns _. tt))
+-- the counts that come with a result: a third void answer is permerror
+pub data Reported (c : Counts) : ℕ → Counts → Type 0 where
+  within : {v : ℕ} {k : Counts} → Bounded c k → Reported c v k
+  third : {k : Counts} → Bounded c k → Reported c 6 (voided k)
 
-  module _ (mail : Mail) (c : Counts) (h : ok c) where
-    pub expanded-asks : (d : List ℕ) (form : Form) (text : List ℕ) → Always ok (λ _. Unit {0}) (expanded mail d form text c)
-    unfolding expanded givesExpansion Always
-    expanded-asks d form text =
-        cond-elim (Always ok (λ (_ : List ℕ). Unit {0})) (usesP form text)
-        (λ _. always-bind ok (λ _. Unit {0}) (λ _. Unit {0}) (pValue (mail .client) d c) (givesExpansion mail d form text) (p-asks (mail .client) c h d) (λ p _. tt)) (λ _. tt)
+-- those of a step: a term that stops the check ends it
+unfoldable pub MatchKept : Counts → Match → Counts → Type 0
+MatchKept c yes k = Bounded c k
+MatchKept c no k = Bounded c k
+MatchKept c (stop v) k = Reported c v k
 
-    pub target-asks : (d spec : List ℕ) → Always ok (λ _. Unit {0}) (target mail d spec c)
-    unfolding target givesName Always
-    target-asks d spec =
-        always-bind ok (λ _. Unit {0}) (λ _. Unit {0}) (expanded mail d Form.DomainSpec spec c) givesName (expanded-asks d Form.DomainSpec spec) (λ s _. tt)
+abbrev pub StepKept : Counts → Step → Type 0
+StepKept c s = MatchKept c (s .match) (s .counts)
 
-    pub targetOr-asks : (d : List ℕ) (spec : Optional (List ℕ)) → Always ok (λ _. Unit {0}) (targetOr mail d spec c)
-    unfolding targetOr Always
-    targetOr-asks d absent = tt
-    targetOr-asks d (present spec) = target-asks d spec
+-- those of a result; only a fail has an explanation
+pub record ResultKept (c : Counts) (r : Result) : Type 0 where
+  pub reported : Reported c (r .value) (r .counts)
+  pub fails : (f : Failing) → r .failing ≡ present f → r .value ≡ 3
 
-  -- and so does record lookup
-  module _ (d : List ℕ) (c : Counts) (h : ok c) where
-    text-asks : Always ok (λ _. Unit {0}) (textLookup d c)
-    unfolding textLookup Always textReply
-    text-asks = (h, reply)
-      where
-        reply : (r : Reply) → Always ok (λ _. Unit {0}) (textReply r)
-        reply failed = tt
-        reply (items ss) = tt
+module _ {c : Counts} where
+  bounded-begun : {k : Counts} → Bounded c k → k .lookups < most-lookups → Bounded c (begun k)
+  bounded-begun b h = record { lookups-grow = omega (arith, b .lookups-grow); lookups-small = λ _. omega (arith, h); voids-grow = b .voids-grow; voids-small = b .voids-small }
 
-    spf-asks : (r : Optional Reply) → Always ok (λ _. Unit {0}) (spfReply d c r)
-    unfolding spfReply spfItems Always
-    spf-asks absent = text-asks
-    spf-asks (present failed) = text-asks
-    spf-asks (present (items [])) = text-asks
-    spf-asks (present (items (s ∷ ss))) = tt
+  bounded-voided : {k : Counts} → Bounded c k → k .voids < most-voids → Bounded c (voided k)
+  bounded-voided b h = record { lookups-grow = b .lookups-grow; lookups-small = b .lookups-small; voids-grow = omega (arith, b .voids-grow); voids-small = λ _. omega (arith, h) }
 
-    pub lookup-asks : Always ok (λ _. Unit {0}) (recordLookup d c)
-    unfolding recordLookup Always
-    lookup-asks = spf-asks
-
--- Two facts of counts, of those with which a check goes on and of those that come with a result's value, that each step keeps.
-pub record Kept (goes : Counts → Type 0) (ends : ℕ → Counts → Type 0) : Type 0 where
-  -- a lookup that is begun
-  pub begins : (k : Counts) → goes k → k .lookups < most-lookups → goes (begun k)
-  -- a void answer, and the third, which gives permerror
-  pub voids : (k : Counts) → goes k → k .voids < most-voids → goes (voided k)
-  pub third : (k : Counts) → goes k → ends 6 (voided k)
-  -- a check may end with any value
-  pub closes : (v : ℕ) (k : Counts) → goes k → ends v k
   -- a check goes on after another that gave no permerror, and any value may become permerror
-  pub resumes : (v : ℕ) (k : Counts) → ends v k → (v ≡ 6 → ⊥) → goes k
-  pub errs : (v : ℕ) (k : Counts) → ends v k → ends 6 k
+  pub resumes : {v : ℕ} {k : Counts} → Reported c v k → (v ≡ 6 → ⊥) → Bounded c k
+  resumes (within b) n = b
+  resumes (third b) n = absurd (n refl)
 
--- of a step; a term that stops the check ends it
-unfoldable pub StepKept : (Counts → Type 0) → (ℕ → Counts → Type 0) → Match → Counts → Type 0
-StepKept goes ends yes k = goes k
-StepKept goes ends no k = goes k
-StepKept goes ends (stop v) k = ends v k
+  errs : {v : ℕ} {k : Counts} → Reported c v k → Reported c 6 k
+  errs (within b) = within b
+  errs (third b) = third b
 
--- of a result; with its counts the explanation goes on
-pub record ResultKept (goes : Counts → Type 0) (ends : ℕ → Counts → Type 0) (r : Result) : Type 0 where
-  pub reported : ends (r .value) (r .counts)
-  pub fetched : (f : Failing) → r .failing ≡ present f → goes (r .counts)
-
-absent-present : (f : Failing) → _≡_ {A = Optional Failing} absent (present f) → ⊥
-absent-present f e = let z : _≡_ {A = ℕ} 0 1 = cc in absurd (omega arith)
-
-module _ {goes : Counts → Type 0} {ends : ℕ → Counts → Type 0} (K : Kept goes ends) where
-  abbrev FineStep : Check Step → Type 0
-  FineStep m = Always goes (λ s. StepKept goes ends (s .match) (s .counts)) m
-
-  abbrev Fine : Check Result → Type 0
-  Fine m = Always goes (ResultKept goes ends) m
-
-  step-kept : (m : Match) (k : Counts) → goes k → FineStep (step m k)
-  unfolding Always StepKept
-  step-kept yes k b = b
-  step-kept no k b = b
-  step-kept (stop v) k b = K .closes v k b
-
-  matched-kept : (t : Bool) (k : Counts) → goes k → FineStep (matched t k)
-  matched-kept t k b = cond-elim FineStep t (λ _. step-kept yes k b) (λ _. step-kept no k b)
-
-  counting-kept : {A : Type 0} (P : A → Type 0) (refused go : Counts → Check A) → ((k : Counts) → goes k → Always goes P (refused k))
-      → ((k : Counts) → goes k → Always goes P (go k)) → (k : Counts) → goes k → Always goes P (counting refused go k)
-  unfolding counting
-  counting-kept P refused go r g k b =
-      cond-elim (Always goes P) (ltb (k .lookups) most-lookups) (λ e. g (begun k) (K .begins k b (ltb-true (k .lookups) most-lookups e))) (λ _. r k b)
-
-  orVoid-kept : (k : Counts) (ds : List (List ℕ)) (rest : Check Step) → goes k → FineStep rest → FineStep (orVoid k ds rest)
-  unfolding orVoid Always StepKept
-  orVoid-kept k [] rest b h =
-      cond-elim FineStep (ltb (k .voids) most-voids) (λ e. K .voids k b (ltb-true (k .voids) most-voids e)) (λ _. K .third k b)
-  orVoid-kept k (d ∷ ds) rest b h = h
-
-  -- a mechanism that counts, makes its name and asks
-  module _ (mail : Mail) where
-    withName-kept : (go : List ℕ → Check Step) (k : Counts) (t : Naming) → goes k → ((n : List ℕ) → FineStep (go n)) → FineStep (withName go k t)
-    unfolding withName
-    withName-kept go k malformed b g = step-kept no k b
-    withName-kept go k (name n) b g = g n
-
-    module _ (d : List ℕ) (spec : Optional (List ℕ)) (go : Counts → List ℕ → Check Step) (g : (k : Counts) → goes k → (n : List ℕ) → FineStep (go k n)) where
-      naming-kept : (k : Counts) → goes k → FineStep (naming mail d spec go k)
-      unfolding naming
-      naming-kept k b =
-          always-bind goes (λ _. Unit {0}) (λ s. StepKept goes ends (s .match) (s .counts)) (targetOr mail d spec k) (withName (go k) k)
-          (targetOr-asks goes mail k b d spec) (λ t _. withName-kept (go k) k t b (g k b))
-
-      named-kept : (k : Counts) → goes k → FineStep (named mail d spec go k)
-      unfolding named
-      named-kept k b = counting-kept (λ (s : Step). StepKept goes ends (s .match) (s .counts)) (step (stop 6)) (naming mail d spec go) (step-kept (stop 6)) naming-kept k b
-
-  module _ (client : Address) where
-    askA-kept : (n : ℕ) (k : Counts) → goes k → (m : List ℕ) → FineStep (askA client n k m)
-    unfolding askA Always aReply
-    askA-kept n k b m = (b, reply)
-      where
-        reply : (r : Reply) → FineStep (aReply client n k r)
-        reply failed = step-kept (stop 5) k b
-        reply (items ds) = orVoid-kept k ds _ b (matched-kept (anyMatches client n ds) k b)
-
-    askExists-kept : (k : Counts) → goes k → (m : List ℕ) → FineStep (askExists k m)
-    unfolding askExists Always existsReply
-    askExists-kept k b m = (b, reply)
-      where
-        reply : (r : Reply) → FineStep (existsReply k r)
-        reply failed = step-kept (stop 5) k b
-        reply (items ds) = orVoid-kept k ds _ b (step-kept yes k b)
-
-    host-kept : (n : ℕ) (k : Counts) (rest : Check Step) → goes k → FineStep rest → (r : Reply) → FineStep (hostReply client n k rest r)
-    unfolding hostReply
-    host-kept n k rest b h failed = step-kept (stop 5) k b
-    host-kept n k rest b h (items ds) = cond-elim FineStep (anyMatches client n ds) (λ _. step-kept yes k b) (λ _. h)
-
-    hosts-kept : (n : ℕ) (k : Counts) → goes k → (ds : List (List ℕ)) → FineStep (askHosts client n k ds)
-    unfolding askHosts Always
-    hosts-kept n k b [] = step-kept no k b
-    hosts-kept n k b (d ∷ ds) =
-        cond-elim FineStep (eqb (length d) 2) (λ _. hosts-kept n k b ds) (λ _. (b, host-kept n k (askHosts client n k ds) b (hosts-kept n k b ds)))
-
-    askMx-kept : (n : ℕ) (k : Counts) → goes k → (m : List ℕ) → FineStep (askMx client n k m)
-    unfolding askMx Always mxReply mxItems
-    askMx-kept n k b m = (b, reply)
-      where
-        reply : (r : Reply) → FineStep (mxReply client n k r)
-        reply failed = step-kept (stop 5) k b
-        reply (items ds) =
-            orVoid-kept k ds _ b
-            (cond-elim FineStep (leb (length ds) most-hosts) (λ _. hosts-kept n k b (byPreference ds)) (λ _. step-kept (stop 6) k b))
-
-    names-kept : (m : List ℕ) (k : Counts) → goes k → (ns : List (List ℕ)) → FineStep (askNames client m k ns)
-    unfolding askNames nameReply Always
-    names-kept m k b [] = step-kept no k b
-    names-kept m k b (n ∷ ns) =
-        (b, λ r. cond-elim FineStep (includesClient client r && atOrBelow n m) (λ _. step-kept yes k b) (λ _. names-kept m k b ns))
-
-    askPtr-kept : (k : Counts) → goes k → (m : List ℕ) → FineStep (askPtr client k m)
-    unfolding askPtr Always ptrReply
-    askPtr-kept k b m = (b, reply)
-      where
-        reply : (r : Reply) → FineStep (ptrReply client m k r)
-        reply failed = step-kept no k b
-        reply (items ds) = orVoid-kept k ds _ b (names-kept m k b (take most-names ds))
-
-  network-kept : (mail : Mail) (x : Said) (a : Optional Address) (k : Counts) → goes k → FineStep (networkStep mail x a k)
-  unfolding networkStep
-  network-kept mail x absent k b = step-kept no k b
-  network-kept mail x (present (IPv4 v)) k b = matched-kept (matchesAt (mail .client) (IPv4 v) (numberOr (x .four))) k b
-  network-kept mail x (present (IPv6 h l)) k b = matched-kept (matchesAt (mail .client) (IPv6 h l) (numberOr (x .six))) k b
-
-  -- a result without an explanation
-  plain : (v : ℕ) (k : Counts) → ends v k → ResultKept goes ends (record { value = v; counts = k; failing = absent })
-  plain v k r = record { reported = r; fetched = λ f e. absurd (absent-present f e) }
-
-  ended-kept : (v : ℕ) (k : Counts) → goes k → Fine (ended v k)
-  unfolding Always
-  ended-kept v k b = plain v k (K .closes v k b)
-
-  includeMatch-kept : (v : ℕ) (k : Counts) → ends v k → StepKept goes ends (includeMatch v) k
-  unfolding includeMatch StepKept
+  includeMatch-kept : (v : ℕ) (k : Counts) → Reported c v k → MatchKept c (includeMatch v) k
+  unfolding includeMatch MatchKept
   includeMatch-kept v k r =
-      cond-elim P (eqb v 2) (λ e. K .resumes v k r (λ s. omega (arith, s, eqb-true v 2 e)))
-      (λ _. cond-elim P (eqb v 5) (λ e. K .closes 5 k (K .resumes v k r (λ s. omega (arith, s, eqb-true v 5 e))))
-      (λ _. cond-elim P (eqb v 6) (λ e. K .errs v k r)
-      (λ e. cond-elim P (eqb v 0) (λ _. K .errs v k r) (λ _. K .resumes v k r (eqb-false _ _ e)))))
+      cond-elim P (eqb v 2) (λ e. resumes r (λ s. omega (arith, s, eqb-true v 2 e)))
+      (λ _. cond-elim P (eqb v 5) (λ e. within (resumes r (λ s. omega (arith, s, eqb-true v 5 e))))
+      (λ _. cond-elim P (eqb v 6) (λ e. errs r)
+      (λ e. cond-elim P (eqb v 0) (λ _. errs r) (λ _. resumes r (eqb-false _ _ e)))))
     where
       P : Match → Type 0
-      P m = StepKept goes ends m k
+      P m = MatchKept c m k
 
-  include-result : (r : Result) → ResultKept goes ends r → FineStep (includeOf r)
-  unfolding includeOf Always
-  include-result r b = includeMatch-kept (r .value) (r .counts) (b .reported)
+  plain : (v : ℕ) (k : Counts) → Reported c v k → ResultKept c (record { value = v; counts = k; failing = absent })
+  plain v k r = record { reported = r; fails = λ f e. absurd (let z : _≡_ {A = ℕ} 0 1 = cc in omega arith) }
 
-  redirect-result : (r : Result) → ResultKept goes ends r → Fine (redirectOf r)
-  unfolding redirectOf noneIsPermerror Always
-  redirect-result r b =
-      cond-elim (ResultKept goes ends) (eqb (r .value) 0)
-      (λ e. plain _ (r .counts) (K .closes _ (r .counts) (K .resumes (r .value) (r .counts) (b .reported) (λ s. omega (arith, s, eqb-true (r .value) 0 e)))))
-      (λ _. b)
+  signed-kept : (d : List ℕ) (ts : List Placed) (v : ℕ) (k : Counts) → Bounded c k
+      → ResultKept c (record { value = v; counts = k; failing = cond (eqb v 3) (failingAt d (modifierOf (bytes "exp") ts)) absent })
+  signed-kept d ts v k b =
+      cond-elim (λ (o : Optional Failing). ResultKept c (record { value = v; counts = k; failing = o })) (eqb v 3)
+      (λ e. record { reported = within b; fails = λ f _. eqb-true v 3 e }) (λ _. plain v k (within b))
 
-  afterStep-kept : (d : List ℕ) (ts : List Placed) (x : Said) (m : Match) (k : Counts) → StepKept goes ends m k → (rest : Counts → Check Result)
-      → ((k : Counts) → goes k → Fine (rest k)) → Fine (afterStep d ts x m k rest)
-  unfolding afterStep signed StepKept Always
-  afterStep-kept d ts x yes k b rest f = record { reported = K .closes (signResult (numberOr (x .sign))) k b; fetched = λ _ _. b }
-  afterStep-kept d ts x no k b rest f = f k b
-  afterStep-kept d ts x (stop v) k b rest f = plain v k b
+  redirect-kept : (r : Result) → ResultKept c r → ResultKept c (noneIsPermerror r)
+  unfolding noneIsPermerror
+  redirect-kept r h =
+      cond-elim (ResultKept c) (eqb (r .value) 0)
+      (λ e. plain _ (r .counts) (within (resumes (h .reported) (λ s. omega (arith, s, eqb-true (r .value) 0 e))))) (λ _. h)
 
-  -- with a check one level down that keeps them
-  module _ (mail : Mail) (sub : Sub) (below : (d : Naming) (k : Counts) → goes k → Fine (sub d k)) where
-    begunCheck-kept : (d spec : List ℕ) (k : Counts) → goes k → Fine (begunCheck mail sub d spec k)
-    unfolding begunCheck checkTarget
-    begunCheck-kept d spec k b = counting-kept (ResultKept goes ends) (ended 6) (checkTarget mail sub d spec) (ended-kept 6) checked k b
+-- a question: its counts, and its name where what is assumed holds
+pub record Asked (Sound : Type 0) (c : Counts) (n : List ℕ) (k : Counts) : Type 0 where
+  pub bounded : Bounded c k
+  pub table-name : Sound → isTableName n ≡ true
+
+pub bounded-self : (c : Counts) → Bounded c c
+bounded-self c = record { lookups-grow = le-refl _; lookups-small = λ h. h; voids-grow = le-refl _; voids-small = λ h. h }
+
+-- From the counts c on, with the table t. Names are followed under the assumption Sound; where nothing is to be assumed it is ⊥.
+module _ (t : Table) (Sound : Type 0) (fits : Sound → Fitting t) (c : Counts) where
+  abbrev pub FineBoth : {A : Type 0} → (A → Type 0) → Check A → Check A → Type 0
+  FineBoth P m m′ = Alike t (Asked Sound c) P m m′
+
+  abbrev pub Fine : {A : Type 0} → (A → Type 0) → Check A → Type 0
+  Fine P m = FineBoth P m m
+
+  abbrev Any : {A : Type 0} → A → Type 0
+  Any a = Unit {0}
+
+  abbrev Askable : List ℕ → Type 0
+  Askable n = Sound → isTableName n ≡ true
+
+  abbrev pub Named : Naming → Type 0
+  Named x = Sound → NamingOk x
+
+  module _ (k : Counts) (b : Bounded c k) where
+    asked : {n : List ℕ} → Askable n → Asked Sound c n k
+    asked h = record { bounded = b; table-name = h }
+
+    -- p's questions
+    validated-fine : (client : Address) (ns found : List (List ℕ)) → (Sound → all isTableName ns ≡ true) → Fine Any (validated client k ns found)
+    unfolding validated
+    validated-fine client [] found h = alike-give tt
+    validated-fine client (n ∷ ns) found h =
+        alike-ask (asked (λ s. all-first isTableName n ns (h s)))
+        (λ r _. validated-fine client ns (withValid client n found r) (λ s. all-rest isTableName n ns (h s)))
+
+    p-fine : (client : Address) (d : List ℕ) → Fine Any (pValue client d k)
+    unfolding pValue pReply givesChosen
+    p-fine client d =
+        alike-ask (asked (λ _. reversed-ok client))
+        (λ r e. alike-bind (validated-fine client (namesOf r) [] (λ s. names-ok r (fits s 12 _ r e))) (λ ns _. alike-give tt))
+
+    expanded-fine : (mail : Mail) (d : List ℕ) (form : Form) (text : List ℕ) → Fine Any (expanded mail d form text k)
+    unfolding expanded givesExpansion
+    expanded-fine mail d form text = alike-cond (usesP form text) (λ _. alike-bind (p-fine (mail .client) d) (λ p _. alike-give tt)) (λ _. alike-give tt)
+
+    target-fine : (mail : Mail) (d spec : List ℕ) → Fine Named (target mail d spec k)
+    unfolding target givesName
+    target-fine mail d spec = alike-bind (expanded-fine mail d Form.DomainSpec spec) (λ s _. alike-give (λ _. question-ok s))
+
+    targetOr-fine : (mail : Mail) (d : List ℕ) → Askable d → (spec : Optional (List ℕ)) → Fine Named (targetOr mail d spec k)
+    unfolding targetOr NamingOk
+    targetOr-fine mail d h absent = alike-give h
+    targetOr-fine mail d h (present spec) = target-fine mail d spec
+
+    -- what a mechanism gives
+    step-fine : (m : Match) → Fine (StepKept c) (step m k)
+    unfolding MatchKept
+    step-fine yes = alike-give b
+    step-fine no = alike-give b
+    step-fine (stop v) = alike-give (within b)
+
+    matched-fine : (found : Bool) → Fine (StepKept c) (matched found k)
+    matched-fine found = alike-cond found (λ _. step-fine yes) (λ _. step-fine no)
+
+    orVoid-fine : (ds : List (List ℕ)) {rest : Check Step} → Fine (StepKept c) rest → Fine (StepKept c) (orVoid k ds rest)
+    unfolding orVoid MatchKept
+    orVoid-fine [] h = alike-cond (ltb (k .voids) most-voids) (λ e. alike-give (bounded-voided b (ltb-true (k .voids) most-voids e))) (λ _. alike-give (third b))
+    orVoid-fine (d ∷ ds) h = h
+
+    -- the hosts of mx and the names of ptr
+    module _ (client : Address) where
+      host-fine : (n : ℕ) {rest : Check Step} → Fine (StepKept c) rest → (r : Reply) → Fine (StepKept c) (hostReply client n k rest r)
+      unfolding hostReply
+      host-fine n f failed = step-fine (stop 5)
+      host-fine n f (items ds) = alike-cond (anyMatches client n ds) (λ _. step-fine yes) (λ _. f)
+
+      hosts-fine : (n : ℕ) (ds : List (List ℕ)) → (Sound → all (isItem 15) ds ≡ true) → Fine (StepKept c) (askHosts client n k ds)
+      unfolding askHosts
+      hosts-fine n [] f = step-fine no
+      hosts-fine n (d ∷ ds) f =
+          let rest = hosts-fine n ds (λ s. all-rest (isItem 15) d ds (f s)) in
+          alike-cond (eqb (length d) 2) (λ _. rest)
+          (λ e. alike-ask (asked (λ s. host-ok d (all-first (isItem 15) d ds (f s)) e)) (λ r _. host-fine n rest r))
+
+      names-fine : (m : List ℕ) (ns : List (List ℕ)) → (Sound → all isTableName ns ≡ true) → Fine (StepKept c) (askNames client m k ns)
+      unfolding askNames nameReply
+      names-fine m [] f = step-fine no
+      names-fine m (n ∷ ns) f =
+          alike-ask (asked (λ s. all-first isTableName n ns (f s)))
+          (λ r _. alike-cond (includesClient client r && atOrBelow n m) (λ _. step-fine yes) (λ _. names-fine m ns (λ s. all-rest isTableName n ns (f s))))
+
+    -- what a, exists, mx and ptr ask of a name m
+    module _ (client : Address) (m : List ℕ) (h : Askable m) where
+      askA-fine : (n : ℕ) → Fine (StepKept c) (askA client n k m)
+      unfolding askA aReply
+      askA-fine n = alike-ask (asked h) (λ r _. reply r)
+        where
+          reply : (r : Reply) → Fine (StepKept c) (aReply client n k r)
+          reply failed = step-fine (stop 5)
+          reply (items ds) = orVoid-fine ds (matched-fine (anyMatches client n ds))
+
+      askExists-fine : Fine (StepKept c) (askExists k m)
+      unfolding askExists existsReply
+      askExists-fine = alike-ask (asked h) (λ r _. reply r)
+        where
+          reply : (r : Reply) → Fine (StepKept c) (existsReply k r)
+          reply failed = step-fine (stop 5)
+          reply (items ds) = orVoid-fine ds (step-fine yes)
+
+      askMx-fine : (n : ℕ) → Fine (StepKept c) (askMx client n k m)
+      unfolding askMx mxReply mxItems
+      askMx-fine n = alike-ask (asked h) (λ r e. reply r (λ s. fits s 15 m r e))
+        where
+          reply : (r : Reply) → (Sound → ReplyFits 15 r) → Fine (StepKept c) (mxReply client n k r)
+          reply failed f = step-fine (stop 5)
+          reply (items ds) f =
+              orVoid-fine ds
+              (alike-cond (leb (length ds) most-hosts) (λ _. hosts-fine client n (byPreference ds) (λ s. hosts-ok ds (f s))) (λ _. step-fine (stop 6)))
+
+      askPtr-fine : Fine (StepKept c) (askPtr client k m)
+      unfolding askPtr ptrReply namesOf
+      askPtr-fine = alike-ask (asked (λ _. reversed-ok client)) (λ r e. reply r (λ s. names-ok r (fits s 12 _ r e)))
+        where
+          reply : (r : Reply) → (Sound → all isTableName (namesOf r) ≡ true) → Fine (StepKept c) (ptrReply client m k r)
+          reply failed f = step-fine no
+          reply (items ds) f = orVoid-fine ds (names-fine client m (namesOf (items ds)) f)
+
+    network-fine : (mail : Mail) (x : Said) (a : Optional Address) → Fine (StepKept c) (networkStep mail x a k)
+    unfolding networkStep
+    network-fine mail x absent = step-fine no
+    network-fine mail x (present (IPv4 v)) = matched-fine (matchesAt (mail .client) (IPv4 v) (numberOr (x .four)))
+    network-fine mail x (present (IPv6 h l)) = matched-fine (matchesAt (mail .client) (IPv6 h l) (numberOr (x .six)))
+
+    -- a result without an explanation
+    ended-fine : (v : ℕ) → Fine (ResultKept c) (ended v k)
+    ended-fine v = alike-give (plain v k (within b))
+
+    -- record lookup
+    lookup-fine : (d : List ℕ) → Askable d → Fine Any (recordLookup d k)
+    unfolding recordLookup spfReply spfItems textLookup textReply
+    lookup-fine d h = alike-peek spf
       where
-        checked : (k : Counts) → goes k → Fine (checkTarget mail sub d spec k)
-        checked k b = always-bind goes (λ _. Unit {0}) (ResultKept goes ends) (target mail d spec k) _ (target-asks goes mail k b d spec) (λ t _. below t k b)
+        reply : (r : Reply) → Fine Any (textReply r)
+        reply failed = alike-give tt
+        reply (items ss) = alike-give tt
 
-    include-kept : (d spec : List ℕ) (k : Counts) → goes k → FineStep (includeStep mail sub d spec k)
-    unfolding includeStep
-    include-kept d spec k b =
-        always-bind goes (ResultKept goes ends) (λ s. StepKept goes ends (s .match) (s .counts)) (begunCheck mail sub d spec k) includeOf (begunCheck-kept d spec k b) include-result
+        text : Fine Any (textLookup d k)
+        text = alike-ask (asked h) (λ r _. reply r)
 
-    mechanism-kept : (d : List ℕ) (x : Said) (k : Counts) → goes k → FineStep (mechanismStep mail sub d x k)
-    unfolding mechanismStep aStep mxStep ptrStep existsStep
-    mechanism-kept d x k b =
-        cond-elim FineStep (same (x .name) (bytes "all")) (λ _. step-kept yes k b)
-        (λ _. cond-elim FineStep (same (x .name) (bytes "include")) (λ _. include-kept d (bytesOr (x .argument)) k b)
-        (λ _. cond-elim FineStep (same (x .name) (bytes "a")) (λ _. named-kept mail d (x .argument) _ (askA-kept (mail .client) (lengthFor (mail .client) x)) k b)
-        (λ _. cond-elim FineStep (same (x .name) (bytes "mx")) (λ _. named-kept mail d (x .argument) _ (askMx-kept (mail .client) (lengthFor (mail .client) x)) k b)
-        (λ _. cond-elim FineStep (same (x .name) (bytes "ptr")) (λ _. named-kept mail d (x .argument) _ (askPtr-kept (mail .client)) k b)
-        (λ _. cond-elim FineStep (same (x .name) (bytes "exists")) (λ _. named-kept mail d (present (bytesOr (x .argument))) _ (askExists-kept (mail .client)) k b)
-        (λ _. network-kept mail x (x .address) k b))))))
+        spf : (r : Optional Reply) → Fine Any (spfReply d k r)
+        spf absent = text
+        spf (present failed) = text
+        spf (present (items [])) = text
+        spf (present (items (s ∷ ss))) = alike-give tt
 
-    pub term-kept : (d : List ℕ) (x : Said) (sign : Optional ℕ) (k : Counts) → goes k → FineStep (termStep mail sub d x sign k)
-    unfolding termStep
-    term-kept d x absent k b = step-kept no k b
-    term-kept d x (present sign) k b = mechanism-kept d x k b
+  -- what counts as a lookup
+  counting-fine : {A : Type 0} {P : A → Type 0} (refused go go′ : Counts → Check A) (k : Counts) → Bounded c k → FineBoth P (refused k) (refused k)
+      → (Bounded c (begun k) → FineBoth P (go (begun k)) (go′ (begun k))) → FineBoth P (counting refused go k) (counting refused go′ k)
+  unfolding counting
+  counting-fine refused go go′ k b r g = alike-cond (ltb (k .lookups) most-lookups) (λ e. g (bounded-begun b (ltb-true (k .lookups) most-lookups e))) (λ _. r)
 
-    noMatch-kept : (d : List ℕ) (spec : Optional (List ℕ)) (k : Counts) → goes k → Fine (noMatch mail sub d spec k)
-    unfolding noMatch
-    noMatch-kept d absent k b = ended-kept 1 k b
-    noMatch-kept d (present spec) k b =
-        always-bind goes (ResultKept goes ends) (ResultKept goes ends) (begunCheck mail sub d spec k) redirectOf (begunCheck-kept d spec k b) redirect-result
+  -- a mechanism that makes its name and asks
+  named-fine : (mail : Mail) (d : List ℕ) → Askable d → (spec : Optional (List ℕ)) (go : Counts → List ℕ → Check Step)
+      → ((k : Counts) → Bounded c k → (m : List ℕ) → Askable m → Fine (StepKept c) (go k m))
+      → (k : Counts) → Bounded c k → Fine (StepKept c) (named mail d spec go k)
+  unfolding named naming withName NamingOk
+  named-fine mail d h spec go f k b = counting-fine _ _ _ k b (step-fine k b (stop 6)) (λ l. alike-bind (targetOr-fine (begun k) l mail d h spec) (with l))
+    where
+      with : Bounded c (begun k) → (x : Naming) → Named x → Fine (StepKept c) (withName (go (begun k)) (begun k) x)
+      with l malformed q = step-fine (begun k) l no
+      with l (name m) q = f (begun k) l m q
 
-    pub terms-kept : (d : List ℕ) (all-terms ts : List Placed) (k : Counts) → goes k → Fine (tryTerms mail sub d all-terms ts k)
-    unfolding tryTerms
-    terms-kept d all-terms [] k b = noMatch-kept d (modifierOf (bytes "redirect") all-terms) k b
-    terms-kept d all-terms (t ∷ ts) k b =
-        always-bind goes (λ s. StepKept goes ends (s .match) (s .counts)) (ResultKept goes ends) (termStep mail sub d (t .said) (t .said .sign) k) _
-        (term-kept d (t .said) (t .said .sign) k b)
-        (λ s h. afterStep-kept d all-terms (t .said) (s .match) (s .counts) h (tryTerms mail sub d all-terms ts) (terms-kept d all-terms ts))
+  -- with two checks one level down that settle the same and are fine
+  module _ (mail : Mail) (sub sub′ : Sub)
+      (below : (x : Naming) (k : Counts) → Bounded c k → c .lookups < k .lookups → Named x → FineBoth (ResultKept c) (sub x k) (sub′ x k)) where
+    begunCheck-fine : (d spec : List ℕ) (k : Counts) → Bounded c k → FineBoth (ResultKept c) (begunCheck mail sub d spec k) (begunCheck mail sub′ d spec k)
+    unfolding begunCheck checkTarget
+    begunCheck-fine d spec k b =
+        counting-fine _ _ _ k b (ended-fine k b 6)
+        (λ l. alike-bind (target-fine (begun k) l mail d spec) (λ x h. below x (begun k) l (omega (arith, b .lookups-grow)) h))
 
-    read-kept : (d s : List ℕ) (a : RecordAnswer) (k : Counts) → goes k → Fine (readOutcome mail sub d s a k)
-    unfolding readOutcome
-    read-kept d s (RecordAnswer.Accepted next) k b = terms-kept d (termsOf s next) (termsOf s next) k b
-    read-kept d s (RecordAnswer.Refused number at) k b = ended-kept 6 k b
+    include-fine : (d spec : List ℕ) (k : Counts) → Bounded c k → FineBoth (StepKept c) (includeStep mail sub d spec k) (includeStep mail sub′ d spec k)
+    unfolding includeStep includeOf
+    include-fine d spec k b = alike-bind (begunCheck-fine d spec k b) (λ r h. alike-give (includeMatch-kept (r .value) (r .counts) (h .reported)))
 
-    afterLookup-kept : (d : List ℕ) (k : Counts) (x : Selection) → goes k → Fine (afterLookup mail sub d k x)
-    unfolding afterLookup
-    afterLookup-kept d k (Selection.ends v) b = ended-kept v k b
-    afterLookup-kept d k (one s) b = read-kept d s (readRecord s) k b
+    noMatch-fine : (d : List ℕ) (spec : Optional (List ℕ)) (k : Counts) → Bounded c k → FineBoth (ResultKept c) (noMatch mail sub d spec k) (noMatch mail sub′ d spec k)
+    unfolding noMatch redirectOf
+    noMatch-fine d absent k b = ended-fine k b 1
+    noMatch-fine d (present spec) k b = alike-bind (begunCheck-fine d spec k b) (λ r h. alike-give (redirect-kept r h))
 
-    name-kept : (d : Naming) (k : Counts) → goes k → Fine (checkName mail sub d k)
-    unfolding checkName
-    name-kept malformed k b = ended-kept 0 k b
-    name-kept (name d) k b =
-        cond-elim Fine (leb (labelCount d) 1) (λ _. ended-kept 0 k b)
-        (λ _. always-bind goes (λ _. Unit {0}) (ResultKept goes ends) (recordLookup d k) (afterLookup mail sub d k) (lookup-asks goes d k b)
-        (λ x _. afterLookup-kept d k x b))
+    afterStep-fine : (d : List ℕ) (ts : List Placed) (x : Said) (m : Match) (k : Counts) (rest rest′ : Counts → Check Result) → MatchKept c m k
+        → ((k : Counts) → Bounded c k → FineBoth (ResultKept c) (rest k) (rest′ k)) → FineBoth (ResultKept c) (afterStep d ts x m k rest) (afterStep d ts x m k rest′)
+    unfolding afterStep signed MatchKept
+    afterStep-fine d ts x yes k rest rest′ b f = alike-give (signed-kept d ts (signResult (numberOr (x .sign))) k b)
+    afterStep-fine d ts x no k rest rest′ b f = f k b
+    afterStep-fine d ts x (stop v) k rest rest′ r f = alike-give (plain v k r)
 
-  pub check-kept : (n : ℕ) (mail : Mail) (d : Naming) (k : Counts) → goes k → Fine (check n mail d k)
+    -- a domain whose name is followed
+    module _ (d : List ℕ) (h : Askable d) where
+      mechanism-fine : (x : Said) (k : Counts) → Bounded c k → FineBoth (StepKept c) (mechanismStep mail sub d x k) (mechanismStep mail sub′ d x k)
+      unfolding mechanismStep aStep mxStep ptrStep existsStep
+      mechanism-fine x k b =
+          alike-cond (same (x .name) (bytes "all")) (λ _. step-fine k b yes)
+          (λ _. alike-cond (same (x .name) (bytes "include")) (λ _. include-fine d (bytesOr (x .argument)) k b)
+          (λ _. alike-cond (same (x .name) (bytes "a")) (λ _. asks (x .argument) (λ k b m q. askA-fine k b client m q n))
+          (λ _. alike-cond (same (x .name) (bytes "mx")) (λ _. asks (x .argument) (λ k b m q. askMx-fine k b client m q n))
+          (λ _. alike-cond (same (x .name) (bytes "ptr")) (λ _. asks (x .argument) (λ k b m q. askPtr-fine k b client m q))
+          (λ _. alike-cond (same (x .name) (bytes "exists")) (λ _. asks (present (bytesOr (x .argument))) (λ k b m q. askExists-fine k b client m q))
+          (λ _. network-fine k b mail x (x .address)))))))
+        where
+          client : Address
+          client = mail .client
+
+          n : ℕ
+          n = lengthFor client x
+
+          asks : (spec : Optional (List ℕ)) {go : Counts → List ℕ → Check Step} → ((k : Counts) → Bounded c k → (m : List ℕ) → Askable m → Fine (StepKept c) (go k m))
+              → Fine (StepKept c) (named mail d spec go k)
+          asks spec f = named-fine mail d h spec _ f k b
+
+      pub term-fine : (x : Said) (sign : Optional ℕ) (k : Counts) → Bounded c k → FineBoth (StepKept c) (termStep mail sub d x sign k) (termStep mail sub′ d x sign k)
+      unfolding termStep
+      term-fine x absent k b = step-fine k b no
+      term-fine x (present sign) k b = mechanism-fine x k b
+
+      terms-fine : (all-terms ts : List Placed) (k : Counts) → Bounded c k → FineBoth (ResultKept c) (tryTerms mail sub d all-terms ts k) (tryTerms mail sub′ d all-terms ts k)
+      unfolding tryTerms
+      terms-fine all-terms [] k b = noMatch-fine d (modifierOf (bytes "redirect") all-terms) k b
+      terms-fine all-terms (x ∷ ts) k b =
+          alike-bind (term-fine (x .said) (x .said .sign) k b)
+          (λ s q. afterStep-fine d all-terms (x .said) (s .match) (s .counts) _ _ q (terms-fine all-terms ts))
+
+      afterLookup-fine : (k : Counts) → Bounded c k → (x : Selection) → FineBoth (ResultKept c) (afterLookup mail sub d k x) (afterLookup mail sub′ d k x)
+      unfolding afterLookup readOutcome
+      afterLookup-fine k b (ends v) = ended-fine k b v
+      afterLookup-fine k b (one s) = read (readRecord s)
+        where
+          read : (a : RecordAnswer) → FineBoth (ResultKept c) (readOutcome mail sub d s a k) (readOutcome mail sub′ d s a k)
+          read (RecordAnswer.Accepted next) = terms-fine (termsOf s next) (termsOf s next) k b
+          read (RecordAnswer.Refused number at) = ended-fine k b 6
+
+    pub checkName-fine : (x : Naming) (k : Counts) → Bounded c k → Named x → FineBoth (ResultKept c) (checkName mail sub x k) (checkName mail sub′ x k)
+    unfolding checkName NamingOk
+    checkName-fine malformed k b h = ended-fine k b 0
+    checkName-fine (name d) k b h =
+        alike-cond (leb (labelCount d) 1) (λ _. ended-fine k b 0) (λ _. alike-bind (lookup-fine k b d h) (λ x _. afterLookup-fine d h k b x))
+
+  pub check-fine : (n : ℕ) (mail : Mail) (x : Naming) (k : Counts) → Bounded c k → Named x → Fine (ResultKept c) (check n mail x k)
   unfolding check
-  check-kept zero mail d k b = ended-kept 6 k b
-  check-kept (suc n) mail d k b = name-kept mail (check n mail) (check-kept n mail) d k b
+  check-fine zero mail x k b h = ended-fine k b 6
+  check-fine (suc n) mail x k b h = checkName-fine mail (check n mail) (check n mail) (λ x k b _ h. check-fine n mail x k b h) x k b h
+
+  -- the explanation; without an exp the text is empty
+  module _ (mail : Mail) (k : Counts) (b : Bounded c k) {P : List ℕ → Type 0} (any : (x : List ℕ) → P x) (d : List ℕ) where
+    explained-fine : (ss : List (List ℕ)) → Fine P (explained mail d k ss)
+    unfolding explained givesShown
+    explained-fine [] = alike-give (any [])
+    explained-fine (s ∷ []) =
+        alike-cond (isMacroString Form.Explanation s) (λ _. alike-bind (expanded-fine k b mail d Form.Explanation s) (λ x _. alike-give (any _)))
+        (λ _. alike-give (any []))
+    explained-fine (s ∷ u ∷ r) = alike-give (any [])
+
+    explainReply-fine : (r : Reply) → Fine P (explainReply mail d k r)
+    unfolding explainReply
+    explainReply-fine failed = alike-give (any [])
+    explainReply-fine (items ss) = explained-fine ss
+
+    explainName-fine : (x : Naming) → Named x → Fine P (explainName mail d k x)
+    unfolding explainName NamingOk
+    explainName-fine malformed h = alike-give (any [])
+    explainName-fine (name n) h = alike-ask (asked k b h) (λ r _. explainReply-fine r)
+
+  pub explanation-fine : (mail : Mail) (f : Optional Failing) (k : Counts) → ((x : Failing) → f ≡ present x → Bounded c k)
+      → Fine (λ x. f ≡ absent → x ≡ []) (explanation mail f k)
+  unfolding explanation
+  explanation-fine mail absent k h = alike-give (λ _. refl)
+  explanation-fine mail (present f) k h =
+      alike-bind (target-fine k (h f refl) mail (f .domain) (f .exp))
+      (explainName-fine mail k (h f refl) (λ x e. absurd (let z : _≡_ {A = ℕ} 0 1 = cc in omega arith)) (f .domain))

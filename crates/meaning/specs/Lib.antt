@@ -11,20 +11,20 @@ pub mod Evaluation
 pub mod Outcomes
 -- Inversions: what an answer of the code tells of what a table settles.
 pub mod Inversions
--- Always: what holds of every way through a check.
-pub mod Always
 -- Runs: what a table settles of one check after another.
 pub mod Runs
--- Kept: what each step keeps of the counts, a whole check keeps.
-pub mod Kept
--- Bounds: lookups never exceed 10, voids never 3, and 2 unless the result is permerror.
-pub mod Bounds
--- Enough: the depth bound never decides.
-pub mod Enough
+-- Alike: two checks that settle the same, and what holds of that.
+pub mod Alike
 -- Reversed: the name of a PTR question is a name as the table has it.
 pub mod Reversed
--- Askable: every question has a name as the table has it, and only a fail has a text.
+-- Askable: so are the names that an evaluation makes, and those in an accepted table's items.
 pub mod Askable
+-- Kept: what every check keeps of the counts and the names that it asks, and that it settles the same over checks that do.
+pub mod Kept
+-- Verdicts: lookups never exceed 10, voids never 3, and 2 unless the result is permerror; only a fail has a text; a question can be asked.
+pub mod Verdicts
+-- Enough: the depth bound never decides.
+pub mod Enough
 -- Agreement: what a check consults decides it.
 pub mod Agreement
 -- Growth: a settled result stays when the table only gains entries that answer no peek.

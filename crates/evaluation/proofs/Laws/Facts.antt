@@ -15,10 +15,10 @@ use Rattle.table.proofs.Laws.Entries.{entries-complete}
 use Rattle.meaning.specs.declared.Counts.{Counts}
 use Rattle.meaning.specs.Tree.{Settled, settled, wanting, run}
 use Rattle.meaning.specs.Tables.{tableIn}
-use Rattle.meaning.specs.Always.{Holds}
+use Rattle.meaning.specs.Alike.{Holds}
+use Rattle.meaning.specs.Askable.{entries-fit}
 use Rattle.meaning.specs.Evaluation.{Verdict, verdict}
-use Rattle.meaning.specs.Bounds.{AskedBounds, AnsweredBounds, verdict-bounded}
-use Rattle.meaning.specs.Askable.{Settles, TextOfFail, verdict-settles}
+use Rattle.meaning.specs.Verdicts.{Wanted, Answered, verdict-facts}
 use Rattle.evaluation.specs.Numbers.{Outcome, refused, refused-at, settles}
 use Rattle.evaluation.specs.Evaluating.{mailFor, evaluated}
 use Rattle.evaluation.specs.Answers.{Answers, no-sender, no-host, long-domain, no-room, bad-table, decides}
@@ -53,19 +53,17 @@ module _ (client : Address) (domain sender helo receiver : List ℕ) (seconds : 
     from : From client domain sender helo receiver seconds table x
     from = settled-from (evaluated-answers client domain sender helo receiver seconds table name text) x e
 
-    facts : Settles TextOfFail x
-    facts = rw (from .is) (verdict-settles (from .encoded .entries) (mailFor client sender helo receiver seconds) domain)
-
-    pub bounds : Holds AskedBounds (λ v. AnsweredBounds (v .value) (v .counts)) x
-    bounds = rw (from .is) (verdict-bounded (tableIn table) (mailFor client sender helo receiver seconds) domain)
+    -- the counts at a missing question and with a result, a wanted name, and the text
+    pub facts : Holds (Wanted (tableIn table)) Answered x
+    facts = rw (from .is) (verdict-facts (tableIn table) (mailFor client sender helo receiver seconds) domain)
 
   -- a wanted name
   pub wanted-name : (kind : ℕ) (n : List ℕ) (c : Counts) → evaluated client domain sender helo receiver seconds table name text ≡ settles (wanting kind n c)
       → isTableName n ≡ true
-  unfolding Settles
-  wanted-name kind n c e = facts (wanting kind n c) e
+  unfolding Holds
+  wanted-name kind n c e = facts (wanting kind n c) e .table-name (entries-fit (from (wanting kind n c) e .encoded .entries))
 
   -- "text written only for 3"
   pub only-for-fail : (v : Verdict) → evaluated client domain sender helo receiver seconds table name text ≡ settles (settled v) → (v .value ≡ 3 → ⊥) → v .text ≡ []
-  unfolding Settles
-  only-for-fail v e n = facts (settled v) e .other n
+  unfolding Holds
+  only-for-fail v e n = facts (settled v) e .text n

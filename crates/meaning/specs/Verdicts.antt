@@ -1,0 +1,56 @@
+-- What holds of every verdict, whatever the table, the mail and the domain: at most ten lookups and, short of permerror, two void answers; "text written
+-- only for 3"; and a question that is lacking has a name as the table has it, if the table's items are of their kinds. From what a check keeps (Kept).
+use Prim.Native.Nat.{ℕ, _≤_, _<_}
+use native.Mathlib.Omega.{arith}
+use mathlib.Core.Path.{_≡_, refl}
+use mathlib.Core.List.{List, []}
+use mathlib.Core.Bool.{true}
+use Rattle.domain.specs.Names.{isTableName}
+use Rattle.domain.specs.Normal.{normal}
+use Rattle.records.specs.Readings.{Optional, absent, present}
+use Rattle.meaning.specs.declared.Counts.{Counts}
+use Rattle.meaning.specs.Tree.{Table, run}
+use Rattle.meaning.specs.Alike.{Holds, holds-weaken, alike-give, alike-bind}
+use Rattle.meaning.specs.Askable.{Fitting, normal-ok}
+use Rattle.meaning.specs.Mechanisms.{Mail}
+use Rattle.meaning.specs.Evaluation.{Failing, Result, noCounts, evaluation, Verdict, verdict}
+use Rattle.meaning.specs.Kept.{Reported, within, third, ResultKept, Asked, Fine, bounded-self, resumes, check-fine, explanation-fine}
+
+-- a question that is lacking, with the counts that are reported
+pub record Wanted (t : Table) (n : List ℕ) (c : Counts) : Type 0 where
+  pub lookups-ten : c .lookups ≤ 10
+  pub voids-two : c .voids ≤ 2
+  pub table-name : Fitting t → isTableName n ≡ true
+
+pub record Answered (v : Verdict) : Type 0 where
+  pub lookups-ten : v .counts .lookups ≤ 10
+  pub voids-three : v .counts .voids ≤ 3
+  pub third : 2 < v .counts .voids → v .value ≡ 6
+  pub text : (v .value ≡ 3 → ⊥) → v .text ≡ []
+
+wanted : (t : Table) (n : List ℕ) (k : Counts) → Asked (Fitting t) noCounts n k → Wanted t n k
+wanted t n k a = record { lookups-ten = a .bounded .lookups-small (omega arith); voids-two = a .bounded .voids-small (omega arith); table-name = a .table-name }
+
+bounds : {v : ℕ} {k : Counts} → Reported noCounts v k → (k .lookups ≤ 10) × (k .voids ≤ 3) × (2 < k .voids → v ≡ 6)
+bounds (within b) =
+    (b .lookups-small (omega arith), omega (arith, b .voids-small (omega arith)), λ h. absurd (omega (arith, h, b .voids-small (omega arith))))
+bounds (third b) = (b .lookups-small (omega arith), omega (arith, b .voids-small (omega arith)), λ _. refl)
+
+answered : (r : Result) → ResultKept noCounts r → (x : List ℕ) → (r .failing ≡ absent → x ≡ []) → Answered (record { value = r .value; counts = r .counts; text = x })
+answered r h x e =
+    let b = bounds (h .reported) in
+    record { lookups-ten = b .0; voids-three = b .1; third = b .2; text = λ n. e (unexplained n (r .failing) refl) }
+  where
+    unexplained : (r .value ≡ 3 → ⊥) → (f : Optional Failing) → r .failing ≡ f → r .failing ≡ absent
+    unexplained n absent e = e
+    unexplained n (present f) e = absurd (n (h .fails f e))
+
+pub verdict-facts : (t : Table) (mail : Mail) (domain : List ℕ) → Holds (Wanted t) Answered (run t (verdict mail domain))
+unfolding verdict evaluation
+verdict-facts t mail domain = holds-weaken Answered (wanted t) (run t (verdict mail domain)) (fine .holds)
+  where
+    fine : Fine t (Fitting t) (λ f. f) noCounts Answered (verdict mail domain)
+    fine =
+        alike-bind (check-fine t (Fitting t) (λ f. f) noCounts 11 mail (normal domain) noCounts (bounded-self noCounts) (λ _. normal-ok domain))
+        (λ r h. alike-bind (explanation-fine t (Fitting t) (λ f. f) noCounts mail (r .failing) (r .counts) (λ f e. resumes (h .reported) (λ s. omega (arith, s, h .fails f e))))
+        (λ x e. alike-give (answered r h x e)))
