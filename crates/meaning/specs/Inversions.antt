@@ -1,6 +1,6 @@
 -- What an answer of the code tells of what a table settles, by the answer's case. From Outcomes alone, over any settled value.
 use Prim.Native.Nat.{ℕ, _≤_}
-use mathlib.Core.Path.{_≡_, refl, sym, ap, _∙_}
+use mathlib.Core.Path.{_≡_, refl, ap, subst, _∙_}
 use mathlib.Core.List.{List}
 use native.Mathlib.Omega.{arith}
 use lib.ListN.{length, take}
@@ -41,148 +41,128 @@ pub wants-bind : {A B : Type 0} (t : Table) (m : Check A) (f : A → Check B) (k
     → Wants (run t m) kind size c b a → Wants (run t (bind m f)) kind size c b a
 wants-bind t m f kind size c b a w = record { asked = w .asked; is = bind-wants t m f kind (w .asked) c (w .is); size-is = w .size-is; buffer = w .buffer }
 
+-- For each kind of answer: what it tells by its case, that it tells this, and each case on its own.
+
 -- a term
-pub step-yes : (x : Settled Step) (r : Stepped) (b a : List ℕ) → SaysStep x r b a → r .matched ≡ Matched.Yes → Gives x (record { match = yes; counts = r .counts }) b a
-unfolding steppedOf wantedBuffer matchedOf
-step-yes (settled s) r b a w e = go (s .match) refl
-  where
-    go : (m : Match) → s .match ≡ m → Gives (settled s) (record { match = yes; counts = r .counts }) b a
-    go yes q = let p : r ≡ record { matched = Matched.Yes; counts = s .counts } = rw q at (w .outcome) in let j : r .counts ≡ s .counts = cc in record { is = rw (← q, j); kept = w .buffer }
-    go no q = let p : r ≡ record { matched = Matched.No; counts = s .counts } = rw q at (w .outcome) in let z : _≡_ {A = ℕ} 0 1 = cc in absurd (omega arith)
-    go (stop u) q = let p : r ≡ record { matched = Matched.Stop (Ending.Result u); counts = s .counts } = rw q at (w .outcome) in let z : _≡_ {A = ℕ} 0 1 = cc in absurd (omega arith)
-step-yes (wanting k n c) r b a w e = let p = w .outcome in let z : _≡_ {A = ℕ} 0 1 = cc in absurd (omega arith)
+abbrev StepTells : Settled Step → Matched → Counts → (before after : List ℕ) → Type 0
+StepTells x Matched.Yes c b a = Gives x (record { match = yes; counts = c }) b a
+StepTells x Matched.No c b a = Gives x (record { match = no; counts = c }) b a
+StepTells x (Matched.Stop (Ending.Result v)) c b a = Gives x (record { match = stop v; counts = c }) b a
+StepTells x (Matched.Stop (Ending.Wanting kind size)) c b a = Wants x kind size c b a
 
-pub step-no : (x : Settled Step) (r : Stepped) (b a : List ℕ) → SaysStep x r b a → r .matched ≡ Matched.No → Gives x (record { match = no; counts = r .counts }) b a
-unfolding steppedOf wantedBuffer matchedOf
-step-no (settled s) r b a w e = go (s .match) refl
-  where
-    go : (m : Match) → s .match ≡ m → Gives (settled s) (record { match = no; counts = r .counts }) b a
-    go yes q = let p : r ≡ record { matched = Matched.Yes; counts = s .counts } = rw q at (w .outcome) in let z : _≡_ {A = ℕ} 0 1 = cc in absurd (omega arith)
-    go no q = let p : r ≡ record { matched = Matched.No; counts = s .counts } = rw q at (w .outcome) in let j : r .counts ≡ s .counts = cc in record { is = rw (← q, j); kept = w .buffer }
-    go (stop u) q = let p : r ≡ record { matched = Matched.Stop (Ending.Result u); counts = s .counts } = rw q at (w .outcome) in let z : _≡_ {A = ℕ} 0 1 = cc in absurd (omega arith)
-step-no (wanting k n c) r b a w e = let p = w .outcome in let z : _≡_ {A = ℕ} 0 1 = cc in absurd (omega arith)
+settled-tells : (m : Match) (c : Counts) (b a : List ℕ) → a ≡ b → StepTells (settled (record { match = m; counts = c })) (matchedOf m) c b a
+unfolding matchedOf
+settled-tells yes c b a k = record { is = refl; kept = k }
+settled-tells no c b a k = record { is = refl; kept = k }
+settled-tells (stop v) c b a k = record { is = refl; kept = k }
 
-pub step-result : (x : Settled Step) (r : Stepped) (b a : List ℕ) → SaysStep x r b a → (v : ℕ) → r .matched ≡ Matched.Stop (Ending.Result v) → Gives x (record { match = stop v; counts = r .counts }) b a
-unfolding steppedOf wantedBuffer matchedOf
-step-result (settled s) r b a w v e = go (s .match) refl
-  where
-    go : (m : Match) → s .match ≡ m → Gives (settled s) (record { match = stop v; counts = r .counts }) b a
-    go yes q = let p : r ≡ record { matched = Matched.Yes; counts = s .counts } = rw q at (w .outcome) in let z : _≡_ {A = ℕ} 0 1 = cc in absurd (omega arith)
-    go no q = let p : r ≡ record { matched = Matched.No; counts = s .counts } = rw q at (w .outcome) in let z : _≡_ {A = ℕ} 0 1 = cc in absurd (omega arith)
-    go (stop u) q = let p : r ≡ record { matched = Matched.Stop (Ending.Result u); counts = s .counts } = rw q at (w .outcome) in let i : v ≡ u = cc in let j : r .counts ≡ s .counts = cc in record { is = rw (i, ← q, j); kept = w .buffer }
-step-result (wanting k n c) r b a w v e = let p = w .outcome in let z : _≡_ {A = ℕ} 0 1 = cc in absurd (omega arith)
+step-tells : (x : Settled Step) (r : Stepped) (b a : List ℕ) → SaysStep x r b a → StepTells x (r .matched) (r .counts) b a
+unfolding steppedOf wantedBuffer
+step-tells (settled s) r b a w = rw (w .outcome) (settled-tells (s .match) (s .counts) b a (w .buffer))
+step-tells (wanting k n c) r b a w = rw (w .outcome) (record { asked = n; is = refl; size-is = refl; buffer = w .buffer })
 
-pub step-wants : (x : Settled Step) (r : Stepped) (b a : List ℕ) → SaysStep x r b a → (kind size : ℕ) → r .matched ≡ Matched.Stop (Ending.Wanting kind size) → Wants x kind size (r .counts) b a
-unfolding steppedOf wantedBuffer matchedOf
-step-wants (settled s) r b a w kind size e = go (s .match) refl
-  where
-    go : (m : Match) → s .match ≡ m → Wants (settled s) kind size (r .counts) b a
-    go yes q = let p : r ≡ record { matched = Matched.Yes; counts = s .counts } = rw q at (w .outcome) in let z : _≡_ {A = ℕ} 0 1 = cc in absurd (omega arith)
-    go no q = let p : r ≡ record { matched = Matched.No; counts = s .counts } = rw q at (w .outcome) in let z : _≡_ {A = ℕ} 0 1 = cc in absurd (omega arith)
-    go (stop u) q = let p : r ≡ record { matched = Matched.Stop (Ending.Result u); counts = s .counts } = rw q at (w .outcome) in let z : _≡_ {A = ℕ} 0 1 = cc in absurd (omega arith)
-step-wants (wanting k n c) r b a w kind size e =
-    let p = w .outcome in
-    let i : kind ≡ k = cc in let j : size ≡ length n = cc in let h : r .counts ≡ c = cc in
-    record { asked = n; is = rw (i, h); size-is = j; buffer = w .buffer }
+module _ (x : Settled Step) (r : Stepped) (b a : List ℕ) (w : SaysStep x r b a) where
+  step-as : (m : Matched) → r .matched ≡ m → StepTells x m (r .counts) b a
+  step-as m e = subst (λ (m : Matched). StepTells x m (r .counts) b a) e (step-tells x r b a w)
+
+  pub step-yes : r .matched ≡ Matched.Yes → Gives x (record { match = yes; counts = r .counts }) b a
+  step-yes e = step-as Matched.Yes e
+
+  pub step-no : r .matched ≡ Matched.No → Gives x (record { match = no; counts = r .counts }) b a
+  step-no e = step-as Matched.No e
+
+  pub step-result : (v : ℕ) → r .matched ≡ Matched.Stop (Ending.Result v) → Gives x (record { match = stop v; counts = r .counts }) b a
+  step-result v e = step-as (Matched.Stop (Ending.Result v)) e
+
+  pub step-wants : (kind size : ℕ) → r .matched ≡ Matched.Stop (Ending.Wanting kind size) → Wants x kind size (r .counts) b a
+  step-wants kind size e = step-as (Matched.Stop (Ending.Wanting kind size)) e
 
 -- and the other way round
-pub says-gives : (x : Settled Step) (m : Match) (c : Counts) (b a : List ℕ) → Gives x (record { match = m; counts = c }) b a
-    → SaysStep x (record { matched = matchedOf m; counts = c }) b a
-unfolding steppedOf wantedBuffer
-says-gives x m c b a g = rw (g .is) (record { outcome = refl; buffer = g .kept })
-
 pub says-wants : (x : Settled Step) (kind size : ℕ) (c : Counts) (b a : List ℕ) → Wants x kind size c b a
     → SaysStep x (record { matched = Matched.Stop (Ending.Wanting kind size); counts = c }) b a
 unfolding steppedOf wantedBuffer
 says-wants x kind size c b a w = rw (w .is, w .size-is) (record { outcome = refl; buffer = w .buffer })
 
 -- a domain-spec
-pub target-name : (c : Counts) (x : Settled Naming) (r : Target) (to b a : List ℕ) → SaysTarget c x r to b a → (n : ℕ) → r ≡ Target.Name n → Gives x (name (take n to)) b a × (n ≤ 253)
-unfolding TargetIs wantedBuffer
-target-name c (settled (name s)) r to b a w n e =
-    let p = w .target in
-    let j : n ≡ length s = cc in
-    (record { is = rw (j, p .1); kept = w .buffer }, rw j (p .2))
-target-name c (settled malformed) r to b a w n e = let p = w .target in let z : _≡_ {A = ℕ} 0 1 = cc in absurd (omega arith)
-target-name c (wanting k m l) r to b a w n e = let p = w .target in let z : _≡_ {A = ℕ} 0 1 = cc in absurd (omega arith)
+abbrev TargetTells : Counts → Settled Naming → Target → (to before after : List ℕ) → Type 0
+TargetTells c x (Target.Name n) to b a = Gives x (name (take n to)) b a × (n ≤ 253)
+TargetTells c x Target.Malformed to b a = Gives x malformed b a
+TargetTells c x (Target.Wanting kind size) to b a = Wants x kind size c b a
 
-pub target-malformed : (c : Counts) (x : Settled Naming) (r : Target) (to b a : List ℕ) → SaysTarget c x r to b a → r ≡ Target.Malformed → Gives x malformed b a
+target-tells : (c : Counts) (x : Settled Naming) (r : Target) (to b a : List ℕ) → SaysTarget c x r to b a → TargetTells c x r to b a
 unfolding TargetIs wantedBuffer
-target-malformed c (settled (name s)) r to b a w e = let p = w .target in let z : _≡_ {A = ℕ} 0 1 = cc in absurd (omega arith)
-target-malformed c (settled malformed) r to b a w e = record { is = refl; kept = w .buffer }
-target-malformed c (wanting k m l) r to b a w e = let p = w .target in let z : _≡_ {A = ℕ} 0 1 = cc in absurd (omega arith)
+target-tells c (settled (name s)) r to b a w = let p = w .target in rw (p .0) (record { is = rw (p .1); kept = w .buffer }, p .2)
+target-tells c (settled malformed) r to b a w = rw (w .target) (record { is = refl; kept = w .buffer })
+target-tells c (wanting k n l) r to b a w = let p = w .target in rw (p .0) (record { asked = n; is = rw (p .1); size-is = refl; buffer = w .buffer })
 
-pub target-wants : (c : Counts) (x : Settled Naming) (r : Target) (to b a : List ℕ) → SaysTarget c x r to b a → (kind size : ℕ) → r ≡ Target.Wanting kind size → Wants x kind size c b a
-unfolding TargetIs wantedBuffer
-target-wants c (settled (name s)) r to b a w kind size e = let p = w .target in let z : _≡_ {A = ℕ} 0 1 = cc in absurd (omega arith)
-target-wants c (settled malformed) r to b a w kind size e = let p = w .target in let z : _≡_ {A = ℕ} 0 1 = cc in absurd (omega arith)
-target-wants c (wanting k m l) r to b a w kind size e =
-    let p = w .target in
-    let i : kind ≡ k = cc in let j : size ≡ length m = cc in
-    record { asked = m; is = rw (i, p .1); size-is = j; buffer = w .buffer }
+module _ (c : Counts) (x : Settled Naming) (r : Target) (to b a : List ℕ) (w : SaysTarget c x r to b a) where
+  target-as : (y : Target) → r ≡ y → TargetTells c x y to b a
+  target-as y e = subst (λ (y : Target). TargetTells c x y to b a) e (target-tells c x r to b a w)
+
+  pub target-name : (n : ℕ) → r ≡ Target.Name n → Gives x (name (take n to)) b a × (n ≤ 253)
+  target-name n e = target-as (Target.Name n) e
+
+  pub target-malformed : r ≡ Target.Malformed → Gives x malformed b a
+  target-malformed e = target-as Target.Malformed e
+
+  pub target-wants : (kind size : ℕ) → r ≡ Target.Wanting kind size → Wants x kind size c b a
+  target-wants kind size e = target-as (Target.Wanting kind size) e
 
 -- the value of p
-pub p-current : (c : Counts) (d t : List ℕ) (x : Settled (List ℕ)) (r : PValue) (b a : List ℕ) → SaysP c d t x r b a → r ≡ PValue.Current → Gives x d b a
-unfolding PIs wantedBuffer
-p-current c d t (settled s) PValue.Current b a w e = record { is = rw (w .value); kept = w .buffer }
-p-current c d t (settled s) (PValue.Listed f u) b a w e = let z : _≡_ {A = ℕ} 0 1 = cc in absurd (omega arith)
-p-current c d t (settled s) PValue.Unknown b a w e = let z : _≡_ {A = ℕ} 0 1 = cc in absurd (omega arith)
-p-current c d t (settled s) (PValue.Wanting i m) b a w e = let z : _≡_ {A = ℕ} 0 1 = cc in absurd (omega arith)
-p-current c d t (wanting k m l) r b a w e = let p = w .value in let z : _≡_ {A = ℕ} 0 1 = cc in absurd (omega arith)
+abbrev PTells : Counts → (d t : List ℕ) → Settled (List ℕ) → PValue → (before after : List ℕ) → Type 0
+PTells c d t x PValue.Current b a = Gives x d b a
+PTells c d t x (PValue.Listed from to) b a = Gives x (part t from to) b a
+PTells c d t x PValue.Unknown b a = Gives x (bytes "unknown") b a
+PTells c d t x (PValue.Wanting kind size) b a = Wants x kind size c b a
 
-pub p-listed : (c : Counts) (d t : List ℕ) (x : Settled (List ℕ)) (r : PValue) (b a : List ℕ) → SaysP c d t x r b a → (from to : ℕ) → r ≡ PValue.Listed from to → Gives x (part t from to) b a
+p-tells : (c : Counts) (d t : List ℕ) (x : Settled (List ℕ)) (r : PValue) (b a : List ℕ) → SaysP c d t x r b a → PTells c d t x r b a
 unfolding PIs wantedBuffer
-p-listed c d t (settled s) PValue.Current b a w from to e = let z : _≡_ {A = ℕ} 0 1 = cc in absurd (omega arith)
-p-listed c d t (settled s) (PValue.Listed f u) b a w from to e = let i : from ≡ f = cc in let j : to ≡ u = cc in record { is = rw (i, j, w .value); kept = w .buffer }
-p-listed c d t (settled s) PValue.Unknown b a w from to e = let z : _≡_ {A = ℕ} 0 1 = cc in absurd (omega arith)
-p-listed c d t (settled s) (PValue.Wanting i m) b a w from to e = let z : _≡_ {A = ℕ} 0 1 = cc in absurd (omega arith)
-p-listed c d t (wanting k m l) r b a w from to e = let p = w .value in let z : _≡_ {A = ℕ} 0 1 = cc in absurd (omega arith)
+p-tells c d t (settled s) PValue.Current b a w = record { is = rw (w .value); kept = w .buffer }
+p-tells c d t (settled s) (PValue.Listed from to) b a w = record { is = rw (w .value); kept = w .buffer }
+p-tells c d t (settled s) PValue.Unknown b a w = record { is = rw (w .value); kept = w .buffer }
+p-tells c d t (settled s) (PValue.Wanting kind size) b a w = absurd (w .value)
+p-tells c d t (wanting k n l) r b a w = let p = w .value in rw (p .0) (record { asked = n; is = rw (p .1); size-is = refl; buffer = w .buffer })
 
-pub p-unknown : (c : Counts) (d t : List ℕ) (x : Settled (List ℕ)) (r : PValue) (b a : List ℕ) → SaysP c d t x r b a → r ≡ PValue.Unknown → Gives x (bytes "unknown") b a
-unfolding PIs wantedBuffer
-p-unknown c d t (settled s) PValue.Current b a w e = let z : _≡_ {A = ℕ} 0 1 = cc in absurd (omega arith)
-p-unknown c d t (settled s) (PValue.Listed f u) b a w e = let z : _≡_ {A = ℕ} 0 1 = cc in absurd (omega arith)
-p-unknown c d t (settled s) PValue.Unknown b a w e = record { is = rw (w .value); kept = w .buffer }
-p-unknown c d t (settled s) (PValue.Wanting i m) b a w e = let z : _≡_ {A = ℕ} 0 1 = cc in absurd (omega arith)
-p-unknown c d t (wanting k m l) r b a w e = let p = w .value in let z : _≡_ {A = ℕ} 0 1 = cc in absurd (omega arith)
+module _ (c : Counts) (d t : List ℕ) (x : Settled (List ℕ)) (r : PValue) (b a : List ℕ) (w : SaysP c d t x r b a) where
+  p-as : (y : PValue) → r ≡ y → PTells c d t x y b a
+  p-as y e = subst (λ (y : PValue). PTells c d t x y b a) e (p-tells c d t x r b a w)
 
-pub p-wants : (c : Counts) (d t : List ℕ) (x : Settled (List ℕ)) (r : PValue) (b a : List ℕ) → SaysP c d t x r b a → (kind size : ℕ) → r ≡ PValue.Wanting kind size → Wants x kind size c b a
-unfolding PIs wantedBuffer
-p-wants c d t (settled s) PValue.Current b a w kind size e = let z : _≡_ {A = ℕ} 0 1 = cc in absurd (omega arith)
-p-wants c d t (settled s) (PValue.Listed f u) b a w kind size e = let z : _≡_ {A = ℕ} 0 1 = cc in absurd (omega arith)
-p-wants c d t (settled s) PValue.Unknown b a w kind size e = let z : _≡_ {A = ℕ} 0 1 = cc in absurd (omega arith)
-p-wants c d t (settled s) (PValue.Wanting i m) b a w kind size e = absurd (w .value)
-p-wants c d t (wanting k m l) r b a w kind size e =
-    let p = w .value in
-    let i : kind ≡ k = cc in let j : size ≡ length m = cc in
-    record { asked = m; is = rw (i, p .1); size-is = j; buffer = w .buffer }
+  pub p-current : r ≡ PValue.Current → Gives x d b a
+  p-current e = p-as PValue.Current e
+
+  pub p-listed : (from to : ℕ) → r ≡ PValue.Listed from to → Gives x (part t from to) b a
+  p-listed from to e = p-as (PValue.Listed from to) e
+
+  pub p-unknown : r ≡ PValue.Unknown → Gives x (bytes "unknown") b a
+  p-unknown e = p-as PValue.Unknown e
+
+  pub p-wants : (kind size : ℕ) → r ≡ PValue.Wanting kind size → Wants x kind size c b a
+  p-wants kind size e = p-as (PValue.Wanting kind size) e
 
 -- record lookup
-pub lookup-ends : (c : Counts) (d t : List ℕ) (x : Settled Selection) (r : Selected) (b a : List ℕ) → SaysSelection c d t x r b a → (v : ℕ) → r ≡ Selected.Ends v → Gives x (ends v) b a
-unfolding SelectedIs wantedBuffer
-lookup-ends c d t (settled (ends u)) r b a w v e = let p = w .lookup in let i : v ≡ u = cc in record { is = rw i; kept = w .buffer }
-lookup-ends c d t (settled (one s)) r b a w v e = let q = w .lookup in let p = q .2 in let z : _≡_ {A = ℕ} 0 1 = cc in absurd (omega arith)
-lookup-ends c d t (wanting k m l) r b a w v e = let p = w .lookup in let z : _≡_ {A = ℕ} 0 1 = cc in absurd (omega arith)
+abbrev SelectedTells : Counts → (d t : List ℕ) → Settled Selection → Selected → (before after : List ℕ) → Type 0
+SelectedTells c d t x (Selected.Ends v) b a = Gives x (ends v) b a
+SelectedTells c d t x (Selected.One domain text) b a = Gives x (one (spanOf t text)) b a × (spanOf t domain ≡ d)
+SelectedTells c d t x (Selected.Wanting kind size) b a = Wants x kind size c b a
 
-pub lookup-one : (c : Counts) (d t : List ℕ) (x : Settled Selection) (r : Selected) (b a : List ℕ) → SaysSelection c d t x r b a → (domain text : Span) → r ≡ Selected.One domain text → Gives x (one (spanOf t text)) b a × (spanOf t domain ≡ d)
+lookup-tells : (c : Counts) (d t : List ℕ) (x : Settled Selection) (r : Selected) (b a : List ℕ) → SaysSelection c d t x r b a → SelectedTells c d t x r b a
 unfolding SelectedIs wantedBuffer
-lookup-one c d t (settled (ends u)) r b a w domain text e = let p = w .lookup in let z : _≡_ {A = ℕ} 0 1 = cc in absurd (omega arith)
-lookup-one c d t (settled (one s)) r b a w domain text e =
-    let q = w .lookup in
-    let p = q .2 in
-    let i : domain ≡ q .0 = cc in
-    let j : text ≡ q .1 = cc in
-    (record { is = rw (j, q .4); kept = w .buffer }, rw i (q .3))
-lookup-one c d t (wanting k m l) r b a w domain text e = let p = w .lookup in let z : _≡_ {A = ℕ} 0 1 = cc in absurd (omega arith)
+lookup-tells c d t (settled (ends v)) r b a w = rw (w .lookup) (record { is = refl; kept = w .buffer })
+lookup-tells c d t (settled (one s)) r b a w = let p = w .lookup in rw (p .2) (record { is = rw (p .4); kept = w .buffer }, p .3)
+lookup-tells c d t (wanting k n l) r b a w = let p = w .lookup in rw (p .0) (record { asked = n; is = rw (p .1); size-is = refl; buffer = w .buffer })
 
-pub lookup-wants : (c : Counts) (d t : List ℕ) (x : Settled Selection) (r : Selected) (b a : List ℕ) → SaysSelection c d t x r b a → (kind size : ℕ) → r ≡ Selected.Wanting kind size → Wants x kind size c b a
-unfolding SelectedIs wantedBuffer
-lookup-wants c d t (settled (ends u)) r b a w kind size e = let p = w .lookup in let z : _≡_ {A = ℕ} 0 1 = cc in absurd (omega arith)
-lookup-wants c d t (settled (one s)) r b a w kind size e = let q = w .lookup in let p = q .2 in let z : _≡_ {A = ℕ} 0 1 = cc in absurd (omega arith)
-lookup-wants c d t (wanting k m l) r b a w kind size e =
-    let p = w .lookup in
-    let i : kind ≡ k = cc in let j : size ≡ length m = cc in
-    record { asked = m; is = rw (i, p .1); size-is = j; buffer = w .buffer }
+module _ (c : Counts) (d t : List ℕ) (x : Settled Selection) (r : Selected) (b a : List ℕ) (w : SaysSelection c d t x r b a) where
+  lookup-as : (y : Selected) → r ≡ y → SelectedTells c d t x y b a
+  lookup-as y e = subst (λ (y : Selected). SelectedTells c d t x y b a) e (lookup-tells c d t x r b a w)
+
+  pub lookup-ends : (v : ℕ) → r ≡ Selected.Ends v → Gives x (ends v) b a
+  lookup-ends v e = lookup-as (Selected.Ends v) e
+
+  pub lookup-one : (domain text : Span) → r ≡ Selected.One domain text → Gives x (one (spanOf t text)) b a × (spanOf t domain ≡ d)
+  lookup-one domain text e = lookup-as (Selected.One domain text) e
+
+  pub lookup-wants : (kind size : ℕ) → r ≡ Selected.Wanting kind size → Wants x kind size c b a
+  lookup-wants kind size e = lookup-as (Selected.Wanting kind size) e
 
 -- a check
 pub checked-result : (t : List ℕ) (x : Settled Result) (o : Checked) (b a : List ℕ) → SaysCheck t x o b a → (v : ℕ) → o .ending ≡ Ending.Result v → Gives x (record { value = v; counts = o .counts; failing = failingOf t (o .failing) }) b a
