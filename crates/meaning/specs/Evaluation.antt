@@ -1,7 +1,7 @@
 -- Record lookup, terms, include, redirect and the explanation, in 01's words and order.
 use Prim.Native.Nat.{ℕ, zero, suc}
 use mathlib.Core.List.{List, [], _∷_}
-use mathlib.Core.Bool.{Bool, true, false, cond, _&&_}
+use mathlib.Core.Bool.{cond, _&&_}
 use lib.ListN.{length}
 use lib.Dec.{leb, eqb}
 use Rattle.text.specs.Bytes.{isPrintable}
@@ -212,7 +212,7 @@ check (suc n) mail d c = checkName mail (check n mail) d c
 abbrev pub noCounts : Counts
 noCounts = record { lookups = 0; voids = 0 }
 
--- the evaluation of a domain as it was given; "in a check `d` shows its domain lowered and without the trailing dot (house choice)"
+-- the evaluation of a domain as it was given; "In a check `d` shows its domain lowered and without the trailing dot (house choice)"
 unfoldable pub evaluation : Mail → List ℕ → Check Result
 evaluation mail domain = check 11 mail (normal domain) noCounts
 
@@ -241,7 +241,7 @@ unfoldable pub explainName : Mail → List ℕ → Counts → Naming → Check (
 explainName mail d c malformed = give []
 explainName mail d c (name n) = ask 16 n c (explainReply mail d c)
 
--- "Fail at the outermost check, or through redirects only, fetches exp of the failing record"; "it counts nothing, but a missing entry gives 7"
+-- "Fail at the outermost check, or through redirects only, fetches exp of the failing record"; "It counts nothing, but a missing entry gives 7."
 unfoldable pub explanation : Mail → Optional Failing → Counts → Check (List ℕ)
 explanation mail absent c = give []
 explanation mail (present f) c = bind (target mail (f .domain) (f .exp) c) (explainName mail (f .domain) c)

@@ -1,12 +1,12 @@
--- 01's cases about evaluation and its "errors that look right", computed: each is a zone, a mail and what the evaluation answers.
+-- 01's cases about evaluation and its section "Errors that look right", computed: each is a zone, a mail and what the evaluation answers.
 use Prim.Native.Nat.{ℕ}
 use mathlib.Core.Path.{_≡_, refl}
-use mathlib.Core.List.{List, [], _∷_}
+use mathlib.Core.List.{List, [], _∷_, _++_}
 use mathlib.Core.Bool.{cond, _&&_}
 use lib.Dec.{eqb}
 use Rattle.text.specs.Texts.{bytes}
 use Rattle.address.specs.declared.Address.the-variants.{IPv4}
-use Rattle.records.specs.Readings.{Optional, absent, present}
+use Rattle.records.specs.Readings.{absent, present}
 use Rattle.text.specs.Bytes.{within, isSpace, isNotSpace, isNotSlash, isUpper, isNotUpper, isAlpha, isDigit, isLengthByte, isAlphanumeric, isHexDigit, isVisible, isPrintable, isLabelByte, isNameByte, isToplabelByte, isMacroLiteral, isDelimiter, lower}
 use Rattle.text.specs.Decimal.{decimalFrom, decimal, isDecimal, readDecimal, pushed, hasNoLeadingZero, readNumber}
 use Rattle.text.specs.Lists.{same, sameWord, contains, all, rightmost, grow, split, dotBefore, join}
@@ -35,7 +35,7 @@ use Rattle.records.specs.Reader.{laterKind, kindOf, specAt, allOf, includeOf, e
 use Rattle.meaning.specs.Evaluation.{Verdict, includeMatch, checkTarget, begunCheck, includeOf as meaning-evaluation-of-includeOf, includeStep, bytesOr, numberOr, lengthFor, networkStep, mechanismStep, termStep, signResult, modifierOf, failingAt, signed, noneIsPermerror, redirectOf, noMatch, afterStep, tryTerms, termsAfter, termsFrom, termsOf, readOutcome, versioned, selection, textReply, textLookup, spfItems, spfReply, recordLookup, afterLookup, checkName, check, evaluation, shown, givesShown, explained, explainReply, explainName, explanation, verdict}
 use Rattle.meaning.specs.Mechanisms.{Mail, addressKind, itemMatches, anyMatches, width, includesClient, withValid, validated, namesOf, holdsName, firstBelow, firstOr, chosen, givesChosen, pReply, pValue, expansion, givesExpansion, expanded, givesName, target, targetOr, counting, withName, naming, named, orVoid, aReply, askA, aStep, existsReply, askExists, existsStep, insertHost, byPreference, hostReply, askHosts, mxItems, mxReply, askMx, mxStep, nameReply, askNames, ptrReply, askPtr, ptrStep}
 use Rattle.meaning.specs.Tables.{replyBy, replyOf, tableIn}
-use Rattle.meaning.specs.Tree.{Reply, failed, items, Table, Settled, settled, wanting, bind, then, answered, run}
+use Rattle.meaning.specs.Tree.{Reply, items, Table, Settled, settled, wanting, bind, then, answered, run}
 
 -- a zone: the kind, the name and the answer of each entry
 pub record Row : Type 0 where
@@ -67,6 +67,10 @@ answer rs = run (zone rs) (verdict mail (bytes "example.com"))
 abbrev pub decided : ℕ → ℕ → ℕ → Settled Verdict
 decided v l w = settled (record { value = v; counts = record { lookups = l; voids = w }; text = [] })
 
+-- a label of 60 bytes and its dot
+abbrev pub long : List ℕ
+long = bytes "aaaaaaaaaabbbbbbbbbbccccccccccddddddddddeeeeeeeeeeffffffffff."
+
 pub record Cases : Type 0 where
   -- nothing is known yet: the TXT question is wanting
   pub first-question : answer [] ≡ wanting 16 (bytes "example.com") (record { lookups = 0; voids = 0 })
@@ -83,6 +87,9 @@ pub record Cases : Type 0 where
   pub later-bad-term : answer (txt (bytes "example.com") (bytes "v=spf1 +all moo") ∷ []) ≡ decided 6 0 0
   -- a length of 33 isn't reduced to 1
   pub length-33 : answer (txt (bytes "example.com") (bytes "v=spf1 ip4:192.0.2.0/33 -all") ∷ []) ≡ decided 6 0 0
+  -- a name of 254 bytes loses its first label, not its first byte
+  pub long-name : answer (txt (bytes "example.com") (bytes "v=spf1 exists:" ++ (long ++ (long ++ (long ++ (long ++ bytes "bc.example"))))) ∷ [])
+      ≡ wanting 1 (long ++ (long ++ (long ++ bytes "bc.example"))) (record { lookups = 1; voids = 0 })
   -- two void exists and `-all` give 3, three give 6
   pub two-voids : answer (txt (bytes "example.com") (bytes "v=spf1 exists:a.b exists:a.b -all") ∷ nothing (bytes "a.b") ∷ []) ≡ decided 3 2 2
   pub three-voids : answer (txt (bytes "example.com") (bytes "v=spf1 exists:a.b exists:a.b exists:a.b -all") ∷ nothing (bytes "a.b") ∷ []) ≡ decided 6 3 3
@@ -110,6 +117,7 @@ cases = record {
   redirect-none = refl;
   later-bad-term = refl;
   length-33 = refl;
+  long-name = refl;
   two-voids = refl;
   three-voids = refl;
   ten-redirects = refl;

@@ -1,10 +1,9 @@
 -- What each mechanism asks and whether it matches, in 01's words and order.
-use Prim.Native.Nat.{ℕ, zero, suc, _+_}
+use Prim.Native.Nat.{ℕ, _+_}
 use mathlib.Core.List.{List, [], _∷_, _++_}
-use mathlib.Core.Bool.{Bool, true, false, cond, _&&_, _||_}
+use mathlib.Core.Bool.{Bool, false, cond, _&&_, _||_}
 use lib.ListN.{length, take, drop}
 use lib.Dec.{ltb, leb, eqb}
-use Rattle.text.specs.Bytes.{at}
 use Rattle.text.specs.Lists.{same}
 use Rattle.text.specs.Texts.{bytes}
 use Rattle.address.specs.declared.Address.{Address}
@@ -83,7 +82,7 @@ validated client c (n ∷ ns) found = ask (addressKind client) n c (λ r. valida
 abbrev pub most-names : ℕ
 most-names = 10
 
--- "A failed PTR question yields no names."
+-- "A failed PTR question yields no names"
 unfoldable pub namesOf : Reply → List (List ℕ)
 namesOf failed = []
 namesOf (items ds) = take most-names ds
@@ -101,7 +100,7 @@ unfoldable pub firstOr : List (List ℕ) → List ℕ → List ℕ
 firstOr [] other = other
 firstOr (n ∷ ns) other = n
 
--- "among those validated, the current domain if there, else the first below it, else the first, else `unknown`"
+-- "among those validated (see ptr), the current domain if there, else the first below it, else the first, else `unknown`"
 unfoldable pub chosen : List ℕ → List (List ℕ) → List ℕ
 chosen d ns = cond (holdsName d ns) d (firstBelow d ns (firstOr ns (bytes "unknown")))
 
@@ -124,7 +123,7 @@ expansion mail d form text p =
 unfoldable pub givesExpansion : Mail → List ℕ → Form → List ℕ → List ℕ → Check (List ℕ)
 givesExpansion mail d form text p = give (expansion mail d form text p)
 
--- p "is asked for only where the string uses p"; "p's questions come .. before all else"
+-- p "is asked for only where the string uses p"; "p's questions .. come after the term's count and before all else"
 unfoldable pub expanded : Mail → List ℕ → Form → List ℕ → Counts → Check (List ℕ)
 expanded mail d form text c =
     cond (usesP form text) (bind (pValue (mail .client) d c) (givesExpansion mail d form text)) (givesExpansion mail d form text [])
@@ -163,7 +162,7 @@ unfoldable pub withName : (List ℕ → Check Step) → Counts → Naming → Ch
 withName go c malformed = step no c
 withName go c (name n) = go n
 
--- a, mx, ptr or exists once it is counted: its target, "p's questions .. before all else", then its own questions
+-- a, mx, ptr or exists once it is counted: its target (p's questions come "before all else"), then its own questions
 unfoldable pub naming : Mail → List ℕ → Optional (List ℕ) → (Counts → List ℕ → Check Step) → Counts → Check Step
 naming mail d spec go c = bind (targetOr mail d spec c) (withName (go c) c)
 
@@ -179,7 +178,7 @@ orVoid c (d ∷ ds) rest = rest
 abbrev pub matched : Bool → Counts → Check Step
 matched t c = cond t (step yes c) (step no c)
 
--- a: "the address question of the client's family"; "a failed question gives temperror"
+-- a: "the address question of the client's family"; "A failed question gives temperror."
 unfoldable pub aReply : Address → ℕ → Counts → Reply → Check Step
 aReply client n c failed = step (stop 5) c
 aReply client n c (items ds) = orVoid c ds (matched (anyMatches client n ds) c)

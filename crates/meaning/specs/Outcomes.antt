@@ -3,14 +3,13 @@
 use Prim.Native.Nat.{ℕ, _≤_}
 use mathlib.Core.Path.{_≡_}
 use mathlib.Core.List.{List}
-use mathlib.Core.Bool.{Bool, cond}
 use lib.ListN.{length, take}
 use Rattle.text.specs.Bytes.{part}
 use Rattle.text.specs.Texts.{bytes}
 use Rattle.text.specs.Writing.{overwritten}
 use Rattle.address.specs.declared.Address.{Address}
 use Rattle.domain.specs.Normal.{Naming, name, malformed}
-use Rattle.records.specs.Readings.{Optional, absent, present}
+use Rattle.records.specs.Readings.{Optional, absent}
 use Rattle.meaning.specs.declared.Counts.{Counts}
 use Rattle.meaning.specs.declared.Ending.{Ending}
 use Rattle.meaning.specs.declared.Matched.{Matched}

@@ -104,7 +104,7 @@ module _ (t : Table) (d : List ℕ) (c : Counts) where
       spf (present (items [])) p q = txt (present (items [])) p void (t 16 d) refl q
       spf (present (items (u ∷ us))) p q = only h (of-spf p) (single (versioned (u ∷ us)) q)
 
--- a domain of more than one label selects a record exactly if record lookup comes to it
+-- `Selects` is what record lookup does: a domain of more than one label selects a text exactly if record lookup comes to it
 pub selects-is : (t : Table) (d s : List ℕ) (c : Counts) → 1 < labelCount d → Selects t d s ↔ (run t (recordLookup d c) ≡ settled (one s))
 selects-is t d s c h = (selects-one t d c s, one-selects t d c s h)
 
@@ -187,7 +187,7 @@ outside-refused s (unproduced u) = by (readRecord s) refl
     by (RecordAnswer.Accepted n) e = let d = record-sound s n e in absurd (u (d .0) (d .1))
     by (RecordAnswer.Refused number at) e = (number, (at, e))
 
--- what is accepted is not outside: it has at most 4,096 bytes, and the terms that are read of it are a reading that the productions make
+-- `Outside` leaves nothing out: what is accepted has at most 4,096 bytes, and the terms that are read of it are a reading that the productions make
 pub accepted-reading : (s : List ℕ) (n : ℕ) → readRecord s ≡ RecordAnswer.Accepted n → (length s ≤ 4096) × Record s (termsFrom (suc (length s)) s n)
 unfolding readRecord
 accepted-reading s n e = ⊎-elim

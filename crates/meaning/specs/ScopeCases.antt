@@ -11,7 +11,7 @@ pub record ScopeCases : Type 0 where
   pub of-macros : MacroCases
   -- 192.0.2.129 against 192.0.2.0 at /24 and /25
   pub of-addresses : AddressCases
-  -- besides: ten and eleven redirects, two and three void answers, the errors that look right
+  -- besides: ten and eleven redirects, two and three void answers, "Errors that look right"
   pub of-evaluation : EvaluationCases
 
 pub scope-cases : ScopeCases

@@ -3,7 +3,6 @@ use Prim.Native.Nat.{ℕ}
 use mathlib.Core.List.{List}
 use mathlib.Core.Bool.{cond}
 use lib.Dec.{eqb}
-use Rattle.table.specs.Layout.{Entry}
 use Rattle.table.specs.Lookup.{Lookup, lookup}
 use Rattle.table.specs.Reader.{entriesOf}
 use Rattle.records.specs.Readings.{Optional, absent, present}
