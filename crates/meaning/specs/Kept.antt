@@ -1,6 +1,7 @@
--- What every check keeps, whatever the table: the counts never fall and stay within 01's bounds, only a fail has an explanation, and, where the table
--- and the domain are sound, every question has a name as the table has it. And a check settles the same with two checks one level down that do.
--- By one walk over the definitions of the mechanisms and of the evaluation, on the terms and the depth, from the names that can be asked (Askable).
+-- What every check keeps, whatever the table: no count falls or passes its bound, only a fail has an explanation, and each question has a name as the
+-- table has it, where this is so of the domain and the table's items are of their kinds. And two checks settle the same if those that they begin one
+-- level down do. One walk over the definitions of the mechanisms and of the evaluation, by induction on the terms and the depth; from the laws of
+-- Alike and the names that can be asked (Askable).
 use Prim.Native.Nat.{ℕ, zero, suc, _≤_, _<_}
 use native.Mathlib.Nat.{le-refl}
 use native.Mathlib.Omega.{arith}
@@ -33,7 +34,7 @@ use Rattle.meaning.specs.Askable.{NamingOk, question-ok, ReplyFits, Fitt
 use Rattle.meaning.specs.Mechanisms.{Mail, Match, yes, no, stop, Step, step, matched, includesClient, anyMatches, withValid, validated, namesOf, givesChosen, pReply, pValue, givesExpansion, expanded, givesName, target, targetOr, most-lookups, most-voids, most-hosts, begun, voided, counting, withName, naming, named, orVoid, aReply, askA, aStep, existsReply, askExists, existsStep, byPreference, hostReply, askHosts, mxItems, mxReply, askMx, mxStep, nameReply, askNames, ptrReply, askPtr, ptrStep}
 use Rattle.meaning.specs.Evaluation.{Failing, Result, ended, Sub, includeMatch, checkTarget, begunCheck, includeOf, includeStep, bytesOr, numberOr, lengthFor, networkStep, mechanismStep, termStep, signResult, modifierOf, failingAt, signed, noneIsPermerror, redirectOf, noMatch, afterStep, tryTerms, termsOf, readOutcome, Selection, ends, one, textReply, textLookup, spfItems, spfReply, recordLookup, afterLookup, checkName, check, givesShown, explained, explainReply, explainName, explanation}
 
--- the counts k of a question, or of a term that lets the check go on, after the counts c: none falls, and none passes its bound
+-- the counts k of a question, or of a term that lets the check go on, after the counts c: none falls, and none that was within its bound passes it
 pub record Bounded (c k : Counts) : Type 0 where
   pub lookups-grow : c .lookups ≤ k .lookups
   pub lookups-small : c .lookups ≤ 10 → k .lookups ≤ 10
@@ -45,7 +46,7 @@ pub data Reported (c : Counts) : ℕ → Counts → Type 0 where
   within : {v : ℕ} {k : Counts} → Bounded c k → Reported c v k
   third : {k : Counts} → Bounded c k → Reported c 6 (voided k)
 
--- those of a step: a term that stops the check ends it
+-- the counts after a term: one that stops the check ends it
 unfoldable pub MatchKept : Counts → Match → Counts → Type 0
 MatchKept c yes k = Bounded c k
 MatchKept c no k = Bounded c k
@@ -54,7 +55,7 @@ MatchKept c (stop v) k = Reported c v k
 abbrev pub StepKept : Counts → Step → Type 0
 StepKept c s = MatchKept c (s .match) (s .counts)
 
--- those of a result; only a fail has an explanation
+-- a result: its counts, and that only a fail has an explanation
 pub record ResultKept (c : Counts) (r : Result) : Type 0 where
   pub reported : Reported c (r .value) (r .counts)
   pub fails : (f : Failing) → r .failing ≡ present f → r .value ≡ 3
@@ -101,7 +102,7 @@ module _ {c : Counts} where
       cond-elim (ResultKept c) (eqb (r .value) 0)
       (λ e. plain _ (r .counts) (within (resumes (h .reported) (λ s. omega (arith, s, eqb-true (r .value) 0 e))))) (λ _. h)
 
--- a question: its counts, and its name where what is assumed holds
+-- a question: its counts, and its name under an assumption
 pub record Asked (Sound : Type 0) (c : Counts) (n : List ℕ) (k : Counts) : Type 0 where
   pub bounded : Bounded c k
   pub table-name : Sound → isTableName n ≡ true

@@ -30,6 +30,7 @@ pub no-bounded : (t : Table) (n : ℕ) (mail : Mail) (d : List ℕ) (x : Said) (
     → (c .lookups ≤ k .lookups) × (k .lookups ≤ 10) × (k .voids ≤ 2)
 unfolding Holds MatchKept
 no-bounded t n mail d x sign c k h v e =
-    let f = term-fine t ⊥ (λ z. absurd z) c mail (check n mail) (check n mail) (λ x k b _ s. check-fine t ⊥ (λ z. absurd z) c n mail x k b s) d (λ z. absurd z) x sign c (bounded-self c) in
+    let below = check-fine t ⊥ (λ z. absurd z) c n mail in
+    let f = term-fine t ⊥ (λ z. absurd z) c mail (check n mail) (check n mail) (λ y l b _ s. below y l b s) d (λ z. absurd z) x sign c (bounded-self c) in
     let b : Bounded c k = subst (Holds (Asked ⊥ c) (StepKept c)) e (f .holds) in
     (b .lookups-grow, b .lookups-small h, b .voids-small v)

@@ -16,28 +16,29 @@ use Rattle.meaning.specs.Mechanisms.{Mail}
 use Rattle.meaning.specs.Evaluation.{Failing, Result, noCounts, evaluation, Verdict, verdict}
 use Rattle.meaning.specs.Kept.{Reported, within, third, ResultKept, Asked, Fine, bounded-self, resumes, check-fine, explanation-fine}
 
--- a question that is lacking, with the counts that are reported
-pub record Wanted (t : Table) (n : List ℕ) (c : Counts) : Type 0 where
+-- a question that is lacking, and the counts that are reported with it
+pub record AskedFacts (t : Table) (n : List ℕ) (c : Counts) : Type 0 where
   pub lookups-ten : c .lookups ≤ 10
   pub voids-two : c .voids ≤ 2
   pub table-name : Fitting t → isTableName n ≡ true
 
-pub record Answered (v : Verdict) : Type 0 where
+-- a third void answer is permerror, and only a fail has a text
+pub record VerdictFacts (v : Verdict) : Type 0 where
   pub lookups-ten : v .counts .lookups ≤ 10
   pub voids-three : v .counts .voids ≤ 3
   pub third : 2 < v .counts .voids → v .value ≡ 6
   pub text : (v .value ≡ 3 → ⊥) → v .text ≡ []
 
-wanted : (t : Table) (n : List ℕ) (k : Counts) → Asked (Fitting t) noCounts n k → Wanted t n k
-wanted t n k a = record { lookups-ten = a .bounded .lookups-small (omega arith); voids-two = a .bounded .voids-small (omega arith); table-name = a .table-name }
+asked-facts : (t : Table) (n : List ℕ) (k : Counts) → Asked (Fitting t) noCounts n k → AskedFacts t n k
+asked-facts t n k a = record { lookups-ten = a .bounded .lookups-small (omega arith); voids-two = a .bounded .voids-small (omega arith); table-name = a .table-name }
 
 bounds : {v : ℕ} {k : Counts} → Reported noCounts v k → (k .lookups ≤ 10) × (k .voids ≤ 3) × (2 < k .voids → v ≡ 6)
 bounds (within b) =
     (b .lookups-small (omega arith), omega (arith, b .voids-small (omega arith)), λ h. absurd (omega (arith, h, b .voids-small (omega arith))))
 bounds (third b) = (b .lookups-small (omega arith), omega (arith, b .voids-small (omega arith)), λ _. refl)
 
-answered : (r : Result) → ResultKept noCounts r → (x : List ℕ) → (r .failing ≡ absent → x ≡ []) → Answered (record { value = r .value; counts = r .counts; text = x })
-answered r h x e =
+result-facts : (r : Result) → ResultKept noCounts r → (x : List ℕ) → (r .failing ≡ absent → x ≡ []) → VerdictFacts (record { value = r .value; counts = r .counts; text = x })
+result-facts r h x e =
     let b = bounds (h .reported) in
     record { lookups-ten = b .0; voids-three = b .1; third = b .2; text = λ n. e (unexplained n (r .failing) refl) }
   where
@@ -45,12 +46,12 @@ answered r h x e =
     unexplained n absent e = e
     unexplained n (present f) e = absurd (n (h .fails f e))
 
-pub verdict-facts : (t : Table) (mail : Mail) (domain : List ℕ) → Holds (Wanted t) Answered (run t (verdict mail domain))
+pub verdict-facts : (t : Table) (mail : Mail) (domain : List ℕ) → Holds (AskedFacts t) VerdictFacts (run t (verdict mail domain))
 unfolding verdict evaluation
-verdict-facts t mail domain = holds-weaken Answered (wanted t) (run t (verdict mail domain)) (fine .holds)
+verdict-facts t mail domain = holds-weaken VerdictFacts (asked-facts t) (run t (verdict mail domain)) (fine .holds)
   where
-    fine : Fine t (Fitting t) (λ f. f) noCounts Answered (verdict mail domain)
+    fine : Fine t (Fitting t) (λ f. f) noCounts VerdictFacts (verdict mail domain)
     fine =
         alike-bind (check-fine t (Fitting t) (λ f. f) noCounts 11 mail (normal domain) noCounts (bounded-self noCounts) (λ _. normal-ok domain))
         (λ r h. alike-bind (explanation-fine t (Fitting t) (λ f. f) noCounts mail (r .failing) (r .counts) (λ f e. resumes (h .reported) (λ s. omega (arith, s, h .fails f e))))
-        (λ x e. alike-give (answered r h x e)))
+        (λ x e. alike-give (result-facts r h x e)))
