@@ -1,4 +1,4 @@
--- 01's evaluation as definitions, and theorems on them.
+-- 01's evaluation as definitions.
 -- Tree: a check as a tree of questions, and what a table settles of it.
 pub mod Tree
 -- Tables: an answer table as what it has for each question.
@@ -9,29 +9,7 @@ pub mod Mechanisms
 pub mod Evaluation
 -- Outcomes: what the code's answers say of what a table settles.
 pub mod Outcomes
--- Inversions: what an answer of the code tells of what a table settles.
-pub mod Inversions
--- Runs: what a table settles of one check after another.
-pub mod Runs
--- Alike: two checks that settle the same, and what holds of that.
-pub mod Alike
--- Reversed: the name of a PTR question is a name as the table has it.
-pub mod Reversed
--- Askable: so are the names that an evaluation makes, and those in an accepted table's items.
-pub mod Askable
--- Kept: what every check keeps of the counts and the names that it asks, and that it settles the same over checks that do.
-pub mod Kept
--- Verdicts: lookups never exceed 10, voids never 3, and 2 unless the result is permerror; only a fail has a text; a question can be asked.
-pub mod Verdicts
--- Enough: the depth bound never decides.
-pub mod Enough
--- Agreement: what a check consults decides it.
-pub mod Agreement
--- Growth: a settled result stays when the table only gains entries that answer no peek.
-pub mod Growth
--- Steps: one term and then the others; the counts after a term.
-pub mod Steps
--- Reached: which checks an evaluation reaches, and that a record outside the grammar is never evaluated.
+-- Reached: which checks an evaluation comes to, and when a text is outside the grammar.
 pub mod Reached
 -- Examples: cases of 01 about evaluation, computed.
 pub mod Examples

@@ -111,3 +111,15 @@ pub record SaysText (c : Counts) (x : Settled (List ℕ)) (r : Explained) (text 
   pub explained : ExplainedIs c x r
   pub text-buffer : text′ ≡ textBuffer x text
   pub buffer : after ≡ wantedBuffer x before
+
+-- a question that is wanted: its kind, its name's length, and the name buffer
+pub record Wants {A : Type 0} (x : Settled A) (kind size : ℕ) (c : Counts) (before after : List ℕ) : Type 0 where
+  pub asked : List ℕ
+  pub is : x ≡ wanting kind asked c
+  pub size-is : size ≡ length asked
+  pub buffer : after ≡ overwritten asked before
+
+-- a value that is settled, and the name buffer as it was
+pub record Gives {A : Type 0} (x : Settled A) (a : A) (before after : List ℕ) : Type 0 where
+  pub is : x ≡ settled a
+  pub kept : after ≡ before

@@ -10,8 +10,6 @@ use Rattle.records.specs.Readings.{Optional, absent, present}
 use Rattle.records.specs.Numbers.{saidOf}
 use Rattle.records.specs.declared.Term.{Term}
 use Rattle.meaning.specs.declared.Counts.{Counts}
-use Rattle.meaning.specs.declared.Matched.{Matched}
-use Rattle.meaning.specs.declared.Stepped.{Stepped}
 use Rattle.meaning.specs.Tree.{Table, Check, run}
 use Rattle.meaning.specs.Mechanisms.{Mail, Step, askA, askExists, askMx, askPtr}
 use Rattle.meaning.specs.Evaluation.{Sub, includeStep, termStep}

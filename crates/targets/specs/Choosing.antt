@@ -10,8 +10,8 @@ use Rattle.macros.specs.declared.Form.{Form}
 use Rattle.meaning.specs.declared.Counts.{Counts}
 use Rattle.meaning.specs.declared.PValue.{PValue}
 use Rattle.meaning.specs.Tree.{Reply, Check, give, ask, bind, Settled}
+use Rattle.meaning.specs.Outcomes.{Gives, Wants}
 use Rattle.meaning.specs.Mechanisms.{Mail, addressKind, includesClient, pValue, givesExpansion, givesName}
-use Rattle.meaning.specs.Inversions.{Gives, Wants}
 use Rattle.targets.specs.declared.Choice.{Choice}
 use Rattle.targets.specs.declared.Choice.the-variants.{Current, Below, First, Nobody}
 use Rattle.targets.specs.declared.Validity.{Validity}

@@ -30,9 +30,9 @@ use Rattle.meaning.specs.Tree.{Table, Settled, settled, wanting, then, run, run
 use Rattle.meaning.specs.Tables.{tableIn}
 use Rattle.meaning.specs.Mechanisms.{Mail, yes, no, stop, Step, target, begun, counting}
 use Rattle.meaning.specs.Evaluation.{Result, Sub, Selection, ended, checkTarget, begunCheck, includeMatch, includeOf, includeStep, termStep, noneIsPermerror, redirectOf, noMatch, tryTerms, termsOf, readOutcome, recordLookup, afterLookup, checkName, check}
-use Rattle.meaning.specs.Outcomes.{wantedBuffer, matchedOf, steppedOf, SaysStep, SaysTarget, spanOf, SaysSelection, failingOf, CheckedIs, SaysCheck}
-use Rattle.meaning.specs.Runs.{bind-is}
-use Rattle.meaning.specs.Inversions.{Wants, wants-bind, target-name, target-malformed, target-wants, lookup-ends, lookup-one, lookup-wants, wants-says}
+use Rattle.meaning.specs.Outcomes.{wantedBuffer, matchedOf, steppedOf, SaysStep, SaysTarget, spanOf, SaysSelection, failingOf, CheckedIs, SaysCheck, Wants}
+use Rattle.meaning.proofs.Laws.Runs.{bind-is}
+use Rattle.meaning.proofs.Laws.Inversions.{wants-bind, target-name, target-malformed, target-wants, lookup-ends, lookup-one, lookup-wants, wants-says}
 use Rattle.selection.specs.declared.modifiers.Modifier.{Modifier}
 use Rattle.mechanisms.specs.declared.Tried.{Tried}
 use Rattle.selection.specs.Modifiers.{ModifierIs}

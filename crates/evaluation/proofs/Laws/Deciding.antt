@@ -34,9 +34,9 @@ use Rattle.meaning.specs.Tree.{Check, give, Settled, settled, wanting, bind, ru
 use Rattle.meaning.specs.Tables.{tableIn}
 use Rattle.meaning.specs.Mechanisms.{Mail}
 use Rattle.meaning.specs.Evaluation.{Result, checkName, check, noCounts, evaluation, explanation, Verdict, verdict}
-use Rattle.meaning.specs.Outcomes.{mailOf, wantedBuffer, failingOf, CheckedIs, SaysCheck, SaysText}
-use Rattle.meaning.specs.Runs.{bind-is}
-use Rattle.meaning.specs.Inversions.{Wants, wants-bind, target-name, checked-result, checked-wants, text-written, text-wants}
+use Rattle.meaning.specs.Outcomes.{mailOf, wantedBuffer, failingOf, CheckedIs, SaysCheck, SaysText, Wants}
+use Rattle.meaning.proofs.Laws.Runs.{bind-is}
+use Rattle.meaning.proofs.Laws.Inversions.{wants-bind, target-name, checked-result, checked-wants, text-written, text-wants}
 use Rattle.targets.proofs.Laws.Naming.{Short, name-short, naming-written}
 use Rattle.evaluation.specs.declared.Answer.{Answer}
 use Rattle.evaluation.specs.Checks.{endedOf}

@@ -12,10 +12,10 @@ use Rattle.table.proofs.Laws.Entries.{entries-complete}
 use Rattle.meaning.specs.declared.Counts.{Counts}
 use Rattle.meaning.specs.Tree.{Settled, settled, wanting}
 use Rattle.meaning.specs.Tables.{tableIn}
-use Rattle.meaning.specs.Alike.{Holds}
-use Rattle.meaning.specs.Askable.{Fitting, entries-fit}
+use Rattle.meaning.proofs.Laws.Alike.{Holds}
+use Rattle.meaning.proofs.Laws.Askable.{Fitting, entries-fit}
 use Rattle.meaning.specs.Evaluation.{Verdict}
-use Rattle.meaning.specs.Verdicts.{AskedFacts, VerdictFacts, verdict-facts}
+use Rattle.meaning.proofs.Laws.Verdicts.{AskedFacts, VerdictFacts, verdict-facts}
 use Rattle.evaluation.specs.Numbers.{Outcome, refused, refused-at, settles}
 use Rattle.evaluation.specs.Evaluating.{mailFor, evaluated}
 use Rattle.evaluation.specs.Answers.{Answers, no-sender, no-host, long-domain, no-room, bad-table, decides}

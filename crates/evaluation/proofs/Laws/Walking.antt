@@ -32,9 +32,9 @@ use Rattle.meaning.specs.Tree.{Settled, run}
 use Rattle.meaning.specs.Tables.{tableIn}
 use Rattle.meaning.specs.Mechanisms.{Mail, yes, no, stop}
 use Rattle.meaning.specs.Evaluation.{Result, numberOr, termStep, signResult, modifierOf, signed, noMatch, afterStep, tryTerms, termsAfter, termsFrom, termsOf, check}
-use Rattle.meaning.specs.Outcomes.{wantedBuffer, spanOf, failingOf, SaysStep, CheckedIs, SaysCheck}
-use Rattle.meaning.specs.Inversions.{Gives, step-yes, step-no, step-result, step-wants, wants-says}
-use Rattle.meaning.specs.Steps.{term-then, term-wants, no-bounded}
+use Rattle.meaning.specs.Outcomes.{wantedBuffer, spanOf, failingOf, SaysStep, CheckedIs, SaysCheck, Gives}
+use Rattle.meaning.proofs.Laws.Inversions.{step-yes, step-no, step-result, step-wants, wants-says}
+use Rattle.meaning.proofs.Laws.Steps.{term-then, term-wants, no-bounded}
 use Rattle.evaluation.specs.Checks.{endedOf, signOf, signedOf}
 
 -- a term that is read, as the reading has it

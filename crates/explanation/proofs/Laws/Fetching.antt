@@ -22,8 +22,8 @@ use Rattle.meaning.specs.Tables.{tableIn}
 use Rattle.meaning.specs.Mechanisms.{Mail, target}
 use Rattle.meaning.specs.Evaluation.{modifierOf, failingAt, termsOf, explained, explainReply, explainName, explanation}
 use Rattle.meaning.specs.Outcomes.{failingOf, TargetIs, SaysTarget, SaysText}
-use Rattle.meaning.specs.Runs.{bind-is}
-use Rattle.meaning.specs.Inversions.{wants-bind, target-name, target-malformed, target-wants}
+use Rattle.meaning.proofs.Laws.Runs.{bind-is}
+use Rattle.meaning.proofs.Laws.Inversions.{wants-bind, target-name, target-malformed, target-wants}
 use Rattle.answers.proofs.Laws.Asked.{run-missing, run-failed, run-items}
 use Rattle.selection.specs.Modifiers.{ModifierIs}
 use Rattle.selection.specs.declared.modifiers.Modifier.{Modifier}

@@ -29,8 +29,8 @@ use Rattle.meaning.specs.Tree.{bind, Settled, settled, run}
 use Rattle.meaning.specs.Tables.{tableIn}
 use Rattle.meaning.specs.Mechanisms.{pValue, expansion, givesExpansion, expanded}
 use Rattle.meaning.specs.Evaluation.{most-text, shown, givesShown, explained}
-use Rattle.meaning.specs.Outcomes.{mailOf, wantedBuffer, SaysP, ExplainedIs, textBuffer, SaysText}
-use Rattle.meaning.specs.Inversions.{Gives, Wants, p-current, p-listed, p-unknown, p-wants}
+use Rattle.meaning.specs.Outcomes.{mailOf, wantedBuffer, SaysP, ExplainedIs, textBuffer, SaysText, Gives, Wants}
+use Rattle.meaning.proofs.Laws.Inversions.{p-current, p-listed, p-unknown, p-wants}
 use Rattle.targets.proofs.Laws.Expansions.{text-taken, text-fits, text-over, expansion-given, expansion-wanted}
 use Rattle.explanation.specs.Stages.{Shows, printed, withP}
 

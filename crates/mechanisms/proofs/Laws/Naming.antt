@@ -18,8 +18,8 @@ use Rattle.meaning.specs.declared.Target.{Target}
 use Rattle.meaning.specs.Tree.{Table, Check, run}
 use Rattle.meaning.specs.Mechanisms.{Mail, Step, targetOr, begun, counting, withName, naming, named, askA, askMx, askPtr, askExists}
 use Rattle.meaning.specs.Outcomes.{wantedBuffer, matchedOf, steppedOf, SaysStep, SaysTarget}
-use Rattle.meaning.specs.Runs.{bind-is}
-use Rattle.meaning.specs.Inversions.{wants-bind, says-wants, target-name, target-malformed, target-wants}
+use Rattle.meaning.proofs.Laws.Runs.{bind-is}
+use Rattle.meaning.proofs.Laws.Inversions.{wants-bind, says-wants, target-name, target-malformed, target-wants}
 use Rattle.mechanisms.specs.declared.Question.{Question}
 use Rattle.mechanisms.specs.Terms.{asker}
 

@@ -16,9 +16,9 @@ use Rattle.records.specs.declared.Term.{Term}
 use Rattle.meaning.specs.declared.Counts.{Counts}
 use Rattle.meaning.specs.declared.Stepped.{Stepped}
 use Rattle.meaning.specs.Tree.{Table, run}
-use Rattle.meaning.specs.Mechanisms.{Mail, Step, yes, no, step, matched, named, aStep, mxStep, ptrStep, existsStep}
+use Rattle.meaning.specs.Mechanisms.{Mail, Step, matched, named, aStep, mxStep, ptrStep, existsStep}
 use Rattle.meaning.specs.Evaluation.{Sub, bytesOr, numberOr, lengthFor, networkStep, mechanismStep, termStep}
-use Rattle.meaning.specs.Outcomes.{wantedBuffer, matchedOf, steppedOf, SaysStep}
+use Rattle.meaning.specs.Outcomes.{SaysStep}
 use Rattle.questions.specs.Steps.{matchAnswer}
 use Rattle.questions.proofs.Laws.Replies.{match-says}
 use Rattle.mechanisms.specs.declared.Question.{Question}

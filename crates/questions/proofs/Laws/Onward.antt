@@ -18,7 +18,7 @@ use Rattle.meaning.proofs.Matched as matched-type
 use Rattle.meaning.specs.Tree.{Reply, failed, items, Table, Check, ask, Settled, settled, wanting, answered, run}
 use Rattle.meaning.specs.Mechanisms.{Match, yes, no, stop, Step, step, addressKind, anyMatches, includesClient, hostReply, askHosts, nameReply, askNames}
 use Rattle.meaning.specs.Outcomes.{wantedBuffer, matchedOf, steppedOf, SaysStep}
-use Rattle.meaning.specs.Inversions.{step-no}
+use Rattle.meaning.proofs.Laws.Inversions.{step-no}
 
 -- what comes after a step that doesn't match
 unfoldable pub onMatch : Match → Settled Step → Settled Step → Settled Step

@@ -22,9 +22,9 @@ use Rattle.meaning.specs.declared.PValue.{PValue}
 use Rattle.meaning.specs.Tree.{Reply, failed, items, Table, ask, Settled, settled, wanting, answered, bind, then, run}
 use Rattle.meaning.specs.Tables.{replyBy, tableIn}
 use Rattle.meaning.specs.Mechanisms.{addressKind, includesClient, withValid, validated, namesOf, chosen, holdsName, firstBelow, firstOr, givesChosen, pReply, pValue}
-use Rattle.meaning.specs.Outcomes.{wantedBuffer, PIs, SaysP}
-use Rattle.meaning.specs.Runs.{bind-is}
-use Rattle.meaning.specs.Inversions.{Wants, wants-bind}
+use Rattle.meaning.specs.Outcomes.{wantedBuffer, PIs, SaysP, Wants}
+use Rattle.meaning.proofs.Laws.Runs.{bind-is}
+use Rattle.meaning.proofs.Laws.Inversions.{wants-bind}
 use Rattle.answers.proofs.Laws.Asked.{run-missing, run-entry, run-failed, run-items}
 use Rattle.targets.specs.declared.Choice.{Choice}
 use Rattle.targets.specs.declared.Choice.the-variants.{Nobody}

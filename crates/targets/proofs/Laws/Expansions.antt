@@ -16,9 +16,10 @@ use Rattle.macros.specs.Numbers.{refused, expanded as expandedTo, fitted, answe
 use Rattle.meaning.specs.declared.Counts.{Counts}
 use Rattle.meaning.specs.Tree.{Check, give, bind, settled, run}
 use Rattle.meaning.specs.Tables.{tableIn}
+use Rattle.meaning.specs.Outcomes.{Gives, Wants}
 use Rattle.meaning.specs.Mechanisms.{Mail, pValue, expansion, givesExpansion}
-use Rattle.meaning.specs.Runs.{bind-is}
-use Rattle.meaning.specs.Inversions.{Gives, Wants, wants-bind}
+use Rattle.meaning.proofs.Laws.Runs.{bind-is}
+use Rattle.meaning.proofs.Laws.Inversions.{wants-bind}
 
 -- the text xs in an array that held z and holds v
 unfoldable TextIs : (xs z : List ℕ) → Expanded → List ℕ → Type 0

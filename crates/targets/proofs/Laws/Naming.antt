@@ -34,8 +34,8 @@ use Rattle.meaning.specs.declared.Target.{Target}
 use Rattle.meaning.specs.Tree.{bind, Settled, settled, run}
 use Rattle.meaning.specs.Tables.{tableIn}
 use Rattle.meaning.specs.Mechanisms.{Mail, pValue, expansion, givesExpansion, expanded, givesName, target, targetOr}
-use Rattle.meaning.specs.Outcomes.{mailOf, wantedBuffer, TargetIs, SaysTarget, SaysP}
-use Rattle.meaning.specs.Inversions.{Gives, Wants, p-current, p-listed, p-unknown, p-wants}
+use Rattle.meaning.specs.Outcomes.{mailOf, wantedBuffer, TargetIs, SaysTarget, SaysP, Gives, Wants}
+use Rattle.meaning.proofs.Laws.Inversions.{p-current, p-listed, p-unknown, p-wants}
 use Rattle.targets.specs.Choosing.{targetWithP}
 use Rattle.targets.proofs.Laws.Expansions.{text-taken, text-over, expansion-given, expansion-wanted}
 

@@ -6,11 +6,11 @@ use mathlib.Core.List.{List, _∷_}
 use Rattle.records.specs.Readings.{Optional, Said, Placed}
 use Rattle.meaning.specs.declared.Counts.{Counts}
 use Rattle.meaning.specs.Tree.{Table, settled, wanting, run}
-use Rattle.meaning.specs.Runs.{bind-is, bind-wants}
-use Rattle.meaning.specs.Alike.{Holds}
+use Rattle.meaning.proofs.Laws.Runs.{bind-is, bind-wants}
+use Rattle.meaning.proofs.Laws.Alike.{Holds}
 use Rattle.meaning.specs.Mechanisms.{Mail, Match, no}
 use Rattle.meaning.specs.Evaluation.{Sub, termStep, afterStep, tryTerms, check}
-use Rattle.meaning.specs.Kept.{Bounded, MatchKept, StepKept, Asked, bounded-self, term-fine, check-fine}
+use Rattle.meaning.proofs.Laws.Kept.{Bounded, MatchKept, StepKept, Asked, bounded-self, term-fine, check-fine}
 
 -- one term and then the others, by what the table settles of it
 module _ (t : Table) (mail : Mail) (sub : Sub) (d : List ℕ) (all-terms : List Placed) (x : Placed) (ts : List Placed) (c k : Counts) where

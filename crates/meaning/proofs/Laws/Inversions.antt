@@ -19,22 +19,10 @@ use Rattle.meaning.specs.declared.Selected.{Selected}
 use Rattle.meaning.specs.declared.Checked.{Checked}
 use Rattle.meaning.specs.declared.Explained.{Explained}
 use Rattle.meaning.specs.Tree.{Table, Check, Settled, settled, wanting, bind, run}
-use Rattle.meaning.specs.Runs.{bind-wants}
+use Rattle.meaning.proofs.Laws.Runs.{bind-wants}
 use Rattle.meaning.specs.Mechanisms.{Match, yes, no, stop, Step}
 use Rattle.meaning.specs.Evaluation.{Result, Selection, ends, one}
-use Rattle.meaning.specs.Outcomes.{wantedBuffer, matchedOf, steppedOf, SaysStep, TargetIs, SaysTarget, PIs, SaysP, spanOf, SelectedIs, SaysSelection, failingOf, CheckedIs, SaysCheck, ExplainedIs, textBuffer, SaysText}
-
--- a question that is wanted: its kind, its name's length, and the name buffer
-pub record Wants {A : Type 0} (x : Settled A) (kind size : ℕ) (c : Counts) (before after : List ℕ) : Type 0 where
-  pub asked : List ℕ
-  pub is : x ≡ wanting kind asked c
-  pub size-is : size ≡ length asked
-  pub buffer : after ≡ overwritten asked before
-
--- a value that is settled, and the name buffer as it was
-pub record Gives {A : Type 0} (x : Settled A) (a : A) (before after : List ℕ) : Type 0 where
-  pub is : x ≡ settled a
-  pub kept : after ≡ before
+use Rattle.meaning.specs.Outcomes.{Wants, Gives, wantedBuffer, matchedOf, steppedOf, SaysStep, TargetIs, SaysTarget, PIs, SaysP, spanOf, SelectedIs, SaysSelection, failingOf, CheckedIs, SaysCheck, ExplainedIs, textBuffer, SaysText}
 
 -- what is wanted before a check goes on is wanted
 pub wants-bind : {A B : Type 0} (t : Table) (m : Check A) (f : A → Check B) (kind size : ℕ) (c : Counts) (b a : List ℕ)

@@ -28,9 +28,9 @@ use Rattle.records.specs.Reader.{readRecord}
 use Rattle.records.specs.declared.RecordAnswer.{RecordAnswer}
 use Rattle.meaning.specs.declared.Counts.{Counts}
 use Rattle.meaning.specs.Tree.{Reply, failed, items, Table, Check}
-use Rattle.meaning.specs.Alike.{Alike, alike-give, alike-ask, alike-peek, alike-cond, alike-bind}
-use Rattle.meaning.specs.Reversed.{reversed-ok}
-use Rattle.meaning.specs.Askable.{NamingOk, question-ok, ReplyFits, Fitting, names-ok, host-ok, hosts-ok}
+use Rattle.meaning.proofs.Laws.Alike.{Alike, alike-give, alike-ask, alike-peek, alike-cond, alike-bind}
+use Rattle.meaning.proofs.Laws.Reversed.{reversed-ok}
+use Rattle.meaning.proofs.Laws.Askable.{NamingOk, question-ok, ReplyFits, Fitting, names-ok, host-ok, hosts-ok}
 use Rattle.meaning.specs.Mechanisms.{Mail, Match, yes, no, stop, Step, step, matched, includesClient, anyMatches, withValid, validated, namesOf, givesChosen, pReply, pValue, givesExpansion, expanded, givesName, target, targetOr, most-lookups, most-voids, most-hosts, begun, voided, counting, withName, naming, named, orVoid, aReply, askA, aStep, existsReply, askExists, existsStep, byPreference, hostReply, askHosts, mxItems, mxReply, askMx, mxStep, nameReply, askNames, ptrReply, askPtr, ptrStep}
 use Rattle.meaning.specs.Evaluation.{Failing, Result, ended, Sub, includeMatch, checkTarget, begunCheck, includeOf, includeStep, bytesOr, numberOr, lengthFor, networkStep, mechanismStep, termStep, signResult, modifierOf, failingAt, signed, noneIsPermerror, redirectOf, noMatch, afterStep, tryTerms, termsOf, readOutcome, Selection, ends, one, textReply, textLookup, spfItems, spfReply, recordLookup, afterLookup, checkName, check, givesShown, explained, explainReply, explainName, explanation}
 

@@ -9,7 +9,7 @@ use Rattle.meaning.specs.declared.Counts.{Counts}
 use Rattle.meaning.specs.Tree.{Table, run}
 use Rattle.meaning.specs.Mechanisms.{Mail}
 use Rattle.meaning.specs.Evaluation.{check, noCounts, evaluation}
-use Rattle.meaning.specs.Kept.{bounded-self, checkName-fine, check-fine}
+use Rattle.meaning.proofs.Laws.Kept.{bounded-self, checkName-fine, check-fine}
 
 pub enough : (t : Table) (n m : ℕ) (mail : Mail) (d : Naming) (c : Counts) → 10 < n + c .lookups → 10 < m + c .lookups → c .lookups ≤ 10
     → run t (check n mail d c) ≡ run t (check m mail d c)

@@ -10,11 +10,11 @@ use Rattle.domain.specs.Normal.{normal}
 use Rattle.records.specs.Readings.{Optional, absent, present}
 use Rattle.meaning.specs.declared.Counts.{Counts}
 use Rattle.meaning.specs.Tree.{Table, run}
-use Rattle.meaning.specs.Alike.{Holds, holds-weaken, alike-give, alike-bind}
-use Rattle.meaning.specs.Askable.{Fitting, normal-ok}
+use Rattle.meaning.proofs.Laws.Alike.{Holds, holds-weaken, alike-give, alike-bind}
+use Rattle.meaning.proofs.Laws.Askable.{Fitting, normal-ok}
 use Rattle.meaning.specs.Mechanisms.{Mail}
 use Rattle.meaning.specs.Evaluation.{Failing, Result, noCounts, evaluation, Verdict, verdict}
-use Rattle.meaning.specs.Kept.{Reported, within, third, ResultKept, Asked, Fine, bounded-self, resumes, check-fine, explanation-fine}
+use Rattle.meaning.proofs.Laws.Kept.{Reported, within, third, ResultKept, Asked, Fine, bounded-self, resumes, check-fine, explanation-fine}
 
 -- a question that is lacking, and the counts that are reported with it
 pub record AskedFacts (t : Table) (n : List ℕ) (c : Counts) : Type 0 where
