@@ -1,6 +1,5 @@
 // The calls for programs in C and in other languages: numbers and byte slices go in, a number comes back, and all else is written into lent arrays
 // and buffers. embed/talavorn.h says in C what the contracts here say. No call keeps anything, and none has a `requires`.
-ghost use mathlib.Core.Path.{_≡_};
 ghost use mathlib.Core.List.{[], _∷_};
 ghost use lib.ListN.{length};
 ghost use Rattle.address.specs.Octets.{fromOctets};

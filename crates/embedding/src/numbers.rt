@@ -115,13 +115,7 @@ pub fn put_octets(a: Address, out: &mut [u8; 16]) -> u8
 pub fn put_network(term: Term, out: &mut [u8; 16])
     ensures { λ _. ⌜ now (out .exit) ≡ overwritten (networkOf term) (now (out .entry)) ⌝ }
 {
-    if let Term::Network {
-        sign: _,
-        from: _,
-        to: _,
-        address,
-        length: _,
-    } = term {
+    if let Term::Network { address, .. } = term {
         put_octets(address, out);
     }
 }

@@ -146,11 +146,7 @@ fn run_find(line: &[u8]) {
     let found = table::find(part(&space, 0, n), (kind % 65536) as u16, part(&name, 0, m));
     match found {
         Found::Missing => cases::print_line(b"missing"),
-        Found::Entry {
-            status,
-            start: _,
-            end: _,
-        } => {
+        Found::Entry { status, .. } => {
             io::print_decimal(1, status as u64);
             print_items(table::found_items(part(&space, 0, n), found));
             cases::print_line(b"");

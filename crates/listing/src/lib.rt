@@ -85,45 +85,30 @@ fn print_modifier(name: &[u8], argument: &[u8]) {
 fn print_parts(term: Term, w: &[u8], argument: &[u8]) {
     match term {
         Term::All { sign } => print_plain(b"all", sign, argument),
-        Term::Include {
-            sign,
-            from: _,
-            to: _,
-        } => print_plain(b"include", sign, argument),
+        Term::Include { sign, .. } => print_plain(b"include", sign, argument),
         Term::A {
             sign,
-            from: _,
-            to: _,
             four,
             six,
+            ..
         } => print_hosts(b"a", sign, argument, four, six),
         Term::Mx {
             sign,
-            from: _,
-            to: _,
             four,
             six,
+            ..
         } => print_hosts(b"mx", sign, argument, four, six),
-        Term::Ptr {
-            sign,
-            from: _,
-            to: _,
-        } => print_plain(b"ptr", sign, argument),
+        Term::Ptr { sign, .. } => print_plain(b"ptr", sign, argument),
         Term::Network {
             sign,
-            from: _,
-            to: _,
             address,
             length,
+            ..
         } => print_network(sign, argument, address, length),
-        Term::Exists {
-            sign,
-            from: _,
-            to: _,
-        } => print_plain(b"exists", sign, argument),
-        Term::Redirect { from: _, to: _ } => print_modifier(b"redirect", argument),
-        Term::Explanation { from: _, to: _ } => print_modifier(b"exp", argument),
-        Term::Unknown { name, to: _ } => print_modifier(bytes::part(w, 0, name), argument),
+        Term::Exists { sign, .. } => print_plain(b"exists", sign, argument),
+        Term::Redirect { .. } => print_modifier(b"redirect", argument),
+        Term::Explanation { .. } => print_modifier(b"exp", argument),
+        Term::Unknown { name, .. } => print_modifier(bytes::part(w, 0, name), argument),
     }
 }
 
