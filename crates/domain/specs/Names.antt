@@ -1,10 +1,10 @@
 -- Domain names as 01 has them, by their labels.
 use Prim.Native.Nat.{ℕ}
-use mathlib.Core.List.{List, [], _∷_}
-use mathlib.Core.Bool.{Bool, true, false, _&&_}
+use mathlib.Core.List.{List}
+use mathlib.Core.Bool.{Bool, _&&_}
 use lib.ListN.{length}
 use Rattle.text.specs.Bytes.{isDot, isVisible, isNotUpper, within}
-use Rattle.text.specs.Lists.{same, all, split, rightmost}
+use Rattle.text.specs.Lists.{same, all, split, join, rightmost}
 
 -- the parts of a name between its dots
 unfoldable pub labels : List ℕ → List (List ℕ)
@@ -26,13 +26,6 @@ isTableName s = isName s && all isNotUpper s
 unfoldable pub labelCount : List ℕ → ℕ
 labelCount s = length (labels s)
 
--- whether two lists of labels are the same
-unfoldable pub sameLabels : List (List ℕ) → List (List ℕ) → Bool
-sameLabels [] [] = true
-sameLabels [] (y ∷ ys) = false
-sameLabels (x ∷ xs) [] = false
-sameLabels (x ∷ xs) (y ∷ ys) = same x y && sameLabels xs ys
-
--- "it is the target or below it": the name's last labels, as many as the target has, are the target's
+-- "it is the target or below it": the name's last labels, as many as the target has, make the target
 unfoldable pub atOrBelow : List ℕ → List ℕ → Bool
-atOrBelow name target = sameLabels (rightmost (labelCount target) (labels name)) (labels target)
+atOrBelow name target = same (join (rightmost (labelCount target) (labels name))) target

@@ -1,4 +1,4 @@
--- "While over 253 bytes, labels leave from the left, each with its dot, as long as a dot remains."
+-- "while over 253 bytes, labels leave from the left, each with its dot, as long as a dot remains"
 use Prim.Native.Nat.{ℕ}
 use mathlib.Core.List.{List, [], _∷_}
 use mathlib.Core.Bool.{cond}

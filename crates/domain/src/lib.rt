@@ -1,8 +1,6 @@
 // Domain names.
 ghost use mathlib.Core.Path.{_≡_};
 ghost use mathlib.Core.Bool.{true};
-ghost use mathlib.Core.List.{map};
-ghost use Rattle.text.specs.Bytes.{lower};
 ghost use Rattle.text.specs.Lists.{same, all};
 ghost use Rattle.domain.specs.Names.{labels, isLabel, isName, isTableName, labelCount, atOrBelow};
 ghost use Rattle.domain.specs.Normal.{withoutDot, lowered, normal, nameAnswer, nameBuffer};

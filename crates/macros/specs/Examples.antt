@@ -4,7 +4,7 @@ use mathlib.Core.Path.{_≡_, refl}
 use mathlib.Core.List.{List}
 use Rattle.text.specs.Bytes.{within, lower, isUpper, isAlpha, isDigit, isAlphanumeric, isToplabelByte, isMacroLiteral, isDelimiter, isSpace, isVisible, isPrintable}
 use Rattle.text.specs.Decimal.{decimalFrom, decimal}
-use Rattle.text.specs.Lists.{contains, all, grow, split, dotBefore, join, rightmost}
+use Rattle.text.specs.Lists.{contains, all, grow, split, separatorBefore, joinBy, rightmost}
 use Rattle.text.specs.Runs.{isIn, run, runEnd}
 use Rattle.text.specs.Texts.{bytes}
 use Rattle.address.specs.Octets.{octetsOf, octets, asClient}
@@ -35,7 +35,7 @@ pub record Cases : Type 0 where
   pub empty-sender : outcome DomainSpec (bytes "%{d0}") (from (bytes "")) 500 ≡ refused 20
 
 pub cases : Cases
-unfolding within lower isUpper isAlpha isDigit isAlphanumeric isToplabelByte isMacroLiteral isDelimiter isSpace isVisible isPrintable decimalFrom decimal contains all grow split dotBefore join rightmost isIn run runEnd octetsOf octets asClient digit numeral inDecimal octetTexts dotted readable family isListed reversedIf kept isUnreserved hexDigit escapedByte escaped transformed isLetter isCount isLiteral isEscape isReverse closedAt delimitersAt reversalAt digitsAt bracesOf pieceOf macroOf piecesAfter piecesFrom pieces endsInMacro isToplabel lastLabel endsInLabel endsRight isMacroString lastPart senderDomain written localPart receiverName lettersOf valueOf escapeText pieceText textOf isSender isHost isShort fitted outcome
+unfolding within lower isUpper isAlpha isDigit isAlphanumeric isToplabelByte isMacroLiteral isDelimiter isSpace isVisible isPrintable decimalFrom decimal contains all grow split separatorBefore joinBy rightmost isIn run runEnd octetsOf octets asClient digit numeral inDecimal octetTexts dotted readable family isListed reversedIf kept isUnreserved hexDigit escapedByte escaped transformed isLetter isCount isLiteral isEscape isReverse closedAt delimitersAt reversalAt digitsAt bracesOf pieceOf macroOf piecesAfter piecesFrom pieces endsInMacro isToplabel lastLabel endsInLabel endsRight isMacroString lastPart senderDomain written localPart receiverName lettersOf valueOf escapeText pieceText textOf isSender isHost isShort fitted outcome
 cases =
     record {
       reversed-at-dash = refl;

@@ -9,17 +9,17 @@ use Rattle.address.specs.declared.Address.the-variants.{IPv4}
 use Rattle.records.specs.Readings.{absent, present}
 use Rattle.text.specs.Bytes.{within, isSpace, isNotSpace, isNotSlash, isUpper, isNotUpper, isAlpha, isDigit, isLengthByte, isAlphanumeric, isHexDigit, isVisible, isPrintable, isLabelByte, isNameByte, isToplabelByte, isMacroLiteral, isDelimiter, lower}
 use Rattle.text.specs.Decimal.{decimalFrom, decimal, isDecimal, readDecimal, pushed, hasNoLeadingZero, readNumber}
-use Rattle.text.specs.Lists.{same, sameWord, contains, all, rightmost, grow, split, dotBefore, join}
+use Rattle.text.specs.Lists.{same, sameWord, contains, all, rightmost, grow, split, separatorBefore, joinBy}
 use Rattle.text.specs.Runs.{isIn, run as text-runs-of-run, runEnd, trailingStart}
 use Rattle.text.specs.Writing.{overwritten}
 use Rattle.address.specs.Matching.{bitsOf, bits, agree, matchesAt}
 use Rattle.address.specs.Octets.{octetsOf, octets, valueFrom, valueOf as address-octets-of-valueOf, fromOctets, mappedPrefix, clientOctets, asClient}
-use Rattle.domain.specs.Names.{labels, isLabel, isName, isTableName, labelCount, sameLabels, atOrBelow}
+use Rattle.domain.specs.Names.{labels, isLabel, isName, isTableName, labelCount, atOrBelow}
 use Rattle.domain.specs.Normal.{withoutDot, lowered, normal}
 use Rattle.domain.specs.Shortening.{shorterLabels, shortened}
 use Rattle.notation.specs.Digits.{digit, numeral, inDecimal, inHex}
-use Rattle.notation.specs.Forms.{nibbles, groups, octetTexts, nibbleTexts, colonBefore, dotted, readable, family, reversedName}
-use Rattle.notation.specs.Rows.{partsOf, textOf as notation-rows-of-textOf, ordered, place, separatorBefore, separated, row}
+use Rattle.notation.specs.Forms.{nibbles, groups, octetTexts, nibbleTexts, dotted, readable, family, reversedName}
+use Rattle.notation.specs.Rows.{partsOf, textOf as notation-rows-of-textOf, ordered, place, separated, row}
 use Rattle.transformers.specs.Transform.{isListed, reversedIf, kept, isUnreserved, hexDigit, escapedByte, escaped, transformed}
 use Rattle.macros.specs.Expansion.{lastPart as macros-expansion-of-lastPart, senderDomain, written, localPart, receiverName, lettersOf, valueOf as macros-expansion-of-valueOf, laterValue, escapeText, pieceText, macroText, textOf as macros-expansion-of-textOf, isSender, isHost, isShort}
 use Rattle.macros.specs.Grammar.{isLetter, isCount}
@@ -107,7 +107,7 @@ pub record Cases : Type 0 where
       ≡ settled (record { value = 3; counts = record { lookups = 0; voids = 0 }; text = bytes "192.0.2.129 at 7" })
 
 pub cases : Cases
-unfolding zone answer within isSpace isNotSpace isNotSlash isUpper isNotUpper isAlpha isDigit isLengthByte isAlphanumeric isHexDigit isVisible isPrintable isLabelByte isNameByte isToplabelByte isMacroLiteral isDelimiter lower decimalFrom decimal isDecimal readDecimal pushed hasNoLeadingZero readNumber same sameWord contains all rightmost grow split dotBefore join isIn text-runs-of-run runEnd trailingStart overwritten bitsOf bits agree matchesAt octetsOf octets valueFrom address-octets-of-valueOf fromOctets mappedPrefix clientOctets asClient labels isLabel isName isTableName labelCount sameLabels atOrBelow withoutDot lowered normal shorterLabels shortened digit numeral inDecimal inHex nibbles groups octetTexts nibbleTexts colonBefore dotted readable family reversedName partsOf notation-rows-of-textOf ordered place separatorBefore separated row isListed reversedIf kept isUnreserved hexDigit escapedByte escaped transformed macros-expansion-of-lastPart senderDomain written localPart receiverName lettersOf macros-expansion-of-valueOf laterValue escapeText pieceText macroText macros-expansion-of-textOf isSender isHost isShort isLetter isCount fitted outcome questionName isLiteral isEscape isReverse closedAt delimitersAt reversalAt digitsAt bracesOf pieceOf macroOf piecesAfter piecesFrom pieces endsInMacro isToplabel lastLabel endsInLabel endsRight isMacroString isP anyP scanOf usesP hexValue hexFrom groupsFrom octetAt dotOctetAt readIp4 slashNumber readLength readLength4 readLength6 frontEnd secondLength readDual firstColon isDoubleColon doubleColon readH16 tailOf lastOf networks-reader6-of-lastPart push rowOf readRow readSide addressOf filled fullOf shortOf readIp6 firstOf readAddress octetPairs networkOf isQualifier isReserved countOf saidOf argumentOf laterKind kindOf specAt allOf includeOf existsOf ptrOf cutOf hostsCut hostsAt aOf mxOf ip4Cut ip4Of ip6Cut ip6Of mechanismBy mechanismOf records-reader-of-modifierOf tokenOf tokenAnswer termFrom readTerm isRedirect isExplanation checkAfter endedOf checkFrom hasVersion readRecord includeMatch checkTarget begunCheck meaning-evaluation-of-includeOf includeStep bytesOr numberOr lengthFor networkStep mechanismStep termStep signResult modifierOf failingAt signed noneIsPermerror redirectOf noMatch afterStep tryTerms termsAfter termsFrom termsOf readOutcome versioned selection textReply textLookup spfItems spfReply recordLookup afterLookup checkName check evaluation shown givesShown explained explainReply explainName explanation verdict addressKind itemMatches anyMatches width includesClient withValid validated namesOf holdsName firstBelow firstOr chosen givesChosen pReply pValue expansion givesExpansion expanded givesName target targetOr counting withName naming named orVoid aReply askA aStep existsReply askExists existsStep insertHost byPreference hostReply askHosts mxItems mxReply askMx mxStep nameReply askNames ptrReply askPtr ptrStep replyBy replyOf tableIn bind then answered run
+unfolding zone answer within isSpace isNotSpace isNotSlash isUpper isNotUpper isAlpha isDigit isLengthByte isAlphanumeric isHexDigit isVisible isPrintable isLabelByte isNameByte isToplabelByte isMacroLiteral isDelimiter lower decimalFrom decimal isDecimal readDecimal pushed hasNoLeadingZero readNumber same sameWord contains all rightmost grow split separatorBefore joinBy isIn text-runs-of-run runEnd trailingStart overwritten bitsOf bits agree matchesAt octetsOf octets valueFrom address-octets-of-valueOf fromOctets mappedPrefix clientOctets asClient labels isLabel isName isTableName labelCount atOrBelow withoutDot lowered normal shorterLabels shortened digit numeral inDecimal inHex nibbles groups octetTexts nibbleTexts dotted readable family reversedName partsOf notation-rows-of-textOf ordered place separated row isListed reversedIf kept isUnreserved hexDigit escapedByte escaped transformed macros-expansion-of-lastPart senderDomain written localPart receiverName lettersOf macros-expansion-of-valueOf laterValue escapeText pieceText macroText macros-expansion-of-textOf isSender isHost isShort isLetter isCount fitted outcome questionName isLiteral isEscape isReverse closedAt delimitersAt reversalAt digitsAt bracesOf pieceOf macroOf piecesAfter piecesFrom pieces endsInMacro isToplabel lastLabel endsInLabel endsRight isMacroString isP anyP scanOf usesP hexValue hexFrom groupsFrom octetAt dotOctetAt readIp4 slashNumber readLength readLength4 readLength6 frontEnd secondLength readDual firstColon isDoubleColon doubleColon readH16 tailOf lastOf networks-reader6-of-lastPart push rowOf readRow readSide addressOf filled fullOf shortOf readIp6 firstOf readAddress octetPairs networkOf isQualifier isReserved countOf saidOf argumentOf laterKind kindOf specAt allOf includeOf existsOf ptrOf cutOf hostsCut hostsAt aOf mxOf ip4Cut ip4Of ip6Cut ip6Of mechanismBy mechanismOf records-reader-of-modifierOf tokenOf tokenAnswer termFrom readTerm isRedirect isExplanation checkAfter endedOf checkFrom hasVersion readRecord includeMatch checkTarget begunCheck meaning-evaluation-of-includeOf includeStep bytesOr numberOr lengthFor networkStep mechanismStep termStep signResult modifierOf failingAt signed noneIsPermerror redirectOf noMatch afterStep tryTerms termsAfter termsFrom termsOf readOutcome versioned selection textReply textLookup spfItems spfReply recordLookup afterLookup checkName check evaluation shown givesShown explained explainReply explainName explanation verdict addressKind itemMatches anyMatches width includesClient withValid validated namesOf holdsName firstBelow firstOr chosen givesChosen pReply pValue expansion givesExpansion expanded givesName target targetOr counting withName naming named orVoid aReply askA aStep existsReply askExists existsStep insertHost byPreference hostReply askHosts mxItems mxReply askMx mxStep nameReply askNames ptrReply askPtr ptrStep replyBy replyOf tableIn bind then answered run
 cases = record {
   first-question = refl;
   plain-fail = refl;

@@ -13,7 +13,7 @@ unfoldable pub numeral : ℕ → ℕ → ℕ → List ℕ
 numeral zero base n = digit n ∷ []
 numeral (suc f) base n = cond (ltb n base) (digit n ∷ []) (numeral f base (n / base) ++ (digit (n % base) ∷ []))
 
--- in decimal: the 20 digits of the largest u64 are enough
+-- in decimal, such as "t seconds in decimal": the 20 digits of the largest u64 are enough
 unfoldable pub inDecimal : ℕ → List ℕ
 inDecimal n = numeral 19 10 n
 

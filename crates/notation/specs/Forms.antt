@@ -1,8 +1,7 @@
 -- The texts of an address, by its octets.
 use Prim.Native.Nat.{ℕ, _+_, _*_, _/_, _%_}
 use mathlib.Core.List.{List, [], _∷_, _++_, map, reverse}
-use lib.ListN.{drop}
-use Rattle.text.specs.Lists.{join}
+use Rattle.text.specs.Lists.{joinBy, join}
 use Rattle.text.specs.Texts.{bytes}
 use Rattle.address.specs.Octets.{octets}
 use Rattle.address.specs.declared.Address.{Address}
@@ -20,17 +19,12 @@ groups [] = []
 groups (o ∷ []) = []
 groups (o ∷ u ∷ s) = (256 * o + u) ∷ groups s
 
--- each octet in decimal; each half of an octet as a hex digit; each group in hex
+-- each octet in decimal; each half of an octet as a hex digit
 unfoldable pub octetTexts : List ℕ → List (List ℕ)
 octetTexts s = map inDecimal s
 
 unfoldable pub nibbleTexts : List ℕ → List (List ℕ)
 nibbleTexts s = map (λ n. digit n ∷ []) (nibbles s)
-
--- each text with a colon before it
-unfoldable pub colonBefore : List (List ℕ) → List ℕ
-colonBefore [] = []
-colonBefore (x ∷ xs) = 58 ∷ x ++ colonBefore xs
 
 -- "i address (32 dotted lower-case hex digits for IPv6)"
 unfoldable pub dotted : Address → List ℕ
@@ -40,7 +34,7 @@ dotted (IPv6 h l) = join (nibbleTexts (octets (IPv6 h l)))
 -- "c address (IPv6 as eight lower-case hex groups, no leading zeros, no `::`)"
 unfoldable pub readable : Address → List ℕ
 readable (IPv4 v) = join (octetTexts (octets (IPv4 v)))
-readable (IPv6 h l) = drop 1 (colonBefore (map inHex (groups (octets (IPv6 h l)))))
+readable (IPv6 h l) = joinBy 58 (map inHex (groups (octets (IPv6 h l))))
 
 -- "v `in-addr` or `ip6`"
 unfoldable pub family : Address → List ℕ

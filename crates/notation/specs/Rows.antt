@@ -1,9 +1,9 @@
 -- Rows of numbers with a separator between them, which the texts of addresses are. What the contracts of private functions are said in.
 use Prim.Native.Nat.{ℕ, _-_}
-use mathlib.Core.List.{List, [], _∷_, _++_, map, reverse}
+use mathlib.Core.List.{List, [], _∷_, map, reverse}
 use mathlib.Core.Bool.{Bool, cond}
-use lib.ListN.{drop}
 use lib.Dec.{ltb, eqb}
+use Rattle.text.specs.Lists.{joinBy}
 use Rattle.notation.specs.Digits.{digit, inDecimal, inHex}
 use Rattle.notation.specs.Forms.{nibbles, groups}
 use Rattle.notation.specs.declared.Parts.{Parts}
@@ -27,15 +27,10 @@ ordered reversed s = cond reversed (reverse s) s
 unfoldable pub place : Bool → ℕ → ℕ → ℕ
 place reversed n i = cond reversed (cond (ltb i n) (n - 1 - i) i) i
 
--- each text with a separator before it
-unfoldable pub separatorBefore : ℕ → List (List ℕ) → List ℕ
-separatorBefore separator [] = []
-separatorBefore separator (x ∷ xs) = separator ∷ x ++ separatorBefore separator xs
-
 -- the i-th text of a row, with a separator before it if it isn't the first
 unfoldable pub separated : ℕ → ℕ → List ℕ → List ℕ
 separated separator i x = cond (eqb i 0) x (separator ∷ x)
 
 -- the texts of all parts with the separator between them
 unfoldable pub row : Parts → Bool → ℕ → List ℕ → List ℕ
-row parts reversed separator s = drop 1 (separatorBefore separator (map (textOf parts) (ordered reversed (partsOf parts s))))
+row parts reversed separator s = joinBy separator (map (textOf parts) (ordered reversed (partsOf parts s)))

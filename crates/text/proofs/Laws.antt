@@ -12,7 +12,7 @@ pub mod Parts
 pub mod Spans
 -- Runs: longest runs of a class.
 pub mod Runs
--- Splitting: lists split at delimiters and joined by dots.
+-- Splitting: lists split at delimiters and joined by a separator.
 pub mod Splitting
 -- Writing: bytes written into a buffer.
 pub mod Writing

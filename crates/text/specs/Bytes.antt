@@ -1,7 +1,7 @@
 -- Bytes of a list, their classes, and lower case.
 use Prim.Native.Nat.{ℕ, _+_, _-_}
 use mathlib.Core.List.{List}
-use mathlib.Core.Bool.{Bool, true, false, cond, not, _&&_, _||_}
+use mathlib.Core.Bool.{Bool, cond, not, _&&_, _||_}
 use lib.ListN.{getD, take, drop}
 use lib.Dec.{leb, eqb}
 
@@ -32,6 +32,14 @@ isDot b = eqb b 46
 -- any byte but the dot
 abbrev pub isNotDot : ℕ → Bool
 isNotDot b = not (isDot b)
+
+-- the colon that joins groups of an IPv6 address
+abbrev pub isColon : ℕ → Bool
+isColon b = eqb b 58
+
+-- any byte but the colon
+abbrev pub isNotColon : ℕ → Bool
+isNotColon b = not (isColon b)
 
 -- any byte but the slash
 unfoldable pub isNotSlash : ℕ → Bool

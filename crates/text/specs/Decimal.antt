@@ -1,7 +1,7 @@
 -- Numbers in decimal.
-use Prim.Native.Nat.{ℕ, zero, suc, _+_, _-_, _*_}
+use Prim.Native.Nat.{ℕ, _+_, _-_, _*_}
 use mathlib.Core.List.{List, [], _∷_}
-use mathlib.Core.Bool.{Bool, true, false, cond, not, _&&_, _||_}
+use mathlib.Core.Bool.{Bool, cond, not, _&&_, _||_}
 use lib.ListN.{length}
 use lib.Dec.{leb, eqb}
 use Rattle.text.specs.Bytes.{at, isDigit}
@@ -34,6 +34,6 @@ pushed limit v b = cond (isDigit b && leb (10 * v + (b - 48)) limit) (Value (10 
 unfoldable pub hasNoLeadingZero : List ℕ → Bool
 hasNoLeadingZero s = leb (length s) 1 || not (eqb (at s 0) 48)
 
--- the same without a leading zero
+-- a number as `readDecimal` reads it, but without a leading zero
 unfoldable pub readNumber : ℕ → List ℕ → Number
 readNumber limit s = cond (hasNoLeadingZero s) (readDecimal limit s) Refused

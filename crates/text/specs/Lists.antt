@@ -41,12 +41,16 @@ unfoldable pub split : (ℕ → Bool) → List ℕ → List (List ℕ)
 split delimiter [] = [] ∷ []
 split delimiter (b ∷ s) = cond (delimiter b) ([] ∷ split delimiter s) (grow b (split delimiter s))
 
--- each part with a dot before it
-unfoldable pub dotBefore : List (List ℕ) → List ℕ
-dotBefore [] = []
-dotBefore (x ∷ xs) = 46 ∷ x ++ dotBefore xs
+-- each part with a separator before it
+unfoldable pub separatorBefore : ℕ → List (List ℕ) → List ℕ
+separatorBefore separator [] = []
+separatorBefore separator (x ∷ xs) = separator ∷ x ++ separatorBefore separator xs
+
+-- the parts joined by a separator
+unfoldable pub joinBy : ℕ → List (List ℕ) → List ℕ
+joinBy separator [] = []
+joinBy separator (x ∷ xs) = x ++ separatorBefore separator xs
 
 -- the parts joined by dots
-unfoldable pub join : List (List ℕ) → List ℕ
-join [] = []
-join (x ∷ xs) = x ++ dotBefore xs
+abbrev pub join : List (List ℕ) → List ℕ
+join xs = joinBy 46 xs

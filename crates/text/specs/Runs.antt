@@ -1,18 +1,19 @@
 -- The longest run of a class of bytes.
 use Prim.Native.Nat.{ℕ, suc, _+_}
 use mathlib.Core.List.{List, [], _∷_}
-use mathlib.Core.Bool.{Bool, true, false, cond}
+use mathlib.Core.Bool.{Bool, cond}
 use lib.ListN.{drop}
 use Rattle.text.specs.Lists.{all}
-use Rattle.text.specs.Bytes.{isSpace, isNotSpace, isNotDot, isNotSlash, isUpper, isNotUpper, isAlpha, isDigit, isLengthByte, isAlphanumeric, isHexDigit, isVisible, isPrintable, isLabelByte, isNameByte, isToplabelByte, isMacroLiteral, isDelimiter}
+use Rattle.text.specs.Bytes.{isSpace, isNotSpace, isNotDot, isNotColon, isNotSlash, isUpper, isNotUpper, isAlpha, isDigit, isLengthByte, isAlphanumeric, isHexDigit, isVisible, isPrintable, isLabelByte, isNameByte, isToplabelByte, isMacroLiteral, isDelimiter}
 use Rattle.text.specs.declared.bytes.Class.{Class}
-use Rattle.text.specs.declared.bytes.Class.the-variants.{Space, NotSpace, NotDot, NotSlash, Upper, NotUpper, Alpha, Digit, LengthByte, Alphanumeric, HexDigit, Visible, Printable, LabelByte, NameByte, ToplabelByte, MacroLiteral, Delimiter}
+use Rattle.text.specs.declared.bytes.Class.the-variants.{Space, NotSpace, NotDot, NotColon, NotSlash, Upper, NotUpper, Alpha, Digit, LengthByte, Alphanumeric, HexDigit, Visible, Printable, LabelByte, NameByte, ToplabelByte, MacroLiteral, Delimiter}
 
 -- the test of a class
 unfoldable pub isIn : Class → ℕ → Bool
 isIn Space b = isSpace b
 isIn NotSpace b = isNotSpace b
 isIn NotDot b = isNotDot b
+isIn NotColon b = isNotColon b
 isIn NotSlash b = isNotSlash b
 isIn Upper b = isUpper b
 isIn NotUpper b = isNotUpper b

@@ -3,7 +3,7 @@ use mathlib.Core.Path.{_≡_, refl}
 use mathlib.Core.Bool.{true, false}
 use Rattle.text.specs.Bytes.{within, isUpper, isAlpha, isDigit, isAlphanumeric}
 use Rattle.text.specs.Decimal.{decimalFrom, decimal}
-use Rattle.text.specs.Lists.{contains, grow, split, dotBefore, join, rightmost}
+use Rattle.text.specs.Lists.{contains, grow, split, separatorBefore, joinBy, rightmost}
 use Rattle.text.specs.Texts.{bytes}
 use Rattle.transformers.specs.Transform.{isListed, reversedIf, kept, isUnreserved, hexDigit, escapedByte, escaped, transformed}
 
@@ -16,5 +16,5 @@ pub record Cases : Type 0 where
   pub escapes : transformed (bytes "") false (bytes "") true (bytes "a/b c~") ≡ bytes "a%2Fb%20c~"
 
 pub cases : Cases
-unfolding within isUpper isAlpha isDigit isAlphanumeric decimalFrom decimal grow split dotBefore join rightmost contains isListed reversedIf kept isUnreserved hexDigit escapedByte escaped transformed
+unfolding within isUpper isAlpha isDigit isAlphanumeric decimalFrom decimal grow split separatorBefore joinBy rightmost contains isListed reversedIf kept isUnreserved hexDigit escapedByte escaped transformed
 cases = record { reversed-at-dash = refl; one-kept = refl; two-kept = refl; all-kept = refl; none-kept = refl; escapes = refl }

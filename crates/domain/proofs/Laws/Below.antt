@@ -1,5 +1,5 @@
 -- At or below a target: by labels, as the definition says it, and by bytes, as the code tests it. From the definitions of Names and the laws
--- of splitting.
+-- of splitting and joining.
 use Prim.Native.Nat.{ℕ, suc, _+_, _-_, _≤_, _<_}
 use mathlib.Core.Path.{_≡_, refl, sym, ap, _∙_}
 use mathlib.Core.Logic.{_⊎_, ⊎-elim, inl, inr, _↔_}
@@ -7,72 +7,59 @@ use mathlib.Core.List.{List, [], _∷_, _++_}
 use mathlib.Core.Bool.{Bool, true, false}
 use native.Mathlib.Omega.{arith}
 use lib.ListN.{length, take, drop, length-append, take-append-drop}
-use lib.Seq.{append-snoc, drop-at, getD-at, split-at}
+use lib.Seq.{append-snoc, drop-at, drop-cons, getD-at, split-at}
 use lib.Dec.{eqb}
 use borrow.Author.Tests.{eqb-true, eqb-false}
 use Rattle.text.specs.Bytes.{at, isDot}
 use Rattle.text.specs.Lists.{same, split, join, rightmost}
-use Rattle.text.proofs.Laws.Tests.{and-left, and-right, fails-test}
+use Rattle.text.proofs.Laws.Tests.{fails-test}
 use Rattle.text.proofs.Laws.Parts.{rightmost-append}
 use Rattle.text.proofs.Laws.Words.{same-true, true-same, same-refl}
 use Rattle.text.proofs.Laws.Spans.{rest-part}
-use Rattle.text.proofs.Laws.Splitting.{some, split-some, split-append, join-append, join-dots}
-use Rattle.domain.specs.Names.{labels, labelCount, sameLabels, atOrBelow}
+use Rattle.text.proofs.Laws.Splitting.{Some, some, some-count, split-append, join-append}
+use Rattle.domain.specs.Names.{labels, labelCount, atOrBelow}
+use Rattle.domain.proofs.Laws.Labels.{labels-some, join-labels}
 
--- the test of two lists of labels and their equation
-same-labels-true : (xs ys : List (List ℕ)) → sameLabels xs ys ≡ true → xs ≡ ys
-unfolding sameLabels
-same-labels-true [] [] h = refl
-same-labels-true [] (y ∷ ys) h = let z : _≡_ {A = ℕ} 0 1 = cc in cc
-same-labels-true (x ∷ xs) [] h = let z : _≡_ {A = ℕ} 0 1 = cc in cc
-same-labels-true (x ∷ xs) (y ∷ ys) h =
-    let p = same-true x y (and-left (same x y) (sameLabels xs ys) h) in
-    let q = same-labels-true xs ys (and-right (same x y) (sameLabels xs ys) h) in
-    cc
-
-same-labels-refl : (xs : List (List ℕ)) → sameLabels xs xs ≡ true
-unfolding sameLabels
-same-labels-refl [] = refl
-same-labels-refl (x ∷ xs) = simp (same-refl x) (same-labels-refl xs)
-
--- by labels: those of the name end in those of the target
 module _ (name target : List ℕ) where
-  pub at-or-below-true : atOrBelow name target ≡ true → (above : List (List ℕ)) × (labels name ≡ above ++ labels target)
-  unfolding atOrBelow rightmost
-  at-or-below-true h =
-      let k = length (labels name) - labelCount target in
-      let e : drop k (labels name) ≡ labels target = same-labels-true (drop k (labels name)) (labels target) h in
-      (take k (labels name), sym (take-append-drop k (labels name)) ∙ ap (λ (x : List (List ℕ)). take k (labels name) ++ x) e)
-
-  pub true-at-or-below : (above : List (List ℕ)) → labels name ≡ above ++ labels target → atOrBelow name target ≡ true
-  unfolding atOrBelow labelCount
-  true-at-or-below above e = rw (e, rightmost-append (length (labels target)) above (labels target) refl) (same-labels-refl (labels target))
-
-  pub at-or-below-iff : (atOrBelow name target ≡ true) ↔ ((above : List (List ℕ)) × (labels name ≡ above ++ labels target))
-  at-or-below-iff = (at-or-below-true, λ x. true-at-or-below (x .0) (x .1))
+  labels-dot : (u : List ℕ) → name ≡ u ++ 46 ∷ target → labels name ≡ labels u ++ labels target
+  unfolding labels
+  labels-dot u e = ap (split isDot) e ∙ split-append isDot u 46 target refl
 
   -- by bytes: the name is the target, or ends in a dot and the target
-  below-bytes : (above : List (List ℕ)) → labels name ≡ above ++ labels target → (name ≡ target) ⊎ ((u : List ℕ) × (name ≡ u ++ 46 ∷ target))
-  unfolding labels
-  below-bytes [] e = inl (sym (join-dots name) ∙ ap join e ∙ join-dots target)
-  below-bytes (x ∷ xs) e =
-      inr (
-        join (x ∷ xs),
-        sym (join-dots name) ∙ ap join e ∙ join-append (x ∷ xs) (split isDot target) some (split-some isDot target)
-            ∙ ap (λ (t : List ℕ). join (x ∷ xs) ++ 46 ∷ t) (join-dots target),
-      )
+  last-bytes : (above last : List (List ℕ)) → Some last → labels name ≡ above ++ last → join last ≡ target
+      → (name ≡ target) ⊎ ((u : List ℕ) × (name ≡ u ++ 46 ∷ target))
+  last-bytes [] last s e f = inl (sym (join-labels name) ∙ ap join e ∙ f)
+  last-bytes (x ∷ xs) last s e f =
+      inr (join (x ∷ xs), sym (join-labels name) ∙ ap join e ∙ join-append 46 (x ∷ xs) last some s ∙ ap (λ (t : List ℕ). join (x ∷ xs) ++ 46 ∷ t) f)
 
-  pub same-below : name ≡ target → true ≡ atOrBelow name target
+  below-bytes : atOrBelow name target ≡ true → (name ≡ target) ⊎ ((u : List ℕ) × (name ≡ u ++ 46 ∷ target))
+  unfolding atOrBelow rightmost labelCount
+  below-bytes h =
+      let k = length (labels name) - length (labels target) in
+      let here : k < length (labels name) = omega (arith, some-count (labels-some name), some-count (labels-some target)) in
+      last-bytes (take k (labels name)) (drop k (labels name)) (rw (drop-cons (labels name) k [] here) some)
+      (sym (take-append-drop k (labels name))) (same-true _ _ h)
+
+  -- by labels: those of the name end in those of the target. This tells a reader that no part of a label counts.
+  true-at-or-below : (above : List (List ℕ)) → labels name ≡ above ++ labels target → atOrBelow name target ≡ true
+  unfolding atOrBelow labelCount
+  true-at-or-below above e =
+      rw (e, rightmost-append (length (labels target)) above (labels target) refl, join-labels target) (same-refl target)
+
+  pub at-or-below-iff : (atOrBelow name target ≡ true) ↔ ((above : List (List ℕ)) × (labels name ≡ above ++ labels target))
+  at-or-below-iff = (
+    (λ h. ⊎-elim (λ e. ([], ap labels e)) (λ p. (labels (p .0), labels-dot (p .0) (p .1))) (below-bytes h)),
+    (λ x. true-at-or-below (x .0) (x .1)),
+  )
+
+  same-below : name ≡ target → true ≡ atOrBelow name target
   same-below e = sym (true-at-or-below [] (ap labels e))
 
-  pub dot-below : (u : List ℕ) → name ≡ u ++ 46 ∷ target → true ≡ atOrBelow name target
-  unfolding labels
-  dot-below u e = sym (true-at-or-below (split isDot u) (ap (split isDot) e ∙ split-append isDot u 46 target refl))
+  dot-below : (u : List ℕ) → name ≡ u ++ 46 ∷ target → true ≡ atOrBelow name target
+  dot-below u e = sym (true-at-or-below (labels u) (labels-dot u e))
 
-  pub not-below : (name ≡ target → ⊥) → ((u : List ℕ) → name ≡ u ++ 46 ∷ target → ⊥) → false ≡ atOrBelow name target
-  not-below h k = fails-test (atOrBelow name target) (λ t.
-      let a = at-or-below-true t in
-      ⊎-elim h (λ p. k (p .0) (p .1)) (below-bytes (a .0) (a .1)))
+  not-below : (name ≡ target → ⊥) → ((u : List ℕ) → name ≡ u ++ 46 ∷ target → ⊥) → false ≡ atOrBelow name target
+  not-below h k = fails-test (atOrBelow name target) (λ t. ⊎-elim h (λ p. k (p .0) (p .1)) (below-bytes t))
 
   -- `at_or_below`: the place where the target would begin
   pub below-short : length name < length target → false ≡ atOrBelow name target

@@ -1,6 +1,6 @@
 -- Whether every label fits, by the run of label bytes at the front of a name; whether a text is a name; how many labels it has. From the
 -- definitions of Names and the laws of runs and splitting.
-use Prim.Native.Nat.{ℕ, zero, suc, _+_, _-_, _≤_, _<_}
+use Prim.Native.Nat.{ℕ, suc, _+_, _-_, _≤_, _<_}
 use mathlib.Core.Path.{_≡_, refl, sym, ap, _∙_}
 use mathlib.Core.Logic.{⊎-elim}
 use mathlib.Core.List.{List, [], _∷_}
@@ -13,14 +13,15 @@ use lib.Seq.{drop-cons, take-all, length-take-le}
 use lib.Dec.{eqb, eqb·suc-suc, eqb·zero-suc}
 use borrow.Author.Tests.{eqb-true, eq-eqb, ne-eqb, not-false, not-true, lt-leb, le-leb}
 use Rattle.text.specs.Bytes.{at, isDot, isVisible, isLabelByte, within}
-use Rattle.text.specs.Lists.{all, split}
+use Rattle.text.specs.Lists.{all, split, join}
 use Rattle.text.specs.Runs.{isIn, run, runEnd}
 use Rattle.text.specs.declared.bytes.Class.the-variants.{LabelByte}
 use Rattle.text.proofs.Laws.Tests.{and-left, and-right, and-both, fails-test}
 use Rattle.text.proofs.Laws.Classes.{within-range, range-within}
+use Rattle.text.proofs.Laws.Parts.{all-first}
 use Rattle.text.proofs.Laws.Runs.{run-le, run-stops, run-within}
 use Rattle.text.proofs.Laws.Spans.{rest-part}
-use Rattle.text.proofs.Laws.Splitting.{front, split-none, split-first, count-in, count-out}
+use Rattle.text.proofs.Laws.Splitting.{Some, front, split-some, split-none, split-first, count-in, count-out, join-dots}
 use Rattle.text.proofs.Laws.Orders.{le-or-lt}
 use Rattle.domain.specs.Names.{labels, isLabel, isName, labelCount}
 
@@ -52,6 +53,15 @@ first-label (b ∷ s) = by (eqb b 46) (isVisible b) refl (first-label s)
     by false true e ih = record { before = let h = ih .before in omega arith; visible = rw e (ih .visible ∙ sym (eqb·suc-suc (run isLabelByte s) (front isDot s))) }
     by false false e ih = record { before = omega arith; visible = rw e (sym (eqb·zero-suc (front isDot s))) }
 
+-- there is a label, and joined by dots the labels are the name
+pub labels-some : (s : List ℕ) → Some (labels s)
+unfolding labels
+labels-some s = split-some isDot s
+
+pub join-labels : (s : List ℕ) → join (labels s) ≡ s
+unfolding labels
+join-labels s = join-dots s
+
 -- the labels by the first one
 pub labels-none : (s : List ℕ) → length s ≤ front isDot s → labels s ≡ s ∷ []
 unfolding labels
@@ -61,11 +71,10 @@ pub labels-first : (s : List ℕ) → front isDot s < length s → labels s ≡ 
 unfolding labels
 labels-first s h = split-first isDot s h
 
-all-first : (s : List ℕ) → all isLabel (labels s) ≡ true → isLabel (take (front isDot s) s) ≡ true
-unfolding all
-all-first s h = ⊎-elim
-    (λ (k : length s ≤ front isDot s). rw (take-all (front isDot s) s k) (and-left (isLabel s) true (rw (labels-none s k) at h)))
-    (λ (k : front isDot s < length s). and-left (isLabel (take (front isDot s) s)) (all isLabel (labels (drop (suc (front isDot s)) s))) (rw (labels-first s k) at h))
+first-fits : (s : List ℕ) → all isLabel (labels s) ≡ true → isLabel (take (front isDot s) s) ≡ true
+first-fits s h = ⊎-elim
+    (λ (k : length s ≤ front isDot s). rw (take-all (front isDot s) s k) (all-first isLabel s [] (rw (labels-none s k) at h)))
+    (λ (k : front isDot s < length s). all-first isLabel (take (front isDot s) s) (labels (drop (suc (front isDot s)) s)) (rw (labels-first s k) at h))
     (le-or-lt (length s) (front isDot s))
 
 -- `labels_fit`: e is the end of the run of label bytes
@@ -93,7 +102,7 @@ module _ (s : List ℕ) (e : ℕ) (r : e ≡ runEnd (isIn LabelByte) s 0) where
   unfolding isLabel
   fits-first h =
       let t = take (front isDot s) s in
-      let l = all-first s h in
+      let l = first-fits s h in
       let w = within-range 1 63 (length t) (and-left (within 1 63 (length t)) (all isVisible t) l) in
       let n : length t ≡ front isDot s = length-take-le (front isDot s) s front-inside in
       let v = and-right (within 1 63 (length t)) (all isVisible t) l in

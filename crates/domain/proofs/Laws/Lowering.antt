@@ -1,16 +1,16 @@
 -- A to Z lowered, a text is a name exactly if it was one; what `without_dot`, `write_lowered` and `read_name` answer. From the definitions of
 -- Names and Normal and the laws of writing.
-use Prim.Native.Nat.{ℕ, _+_, _-_, _*_, _^_, _<_}
+use Prim.Native.Nat.{ℕ, _+_, _-_, _*_, _^_, _≤_, _<_}
 use mathlib.Core.Path.{_≡_, refl, sym, ap, _∙_}
 use mathlib.Core.List.{List, [], _∷_, map}
 use mathlib.Core.Bool.{Bool, true, false, cond}
 use native.Mathlib.Omega.{arith}
 use lib.ListN.{length, take, length-map}
-use lib.Dec.{eqb}
 use borrow.Author.Tests.{eq-eqb, ne-eqb}
 use Rattle.text.specs.Bytes.{at, isDot, isVisible, isUpper, lower, within}
-use Rattle.text.specs.Lists.{all, split, grow}
+use Rattle.text.specs.Lists.{split, grow}
 use Rattle.text.specs.Writing.{Wrote}
+use Rattle.text.proofs.Laws.Tests.{cond-elim}
 use Rattle.text.proofs.Laws.Parts.{all-map}
 use Rattle.text.proofs.Laws.Classes.{within-range, range-within}
 use Rattle.text.proofs.Laws.Writing.{wrote-over, wrote-length}
@@ -19,24 +19,18 @@ use Rattle.domain.specs.declared.Name.the-variants.{Written, Malformed}
 use Rattle.domain.specs.Names.{labels, isLabel, isName}
 use Rattle.domain.specs.Normal.{name, malformed, withoutDot, lowered, normal, nameAnswer, nameBuffer}
 
--- lower case keeps a dot a dot, and a visible byte visible
-pub dot-lower : (b : ℕ) → isDot (lower b) ≡ isDot b
+-- lower case keeps a test that doesn't tell the cases of a letter apart: a dot stays a dot, and a visible byte visible
+lower-keeps : (p : ℕ → Bool) → ((b : ℕ) → 65 ≤ b → b ≤ 90 → p (b + 32) ≡ p b) → (b : ℕ) → p (lower b) ≡ p b
 unfolding lower isUpper
-dot-lower b = by (within 65 90 b) refl
-  where
-    by : (t : Bool) → within 65 90 b ≡ t → eqb (cond t (b + 32) b) 46 ≡ eqb b 46
-    by true e = let w = within-range 65 90 b e in ne-eqb (b + 32) 46 (λ k. omega arith) ∙ sym (ne-eqb b 46 (λ k. omega arith))
-    by false e = refl
+lower-keeps p h b = cond-elim (λ (x : ℕ). p x ≡ p b) (within 65 90 b) {x = b + 32} {y = b}
+    (λ e. let w = within-range 65 90 b e in h b (w .0) (w .1)) (λ _. refl)
+
+pub dot-lower : (b : ℕ) → isDot (lower b) ≡ isDot b
+dot-lower = lower-keeps isDot (λ b l m. ne-eqb (b + 32) 46 (λ k. omega arith) ∙ sym (ne-eqb b 46 (λ k. omega arith)))
 
 pub visible-lower : (b : ℕ) → isVisible (lower b) ≡ isVisible b
-unfolding lower isUpper isVisible
-visible-lower b = by (within 65 90 b) refl
-  where
-    by : (t : Bool) → within 65 90 b ≡ t → within 33 126 (cond t (b + 32) b) ≡ within 33 126 b
-    by true e =
-        let w = within-range 65 90 b e in
-        range-within 33 126 (b + 32) (omega arith) (omega arith) ∙ sym (range-within 33 126 b (omega arith) (omega arith))
-    by false e = refl
+unfolding isVisible
+visible-lower = lower-keeps isVisible (λ b l m. range-within 33 126 (b + 32) (omega arith) (omega arith) ∙ sym (range-within 33 126 b (omega arith) (omega arith)))
 
 -- lower case keeps the labels apart
 grow-lower : (b : ℕ) (xs : List (List ℕ)) → grow (lower b) (map (map lower) xs) ≡ map (map lower) (grow b xs)

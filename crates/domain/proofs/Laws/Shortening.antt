@@ -11,15 +11,15 @@ use lib.ListN.{length, take, drop, length-drop}
 use lib.Seq.{split-at}
 use borrow.Author.Tests.{le-leb, lt-leb}
 use Rattle.text.specs.Bytes.{isDot}
-use Rattle.text.specs.Lists.{join, dotBefore}
+use Rattle.text.specs.Lists.{separatorBefore, joinBy, join}
 use Rattle.text.specs.Runs.{isIn, runEnd}
 use Rattle.text.specs.declared.bytes.Class.the-variants.{NotDot}
 use Rattle.text.proofs.Laws.Spans.{rest-part}
-use Rattle.text.proofs.Laws.Splitting.{Some, some, split-some, front, join-dots}
+use Rattle.text.proofs.Laws.Splitting.{Some, some, front}
 use Rattle.text.proofs.Laws.Orders.{le-or-lt}
 use Rattle.domain.specs.Names.{labels, labelCount}
 use Rattle.domain.specs.Shortening.{shorterLabels, shortened}
-use Rattle.domain.proofs.Laws.Labels.{front-dot, labels-none, labels-first}
+use Rattle.domain.proofs.Laws.Labels.{front-dot, labels-some, join-labels, labels-none, labels-first}
 
 -- the labels that stay
 shorter-same : (xs : List (List ℕ)) → length (join xs) ≤ 253 → shorterLabels xs ≡ xs
@@ -32,14 +32,6 @@ shorter-less : (x : List ℕ) (xs : List (List ℕ)) → Some xs → 253 < lengt
 unfolding shorterLabels
 shorter-less x (y ∷ r) some h = rw (lt-leb _ _ h)
 
-labels-some : (s : List ℕ) → Some (labels s)
-unfolding labels
-labels-some s = split-some isDot s
-
-join-labels : (s : List ℕ) → join (labels s) ≡ s
-unfolding labels
-join-labels s = join-dots s
-
 -- one step: nothing leaves, nothing can, or the first label does
 module _ (s : List ℕ) where
   pub shortened-same : length s ≤ 253 → shortened s ≡ s
@@ -47,7 +39,7 @@ module _ (s : List ℕ) where
   shortened-same h = rw (shorter-same (labels s) (rw join-labels h), join-labels)
 
   pub shortened-last : length s ≤ front isDot s → shortened s ≡ s
-  unfolding shortened shorterLabels join dotBefore
+  unfolding shortened shorterLabels joinBy separatorBefore
   shortened-last h = rw (labels-none s h, append-nil)
 
   pub shortened-less : 253 < length s → front isDot s < length s → shortened s ≡ shortened (drop (suc (front isDot s)) s)
@@ -57,7 +49,7 @@ module _ (s : List ℕ) where
       let long : 253 < length (join (take (front isDot s) s ∷ labels rest)) = rw (← labels-first s k, join-labels) h in
       rw (labels-first s k, shorter-less (take (front isDot s) s) (labels rest) (labels-some rest) long)
 
--- what holds of a name and of what is left of it: by these three steps
+-- what holds of a name and of what is left of it: by these three steps. It gives three facts that tell a reader what shortening leaves.
 module _ (P : List ℕ → List ℕ → Type 0)
     (same : (s : List ℕ) → length s ≤ 253 → P s s)
     (last : (s : List ℕ) → labels s ≡ s ∷ [] → P s s)

@@ -11,7 +11,7 @@ use lib.ListN.{length, take, drop, length-append, take-append-drop, drop-of-leng
 use lib.Seq.{getD-at, getD-append-add, take-at, take-append-le, drop-append-le, take-append-seam, drop-append-seam, split-at}
 use borrow.Author.Tests.{eqb-true}
 use Rattle.text.specs.Bytes.{at, within, isDot, isUpper, isAlpha, isDigit, isAlphanumeric, isToplabelByte, isMacroLiteral}
-use Rattle.text.specs.Lists.{all, split, grow, dotBefore, join}
+use Rattle.text.specs.Lists.{all, split, grow, separatorBefore, joinBy, join}
 use Rattle.text.proofs.Laws.Tests.{cond-elim, true-false, or-elim, or-left, or-right}
 use Rattle.text.proofs.Laws.Classes.{class-inside}
 use Rattle.text.proofs.Laws.Splitting.{Some, some, split-some, split-append, join-dots}
@@ -200,7 +200,7 @@ dot-before x s l (inl e) = inl e
 dot-before x s l (inr (u, e)) = inr (x ++ (46 ∷ u), ap (λ (t : List ℕ). x ++ (46 ∷ t)) e ∙ sym (append-assoc x (46 ∷ u) (46 ∷ l)))
 
 join-label : (xs : List (List ℕ)) → AfterDot (join xs) (lastLabel xs)
-unfolding join dotBefore lastLabel
+unfolding joinBy separatorBefore lastLabel
 join-label [] = inl refl
 join-label (x ∷ []) = inl refl
 join-label (x ∷ y ∷ []) = inr (x, ap (λ (t : List ℕ). x ++ t) (append-nil (46 ∷ y)))

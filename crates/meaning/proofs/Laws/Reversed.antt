@@ -9,7 +9,7 @@ use lib.ListN.{length, length-append}
 use lib.Dec.{ltb}
 use borrow.Author.Tests.{lt-ltb, ltb-true}
 use Rattle.text.specs.Bytes.{isDot, isVisible, isUpper, isNotUpper, within}
-use Rattle.text.specs.Lists.{all, split, grow, join, dotBefore}
+use Rattle.text.specs.Lists.{all, split, grow, separatorBefore, joinBy, join}
 use Rattle.text.specs.Texts.{bytes}
 use Rattle.text.proofs.Laws.Tests.{and-left, and-right, and-both}
 use Rattle.text.proofs.Laws.Classes.{range-within, below}
@@ -58,17 +58,17 @@ plain-dot x s hx hs = rw (labels-dot x s) (and-both _ _
 
 -- parts joined by dots, and then one more
 plain-parts : (x : List ℕ) (xs : List (List ℕ)) (s : List ℕ) → isPlain x ≡ true → all isPlain xs ≡ true → isPlain s ≡ true
-    → isPlain (x ++ (dotBefore xs ++ 46 ∷ s)) ≡ true
-unfolding dotBefore
+    → isPlain (x ++ (separatorBefore 46 xs ++ 46 ∷ s)) ≡ true
+unfolding separatorBefore
 plain-parts x [] s hx h hs = plain-dot x s hx hs
 plain-parts x (y ∷ ys) s hx h hs =
-    rw (append-assoc y (dotBefore ys) (46 ∷ s))
-    (plain-dot x (y ++ (dotBefore ys ++ 46 ∷ s)) hx (plain-parts y ys s (all-first isPlain y ys h) (all-rest isPlain y ys h) hs))
+    rw (append-assoc y (separatorBefore 46 ys) (46 ∷ s))
+    (plain-dot x (y ++ (separatorBefore 46 ys ++ 46 ∷ s)) hx (plain-parts y ys s (all-first isPlain y ys h) (all-rest isPlain y ys h) hs))
 
 plain-join : (xs : List (List ℕ)) (s : List ℕ) → Some xs → all isPlain xs ≡ true → isPlain s ≡ true → isPlain (join xs ++ 46 ∷ s) ≡ true
-unfolding join
+unfolding joinBy
 plain-join (x ∷ xs) s some h hs =
-    rw (append-assoc x (dotBefore xs) (46 ∷ s)) (plain-parts x xs s (all-first isPlain x xs h) (all-rest isPlain x xs h) hs)
+    rw (append-assoc x (separatorBefore 46 xs) (46 ∷ s)) (plain-parts x xs s (all-first isPlain x xs h) (all-rest isPlain x xs h) hs)
 
 plain-name : (xs : List (List ℕ)) (s : List ℕ) → Some xs → all isPlain xs ≡ true → isPlain s ≡ true → length (join xs ++ 46 ∷ s) ≤ 253
     → isTableName (join xs ++ 46 ∷ s) ≡ true

@@ -1,19 +1,19 @@
 -- How long the texts of numbers and addresses are at most. From the definitions of Digits and Forms.
-use Prim.Native.Nat.{ℕ, zero, suc, _+_, _/_, _%_, _^_, _≤_, _<_}
+use Prim.Native.Nat.{ℕ, zero, suc, _/_, _%_, _^_, _≤_, _<_}
 use mathlib.Core.Path.{_≡_, refl, _∙_}
 use mathlib.Core.List.{List, [], _∷_, reverse}
 use native.Mathlib.Omega.{arith}
 use native.Mathlib.Nat.{pow-zero, pow-suc, one-mul}
-use lib.ListN.{length, drop, length-append, length-drop}
+use lib.ListN.{length, length-append}
 use lib.Dec.{ltb}
 use borrow.Author.Tests.{ltb-false}
-use Rattle.text.specs.Lists.{join, dotBefore}
+use Rattle.text.specs.Lists.{separatorBefore, joinBy, join}
 use Rattle.text.proofs.Laws.Tests.{cond-elim}
 use Rattle.address.specs.Octets.{octetsOf, octets}
 use Rattle.address.specs.declared.Address.{Address}
 use Rattle.address.specs.declared.Address.the-variants.{IPv4, IPv6}
 use Rattle.notation.specs.Digits.{digit, numeral, inDecimal, inHex}
-use Rattle.notation.specs.Forms.{nibbles, groups, octetTexts, nibbleTexts, colonBefore, dotted, readable, family, reversedName}
+use Rattle.notation.specs.Forms.{nibbles, groups, octetTexts, nibbleTexts, dotted, readable, family, reversedName}
 use Rattle.notation.proofs.Laws.Numerals.{quotient-small}
 
 -- a numeral has at most the digits that it is given, and at most those that its number needs
@@ -49,30 +49,23 @@ length-hex v = length-given 3 16 v
 
 -- four octets with three dots between them
 length-four : (a b c d : ℕ) → length (join (inDecimal (a % 256) ∷ inDecimal (b % 256) ∷ inDecimal (c % 256) ∷ inDecimal (d % 256) ∷ [])) ≤ 15
-unfolding join dotBefore
+unfolding joinBy separatorBefore
 length-four a b c d = simp length-append (omega (arith, length-octet a, length-octet b, length-octet c, length-octet d))
 
 -- 32 nibbles with 31 dots between them
 length-nibbles : (high low : ℕ) → length (join (nibbleTexts (octets (IPv6 high low)))) ≡ 63
-unfolding join dotBefore nibbleTexts nibbles octets octetsOf
+unfolding joinBy separatorBefore nibbleTexts nibbles octets octetsOf
 length-nibbles high low = refl
 
 length-reversed-nibbles : (high low : ℕ) → length (join (reverse (nibbleTexts (octets (IPv6 high low))))) ≡ 63
-unfolding join dotBefore nibbleTexts nibbles octets octetsOf
+unfolding joinBy separatorBefore nibbleTexts nibbles octets octetsOf
 length-reversed-nibbles high low = refl
 
 -- eight groups with seven colons between them
-length-colon : (x : List ℕ) (xs : List (List ℕ)) → length (colonBefore (x ∷ xs)) ≡ suc (length x + length (colonBefore xs))
-unfolding colonBefore
-length-colon x xs = length-append (58 ∷ x) (colonBefore xs) ∙ omega arith
-
-length-colon-none : length (colonBefore []) ≡ 0
-unfolding colonBefore
-length-colon-none = refl
-
 length-groups : (a b c d e f g h : ℕ)
-    → length (drop 1 (colonBefore (inHex a ∷ inHex b ∷ inHex c ∷ inHex d ∷ inHex e ∷ inHex f ∷ inHex g ∷ inHex h ∷ []))) ≤ 39
-length-groups a b c d e f g h = simp (length-drop, length-colon, length-colon-none)
+    → length (joinBy 58 (inHex a ∷ inHex b ∷ inHex c ∷ inHex d ∷ inHex e ∷ inHex f ∷ inHex g ∷ inHex h ∷ [])) ≤ 39
+unfolding joinBy separatorBefore
+length-groups a b c d e f g h = simp length-append
     (omega (arith, length-hex a, length-hex b, length-hex c, length-hex d, length-hex e, length-hex f, length-hex g, length-hex h))
 
 pub length-dotted : (a : Address) → length (dotted a) ≤ 63

@@ -143,7 +143,7 @@ in-decimal v h =
       value = r .value;
     }
 
--- read again, it is the number
+-- read again, it is the number: this tells a reader that the writer of decimals and their reader agree
 pub read-in-decimal : (v limit : ℕ) → v < 2 ^ 64 → v ≤ limit → readNumber limit (inDecimal v) ≡ Value v
 unfolding readNumber readDecimal
 read-in-decimal v limit h l =

@@ -1,26 +1,27 @@
 -- Rows of numbers: a part at its place, a row as a loop writes it part by part, and the texts of addresses as rows. From the definitions of
--- Rows and Forms and the laws of Writing.
+-- Rows and Forms and the laws of splitting and writing.
 use Prim.Native.Nat.{ℕ, zero, suc, _+_, _-_, _*_, _/_, _%_, _^_, _≤_, _<_}
 use mathlib.Core.Path.{_≡_, refl, sym, ap, _∙_}
-use mathlib.Core.List.{List, [], _∷_, _++_, map, reverse, map-append, append-nil, append-assoc, reverse-cons}
+use mathlib.Core.List.{List, [], _∷_, _++_, map, reverse, map-append, append-nil, reverse-cons}
 use mathlib.Core.Bool.{Bool, true, false}
 use mathlib.Core.Logic.{_⊎_, ⊎-elim}
 use native.Mathlib.Omega.{arith}
 use native.Mathlib.Numerals.{add-one}
-use lib.ListN.{length, getD, take, drop, length-reverse, length-map, List·getD-append, List·getD-eq-default}
+use lib.ListN.{length, getD, take, length-reverse, length-map, List·getD-append, List·getD-eq-default}
 use lib.Seq.{take-suc, take-all, getD-at, length-take-le}
 use borrow.Author.Tests.{lt-ltb, le-ltb, eq-eqb, ne-eqb}
-use Rattle.text.specs.Lists.{join, dotBefore}
+use Rattle.text.specs.Lists.{separatorBefore, joinBy, join}
 use Rattle.text.specs.Texts.{bytes}
 use Rattle.text.specs.Writing.{Wrote}
 use Rattle.text.proofs.Laws.Orders.{le-or-lt}
+use Rattle.text.proofs.Laws.Splitting.{some, join-snoc}
 use Rattle.text.proofs.Laws.Writing.{wrote-none, wrote-then, length-wrote}
 use Rattle.address.specs.Octets.{octetsOf, octets}
 use Rattle.address.specs.declared.Address.{Address}
 use Rattle.address.specs.declared.Address.the-variants.{IPv4, IPv6}
 use Rattle.notation.specs.Digits.{digit, numeral, inDecimal, inHex}
-use Rattle.notation.specs.Forms.{nibbles, groups, octetTexts, nibbleTexts, colonBefore, dotted, readable, family, reversedName}
-use Rattle.notation.specs.Rows.{partsOf, textOf, ordered, place, separatorBefore, separated, row}
+use Rattle.notation.specs.Forms.{nibbles, groups, octetTexts, nibbleTexts, dotted, readable, family, reversedName}
+use Rattle.notation.specs.Rows.{partsOf, textOf, ordered, place, separated, row}
 use Rattle.notation.specs.declared.Parts.{Parts}
 use Rattle.notation.specs.declared.Parts.the-variants.{Octets, Nibbles, Groups}
 
@@ -169,27 +170,22 @@ module _ (parts : Parts) (s : List ℕ) (reversed : Bool) (separator i m j : ℕ
   next-later z o n v w = simp (ne-eqb i 0 z) (wrote-then out at (separator ∷ []) (textOf parts (getD (ordered reversed (partsOf parts s)) i 0)) o after n next v (rw next-text at w))
 
 -- a row with one text more
-before-append : (separator : ℕ) (xs ys : List (List ℕ)) → separatorBefore separator (xs ++ ys) ≡ separatorBefore separator xs ++ separatorBefore separator ys
-unfolding separatorBefore
-before-append separator [] ys = refl
-before-append separator (x ∷ xs) ys = rw (before-append separator xs ys, append-assoc)
-
 row-snoc : (separator : ℕ) (xs : List (List ℕ)) (x : List ℕ)
-    → drop 1 (separatorBefore separator (xs ++ (x ∷ []))) ≡ drop 1 (separatorBefore separator xs) ++ separated separator (length xs) x
-unfolding separatorBefore separated
+    → joinBy separator (xs ++ (x ∷ [])) ≡ joinBy separator xs ++ separated separator (length xs) x
+unfolding joinBy separatorBefore separated
 row-snoc separator [] x = append-nil x
-row-snoc separator (y ∷ xs) x = simp (ne-eqb (suc (length xs)) 0 (λ (e : suc (length xs) ≡ 0). omega arith))
-    (rw (before-append separator xs (x ∷ []), append-nil x) (sym (append-assoc y (separatorBefore separator xs) (separator ∷ x))))
+row-snoc separator (y ∷ xs) x =
+    simp (ne-eqb (suc (length xs)) 0 (λ (e : suc (length xs) ≡ 0). omega arith)) (join-snoc separator (y ∷ xs) x some)
 
 -- `put_row`: the parts passed, and what was written of them
 module _ (parts : Parts) (s : List ℕ) (reversed : Bool) (separator : ℕ) (out : List ℕ) (at m : ℕ) where
   pub record Joined (next i : ℕ) (o : List ℕ) : Type 0 where
     pub count : m ≡ length (partsOf parts s)
     pub within : i ≤ m
-    pub wrote : Wrote (drop 1 (separatorBefore separator (map (textOf parts) (take i (ordered reversed (partsOf parts s)))))) out at o next
+    pub wrote : Wrote (joinBy separator (map (textOf parts) (take i (ordered reversed (partsOf parts s))))) out at o next
 
   pub joined-start : m ≡ length (partsOf parts s) → at < 2 ^ 64 → length out < 2 ^ 64 → Joined at 0 out
-  unfolding separatorBefore
+  unfolding joinBy
   joined-start e h l = record { count = e; within = omega arith; wrote = wrote-none out at (omega arith) (omega arith) }
 
   module _ (next i : ℕ) (o : List ℕ) (p : Joined next i o) where
@@ -204,7 +200,7 @@ module _ (parts : Parts) (s : List ℕ) (reversed : Bool) (separator : ℕ) (out
           count = p .count;
           within = omega arith;
           wrote = rw (add-one, take-suc ps i 0 full, map-append, text, size)
-              (wrote-then out at (drop 1 (separatorBefore separator (map (textOf parts) (take i ps)))) (separated separator i (textOf parts (getD ps i 0))) o o′ next n′ (p .wrote) w);
+              (wrote-then out at (joinBy separator (map (textOf parts) (take i ps))) (separated separator i (textOf parts (getD ps i 0))) o o′ next n′ (p .wrote) w);
         }
 
     pub joined-end : m ≤ i → Wrote (row parts reversed separator s) out at o next
@@ -214,43 +210,16 @@ module _ (parts : Parts) (s : List ℕ) (reversed : Bool) (separator : ℕ) (out
         rw (sym (take-all i ps (omega (arith, length-ordered reversed (partsOf parts s), p .count)))) (p .wrote)
 
     pub joined-length : length o ≡ length out
-    joined-length = length-wrote out at (drop 1 (separatorBefore separator (map (textOf parts) (take i (ordered reversed (partsOf parts s)))))) o next (p .wrote)
+    joined-length = length-wrote out at (joinBy separator (map (textOf parts) (take i (ordered reversed (partsOf parts s))))) o next (p .wrote)
 
--- the texts of addresses as rows
-before-dots : (xs : List (List ℕ)) → separatorBefore 46 xs ≡ dotBefore xs
-unfolding separatorBefore dotBefore
-before-dots [] = refl
-before-dots (x ∷ xs) = rw (before-dots xs)
-
-before-colons : (xs : List (List ℕ)) → separatorBefore 58 xs ≡ colonBefore xs
-unfolding separatorBefore colonBefore
-before-colons [] = refl
-before-colons (x ∷ xs) = rw (before-colons xs)
-
-join-row : (xs : List (List ℕ)) → drop 1 (separatorBefore 46 xs) ≡ join xs
-unfolding join separatorBefore
-join-row [] = refl
-join-row (x ∷ xs) = rw (before-dots xs)
-
-octets-row : (s : List ℕ) → row Octets false 46 s ≡ join (octetTexts s)
-unfolding row ordered partsOf textOf octetTexts
-octets-row s = join-row (map inDecimal s)
-
-nibbles-row : (s : List ℕ) → row Nibbles false 46 s ≡ join (nibbleTexts s)
-unfolding row ordered partsOf textOf nibbleTexts
-nibbles-row s = join-row (map (λ n. digit n ∷ []) (nibbles s))
-
-groups-row : (s : List ℕ) → row Groups false 58 s ≡ drop 1 (colonBefore (map inHex (groups s)))
-unfolding row ordered partsOf textOf
-groups-row s = ap (drop 1) (before-colons (map inHex (groups s)))
-
+-- the texts of addresses as rows; forwards they are rows by definition
 octets-reversed : (s : List ℕ) → row Octets true 46 s ≡ join (reverse (octetTexts s))
 unfolding row ordered partsOf textOf octetTexts
-octets-reversed s = join-row (map inDecimal (reverse s)) ∙ ap join (map-reverse inDecimal s)
+octets-reversed s = ap join (map-reverse inDecimal s)
 
 nibbles-reversed : (s : List ℕ) → row Nibbles true 46 s ≡ join (reverse (nibbleTexts s))
 unfolding row ordered partsOf textOf nibbleTexts
-nibbles-reversed s = join-row (map (λ n. digit n ∷ []) (reverse (nibbles s))) ∙ ap join (map-reverse (λ n. digit n ∷ []) (nibbles s))
+nibbles-reversed s = ap join (map-reverse (λ n. digit n ∷ []) (nibbles s))
 
 -- `put_dotted`, `put_readable`, `put_family`, `put_reversed_name`
 module _ (a : Address) (out : List ℕ) (at : ℕ) (after : List ℕ) (next : ℕ) where
@@ -261,12 +230,12 @@ module _ (a : Address) (out : List ℕ) (at : ℕ) (after : List ℕ) (next : �
 
     module _ (x : List ℕ) (p : x ≡ octetsOf 4 v) where
       pub dotted-four : Wrote (row Octets false 46 x) out at after next → Wrote (dotted a) out at after next
-      unfolding dotted octets
-      dotted-four w = rw (e, ← p) (rw octets-row at w)
+      unfolding dotted octets octetTexts row ordered partsOf textOf
+      dotted-four w = rw (e, ← p) w
 
       pub readable-four : Wrote (row Octets false 46 x) out at after next → Wrote (readable a) out at after next
-      unfolding readable octets
-      readable-four w = rw (e, ← p) (rw octets-row at w)
+      unfolding readable octets octetTexts row ordered partsOf textOf
+      readable-four w = rw (e, ← p) w
 
       pub reversed-four : (o : List ℕ) (n : ℕ) → Wrote (row Octets true 46 x) out at o n → Wrote (bytes ".in-addr.arpa") o n after next
           → Wrote (reversedName a) out at after next
@@ -281,12 +250,12 @@ module _ (a : Address) (out : List ℕ) (at : ℕ) (after : List ℕ) (next : �
 
     module _ (x : List ℕ) (p : x ≡ octetsOf 8 high ++ octetsOf 8 low) where
       pub dotted-six : Wrote (row Nibbles false 46 x) out at after next → Wrote (dotted a) out at after next
-      unfolding dotted octets
-      dotted-six w = rw (e, ← p) (rw nibbles-row at w)
+      unfolding dotted octets nibbleTexts row ordered partsOf textOf
+      dotted-six w = rw (e, ← p) w
 
       pub readable-six : Wrote (row Groups false 58 x) out at after next → Wrote (readable a) out at after next
-      unfolding readable octets
-      readable-six w = rw (e, ← p) (rw groups-row at w)
+      unfolding readable octets row ordered partsOf textOf
+      readable-six w = rw (e, ← p) w
 
       pub reversed-six : (o : List ℕ) (n : ℕ) → Wrote (row Nibbles true 46 x) out at o n → Wrote (bytes ".ip6.arpa") o n after next
           → Wrote (reversedName a) out at after next

@@ -2,17 +2,17 @@
 -- From the definitions of Bytes and Runs and the laws of tests.
 use Prim.Native.Nat.{ℕ, zero, suc, _≤_, _<_}
 use mathlib.Core.Path.{_≡_, refl, sym, ap, _∙_}
-use mathlib.Core.Bool.{Bool, true, false, cond, not, Bool·beq, _&&_}
+use mathlib.Core.Bool.{Bool, true, false, cond, not, Bool·beq}
 use mathlib.Core.List.{List, [], _∷_}
 use native.Mathlib.Omega.{arith}
 use lib.ListN.{length, List·getD-eq-default}
 use lib.Dec.{leb, ltb, eqb}
 use borrow.Author.Tests.{leb-true, leb-false, le-leb, lt-leb, le-ltb, lt-ltb, eqb-true, eqb-false, ne-eqb}
-use Rattle.text.specs.Bytes.{at, within, isSpace, isNotSpace, isNotDot, isNotSlash, isUpper, isNotUpper, isAlpha, isDigit, isLengthByte, isAlphanumeric, isHexDigit, isVisible, isPrintable, isLabelByte, isNameByte, isToplabelByte, isMacroLiteral, isDelimiter}
+use Rattle.text.specs.Bytes.{at, within, isSpace, isNotSpace, isNotDot, isNotColon, isNotSlash, isUpper, isNotUpper, isAlpha, isDigit, isLengthByte, isAlphanumeric, isHexDigit, isVisible, isPrintable, isLabelByte, isNameByte, isToplabelByte, isMacroLiteral, isDelimiter}
 use Rattle.text.specs.Lists.{all}
 use Rattle.text.specs.Runs.{isIn}
 use Rattle.text.specs.declared.bytes.Class.{Class}
-use Rattle.text.specs.declared.bytes.Class.the-variants.{Space, NotSpace, NotDot, NotSlash, Upper, NotUpper, Alpha, Digit, LengthByte, Alphanumeric, HexDigit, Visible, Printable, LabelByte, NameByte, ToplabelByte, MacroLiteral, Delimiter}
+use Rattle.text.specs.declared.bytes.Class.the-variants.{Space, NotSpace, NotDot, NotColon, NotSlash, Upper, NotUpper, Alpha, Digit, LengthByte, Alphanumeric, HexDigit, Visible, Printable, LabelByte, NameByte, ToplabelByte, MacroLiteral, Delimiter}
 use Rattle.text.proofs.Laws.Tests.{cond-elim, and-left, and-right}
 
 -- a range of bytes, as numbers
@@ -29,6 +29,7 @@ abbrev pub testOf : Class → ℕ → Bool
 testOf Space = isSpace
 testOf NotSpace = isNotSpace
 testOf NotDot = isNotDot
+testOf NotColon = isNotColon
 testOf NotSlash = isNotSlash
 testOf Upper = isUpper
 testOf NotUpper = isNotUpper
@@ -50,6 +51,7 @@ unfolding isIn
 class-test Space b = refl
 class-test NotSpace b = refl
 class-test NotDot b = refl
+class-test NotColon b = refl
 class-test NotSlash b = refl
 class-test Upper b = refl
 class-test NotUpper b = refl

@@ -1,5 +1,5 @@
 -- Numbers in decimal, digit by digit as a loop reads them. From the definitions of Decimal.
-use Prim.Native.Nat.{ℕ, zero, suc, _+_, _-_, _*_, _≤_, _<_, _/_}
+use Prim.Native.Nat.{ℕ, suc, _+_, _-_, _*_, _≤_, _<_, _/_}
 use mathlib.Core.Path.{_≡_, refl, sym, ap, _∙_}
 use mathlib.Core.List.{List, [], _∷_}
 use mathlib.Core.Bool.{Bool, true, false, cond, _&&_}
@@ -15,7 +15,6 @@ use Rattle.text.specs.Decimal.{decimalFrom, decimal, isDecimal, pushed, 
 use Rattle.text.specs.declared.decimal.Number.{Number}
 use Rattle.text.specs.declared.decimal.Number.the-variants.{Value, Refused}
 use Rattle.text.proofs.Laws.Classes.{within-range}
-use Rattle.text.proofs.Laws.Tests.{and-left, and-right}
 
 -- what is read of the digits that stand after those of value v
 unfoldable pub readFrom : ℕ → ℕ → List ℕ → Number
@@ -66,10 +65,10 @@ module _ (limit v : ℕ) where
       by false l q e = absurd (let z : _≡_ {A = ℕ} 0 1 = cc in omega arith)
 
 -- `push_digit`
-module _ (limit v b : ℕ) (r : Bool) (p : r ≡ within 48 57 b) where
-  pub digit-least : r ≡ true → 48 ≤ b
-  digit-least q = within-range 48 57 b (sym p ∙ q) .0
+pub digit-least : (b : ℕ) (r : Bool) → r ≡ within 48 57 b → r ≡ true → 48 ≤ b
+digit-least b r p q = within-range 48 57 b (sym p ∙ q) .0
 
+module _ (limit v b : ℕ) (r : Bool) (p : r ≡ within 48 57 b) where
   pub push-fits : r ≡ true → v ≤ (limit - (b - 48)) / 10 → b - 48 ≤ limit → Value (10 * v + (b - 48)) ≡ pushed limit v b
   unfolding pushed isDigit
   push-fits q h l = simp (sym p ∙ q, le-leb (10 * v + (b - 48)) limit (omega arith))

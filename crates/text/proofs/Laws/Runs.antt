@@ -1,7 +1,7 @@
 -- Longest runs of a class: as a loop finds them, their bounds, their bytes, and a test of every byte as a run to the end. From the definitions
 -- of Runs; `p` is the class.
 use Prim.Native.Nat.{ℕ, zero, suc, _+_, _-_, _≤_, _<_}
-use mathlib.Core.Path.{_≡_, refl, sym, ap, subst, _∙_}
+use mathlib.Core.Path.{_≡_, refl, sym, ap, _∙_}
 use mathlib.Core.Logic.{⊎-elim}
 use mathlib.Core.List.{List, [], _∷_, _++_}
 use mathlib.Core.Bool.{Bool, true, false, cond, _&&_}
@@ -11,14 +11,13 @@ use native.Mathlib.Nat.{add-zero, zero-add, add-sub-cancel-left}
 use lib.ListN.{length, getD, take, drop, drop-of-length-le, length-drop}
 use lib.Seq.{drop-cons, drop-length, getD-drop}
 use lib.Dec.{eqb, eqb·suc-suc, eqb·zero-suc}
-use borrow.Author.Tests.{eq-eqb, ne-eqb}
 use Rattle.text.specs.Bytes.{at}
 use Rattle.text.specs.Lists.{all}
 use Rattle.text.specs.Runs.{run, runEnd, trailingStart}
 use Rattle.text.proofs.Laws.Tests.{cond-elim, and-both}
 use Rattle.text.proofs.Laws.Orders.{le-or-lt}
 use Rattle.text.proofs.Laws.Parts.{all-at}
-use Rattle.text.proofs.Laws.Spans.{Span, span-take}
+use Rattle.text.proofs.Laws.Spans.{Span, span-take, drop-before}
 
 module _ (p : ℕ → Bool) where
   pub run-nil : run p [] ≡ 0
@@ -183,10 +182,7 @@ module _ (p : ℕ → Bool) where
   module _ (s : List ℕ) (i : ℕ) (inside : i ≤ length s) (inv : all p (drop i s) ≡ true) where
     pub trailing-next : 0 < i → (r : Bool) → r ≡ p (at s (i - 1)) → r ≡ true → all p (drop (i - 1) s) ≡ true
     unfolding all
-    trailing-next h r e q =
-        let n : suc (i - 1) ≡ i = omega arith in
-        let d : drop (i - 1) s ≡ at s (i - 1) ∷ drop i s = drop-cons s (i - 1) 0 (omega arith) ∙ ap (λ (k : ℕ). at s (i - 1) ∷ drop k s) n in
-        ap (all p) d ∙ and-both (p (at s (i - 1))) (all p (drop i s)) (sym e ∙ q) inv
+    trailing-next h r e q = ap (all p) (drop-before s i h inside) ∙ and-both (p (at s (i - 1))) (all p (drop i s)) (sym e ∙ q) inv
 
     pub trailing-stop : 0 < i → (r : Bool) → r ≡ p (at s (i - 1)) → r ≡ false → i ≡ trailingStart p s
     trailing-stop h r e q = trailing-is s i inv (λ j a. ⊎-elim (λ (l : i ≤ j). l) (λ (l : j < i). absurd (never j l a)) (le-or-lt i j))

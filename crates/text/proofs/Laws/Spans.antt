@@ -1,13 +1,13 @@
 -- A word that stands in a list from a place up to another: joined, cut, and as a part that code hands on. All of `take`, `drop` and `++` is
 -- argued here, once.
-use Prim.Native.Nat.{ℕ, zero, suc, _+_, _-_, _*_, _≤_, _<_, min}
+use Prim.Native.Nat.{ℕ, suc, _+_, _-_, _≤_, _<_, min}
 use mathlib.Core.Path.{_≡_, refl, sym, ap, subst, _∙_}
 use mathlib.Core.Logic.{⊎-elim}
 use mathlib.Core.List.{List, [], _∷_, _++_, append-assoc, append-nil}
 use native.Mathlib.Omega.{arith}
 use native.Mathlib.Nat.{add-zero}
 use native.Mathlib.Numerals.{add-one}
-use lib.ListN.{length, getD, take, drop, length-append, take-append-drop, length-drop, drop-of-length-le}
+use lib.ListN.{length, take, drop, length-append, take-append-drop, length-drop, drop-of-length-le}
 use lib.Seq.{drop-drop, drop-cons, drop-append-seam, drop-append-add, length-take-le, drop-length, take-all, getD-drop, take-at, take-nil}
 use Rattle.text.specs.Bytes.{at, part}
 use Rattle.text.proofs.Laws.Orders.{le-or-lt}
@@ -92,6 +92,10 @@ rest-part s i = take-all (length s - i) (drop i s) (omega (arith, length-drop i 
 
 pub drop-past : (s : List ℕ) (i : ℕ) → length s < i → drop i s ≡ []
 drop-past s i h = drop-of-length-le s {i = i} (omega arith)
+
+-- one byte more at the front of a rest, as a loop from the right takes it
+pub drop-before : (s : List ℕ) (i : ℕ) → 0 < i → i ≤ length s → drop (i - 1) s ≡ at s (i - 1) ∷ drop i s
+drop-before s i h k = let n : suc (i - 1) ≡ i = omega arith in drop-cons s (i - 1) 0 (omega arith) ∙ ap (λ (j : ℕ). at s (i - 1) ∷ drop j s) n
 
 pub drop-min : (k : ℕ) (s : List ℕ) → drop (min k (length s)) s ≡ drop k s
 drop-min k s = ⊎-elim

@@ -1,20 +1,24 @@
--- Lists split at delimiters and joined by dots. From the definitions of Lists; `p` is the test of a delimiter.
-use Prim.Native.Nat.{ℕ, zero, suc, _+_, _-_, _≤_, _<_}
+-- Lists split at delimiters and joined by a separator. From the definitions of Lists; `p` is the test of a delimiter, `c` the separator.
+use Prim.Native.Nat.{ℕ, suc, _+_, _-_, _≤_, _<_}
 use native.Mathlib.Omega.{arith}
 use mathlib.Core.Path.{_≡_, refl, sym, ap, subst, _∙_}
 use mathlib.Core.List.{List, [], _∷_, _++_, map, append-assoc, append-nil}
 use mathlib.Core.Bool.{Bool, true, false, cond, not}
 use lib.ListN.{length, take, drop, take-append-drop}
-use lib.Seq.{drop-cons, drop-length}
+use lib.Seq.{drop-length}
 use lib.Dec.{eqb}
 use borrow.Author.Tests.{eqb-true}
 use Rattle.text.specs.Bytes.{at, isDot}
-use Rattle.text.specs.Lists.{split, grow, dotBefore, join}
+use Rattle.text.specs.Lists.{split, grow, separatorBefore, joinBy, join}
 use Rattle.text.specs.Runs.{run}
+use Rattle.text.proofs.Laws.Spans.{drop-before}
 
 -- a list of parts with at least one
 pub data Some : List (List ℕ) → Type 0 where
   some : {x : List ℕ} {xs : List (List ℕ)} → Some (x ∷ xs)
+
+pub some-count : {xs : List (List ℕ)} → Some xs → 0 < length xs
+some-count some = omega arith
 
 pub some-snoc : (xs : List (List ℕ)) (x : List ℕ) → Some (xs ++ (x ∷ []))
 some-snoc [] x = some
@@ -29,14 +33,14 @@ grow-append : (b : ℕ) (xs ys : List (List ℕ)) → Some xs → grow b (xs ++ 
 unfolding grow
 grow-append b (x ∷ xs) ys some = refl
 
-join-grow : (b : ℕ) (xs : List (List ℕ)) → join (grow b xs) ≡ b ∷ join xs
-unfolding join grow dotBefore
-join-grow b [] = refl
-join-grow b (x ∷ xs) = refl
+join-grow : (c b : ℕ) (xs : List (List ℕ)) → joinBy c (grow b xs) ≡ b ∷ joinBy c xs
+unfolding joinBy grow separatorBefore
+join-grow c b [] = refl
+join-grow c b (x ∷ xs) = refl
 
-join-empty : (xs : List (List ℕ)) → Some xs → join ([] ∷ xs) ≡ 46 ∷ join xs
-unfolding join dotBefore
-join-empty (x ∷ xs) some = refl
+join-empty : (c : ℕ) (xs : List (List ℕ)) → Some xs → joinBy c ([] ∷ xs) ≡ c ∷ joinBy c xs
+unfolding joinBy separatorBefore
+join-empty c (x ∷ xs) some = refl
 
 count-grow : (b : ℕ) (xs : List (List ℕ)) → Some xs → length (grow b xs) ≡ length xs
 unfolding grow
@@ -58,15 +62,15 @@ module _ (p : ℕ → Bool) where
       both true = refl
       both false = grow-append x (split p xs) (split p ys) (split-some xs)
 
-  -- joined again, a list has dots for its delimiters
-  pub join-split : (s : List ℕ) → join (split p s) ≡ map (λ b. cond (p b) 46 b) s
-  unfolding split join dotBefore
-  join-split [] = refl
-  join-split (b ∷ s) = by (p b) (join-split s)
+  -- joined again, a list has separators for its delimiters
+  pub join-split : (c : ℕ) (s : List ℕ) → joinBy c (split p s) ≡ map (λ b. cond (p b) c b) s
+  unfolding split joinBy separatorBefore
+  join-split c [] = refl
+  join-split c (b ∷ s) = by (p b) (join-split c s)
     where
-      by : (t : Bool) → join (split p s) ≡ map (λ b. cond (p b) 46 b) s → join (cond t ([] ∷ split p s) (grow b (split p s))) ≡ cond t 46 b ∷ map (λ b. cond (p b) 46 b) s
-      by true ih = rw (join-empty (split p s) (split-some s), ih)
-      by false ih = rw (join-grow b (split p s), ih)
+      by : (t : Bool) → joinBy c (split p s) ≡ map (λ b. cond (p b) c b) s → joinBy c (cond t ([] ∷ split p s) (grow b (split p s))) ≡ cond t c b ∷ map (λ b. cond (p b) c b) s
+      by true ih = rw (join-empty c (split p s) (split-some s), ih)
+      by false ih = rw (join-grow c b (split p s), ih)
 
   -- by the run of bytes before the first delimiter
   abbrev pub front : List ℕ → ℕ
@@ -132,16 +136,13 @@ module _ (p : ℕ → Bool) (s : List ℕ) where
   undelimited-start = record { within = omega arith; one = rw drop-length }
 
   module _ (i : ℕ) (inv : Undelimited i) where
-    before : 0 < i → drop (i - 1) s ≡ at s (i - 1) ∷ drop i s
-    before h = let n : suc (i - 1) ≡ i = omega arith in drop-cons s (i - 1) 0 (omega (arith, inv .within)) ∙ ap (λ (k : ℕ). at s (i - 1) ∷ drop k s) n
-
     pub undelimited-next : 0 < i → p (at s (i - 1)) ≡ false → Undelimited (i - 1)
     unfolding split grow
-    undelimited-next h n = record { within = omega (arith, inv .within); one = rw (before h, n, inv .one) }
+    undelimited-next h n = record { within = omega (arith, inv .within); one = rw (drop-before s i h (inv .within), n, inv .one) }
 
     pub undelimited-last : 0 < i → p (at s (i - 1)) ≡ true → split p s ≡ split p (take (i - 1) s) ++ (drop i s ∷ [])
     undelimited-last h n =
-        ap (split p) (sym (take-append-drop (i - 1) s) ∙ ap (λ (t : List ℕ). take (i - 1) s ++ t) (before h))
+        ap (split p) (sym (take-append-drop (i - 1) s) ∙ ap (λ (t : List ℕ). take (i - 1) s ++ t) (drop-before s i h (inv .within)))
         ∙ split-append p (take (i - 1) s) (at s (i - 1)) (drop i s) n
         ∙ ap (λ (t : List (List ℕ)). split p (take (i - 1) s) ++ t) (inv .one)
 
@@ -149,30 +150,31 @@ module _ (p : ℕ → Bool) (s : List ℕ) where
     undelimited-whole h = let e : i ≡ 0 = omega arith in subst (λ (k : ℕ). split p (drop k s) ≡ drop k s ∷ []) e (inv .one)
 
 -- joined with more parts at the end
-dots-append : (xs ys : List (List ℕ)) → dotBefore (xs ++ ys) ≡ dotBefore xs ++ dotBefore ys
-unfolding dotBefore
-dots-append [] ys = refl
-dots-append (x ∷ xs) ys = rw (dots-append xs ys, append-assoc)
+module _ (c : ℕ) where
+  before-append : (xs ys : List (List ℕ)) → separatorBefore c (xs ++ ys) ≡ separatorBefore c xs ++ separatorBefore c ys
+  unfolding separatorBefore
+  before-append [] ys = refl
+  before-append (x ∷ xs) ys = rw (before-append xs ys, append-assoc)
 
-pub join-snoc : (xs : List (List ℕ)) (x : List ℕ) → Some xs → join (xs ++ (x ∷ [])) ≡ join xs ++ (46 ∷ x)
-unfolding join dotBefore
-join-snoc (y ∷ xs) x some = rw (dots-append xs (x ∷ []), append-nil, append-assoc)
+  pub join-append : (xs ys : List (List ℕ)) → Some xs → Some ys → joinBy c (xs ++ ys) ≡ joinBy c xs ++ (c ∷ joinBy c ys)
+  unfolding joinBy separatorBefore
+  join-append (x ∷ xs) (y ∷ ys) some some = rw (before-append xs (y ∷ ys), append-assoc)
 
-pub join-append : (xs ys : List (List ℕ)) → Some xs → Some ys → join (xs ++ ys) ≡ join xs ++ (46 ∷ join ys)
-unfolding join dotBefore
-join-append (x ∷ xs) (y ∷ ys) some some = rw (dots-append xs (y ∷ ys), append-assoc)
+  pub join-snoc : (xs : List (List ℕ)) (x : List ℕ) → Some xs → joinBy c (xs ++ (x ∷ [])) ≡ joinBy c xs ++ (c ∷ x)
+  unfolding joinBy separatorBefore
+  join-snoc xs x e = join-append xs (x ∷ []) e some ∙ rw append-nil
 
--- split at dots and joined again, a list is as it was
-undotted : (b : ℕ) → cond (isDot b) 46 b ≡ b
-undotted b = by (eqb b 46) refl
-  where
-    by : (t : Bool) → eqb b 46 ≡ t → cond t 46 b ≡ b
-    by true e = sym (eqb-true b 46 e)
-    by false e = refl
+  -- split at the separator and joined again, a list is as it was
+  pub join-again : (s : List ℕ) → joinBy c (split (λ b. eqb b c) s) ≡ s
+  join-again s = join-split (λ b. eqb b c) c s ∙ same s
+    where
+      by : (b : ℕ) (t : Bool) → eqb b c ≡ t → cond t c b ≡ b
+      by b true e = sym (eqb-true b c e)
+      by b false e = refl
 
-map-same : (f : ℕ → ℕ) → ((b : ℕ) → f b ≡ b) → (s : List ℕ) → map f s ≡ s
-map-same f h [] = refl
-map-same f h (b ∷ s) = rw (h b, map-same f h s)
+      same : (s : List ℕ) → map (λ b. cond (eqb b c) c b) s ≡ s
+      same [] = refl
+      same (b ∷ s) = rw (by b (eqb b c) refl, same s)
 
 pub join-dots : (s : List ℕ) → join (split isDot s) ≡ s
-join-dots s = join-split isDot s ∙ map-same (λ b. cond (isDot b) 46 b) undotted s
+join-dots s = join-again 46 s

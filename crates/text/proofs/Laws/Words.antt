@@ -1,14 +1,14 @@
 -- Equality of lists: the test against the equation, and place by place as a loop compares. From the definition of `same`.
-use Prim.Native.Nat.{ℕ, zero, suc, _+_, _≤_, _<_}
+use Prim.Native.Nat.{ℕ, _+_, _≤_, _<_}
 use mathlib.Core.Path.{_≡_, refl, sym, ap, _∙_}
-use mathlib.Core.List.{List, [], _∷_, _++_, map}
-use mathlib.Core.Bool.{Bool, true, false, _&&_, _||_}
+use mathlib.Core.List.{List, [], _∷_, map}
+use mathlib.Core.Bool.{Bool, true, false}
 use native.Mathlib.Omega.{arith}
 use native.Mathlib.Numerals.{add-one}
-use lib.ListN.{length, getD, drop, drop-of-length-le, length-map}
+use lib.ListN.{length, getD, drop, drop-of-length-le, length-map, List·getD-map}
 use lib.Seq.{drop-cons}
 use lib.Dec.{eqb}
-use borrow.Author.Tests.{eq-eqb, ne-eqb, eqb-true, eqb-false}
+use borrow.Author.Tests.{eq-eqb, ne-eqb, eqb-true}
 use Rattle.text.specs.Bytes.{within, isUpper, lower}
 use Rattle.text.specs.Lists.{same, sameWord, contains}
 use Rattle.text.proofs.Laws.Tests.{and-left, and-right, test-fails}
@@ -68,14 +68,9 @@ module _ (a b : List ℕ) (i : ℕ) (r : Bool) (size : length a ≡ length b) (i
   equal-end h = sym (same-end a b i h (omega arith)) ∙ inv
 
 -- the loop of `equal_word`
-lower-zero : lower 0 ≡ 0
-unfolding lower isUpper within
-lower-zero = refl
-
 pub at-lowered : (s : List ℕ) (i : ℕ) → getD (map lower s) i 0 ≡ lower (getD s i 0)
-at-lowered [] i = sym lower-zero
-at-lowered (x ∷ xs) zero = refl
-at-lowered (x ∷ xs) (suc i) = at-lowered xs i
+unfolding lower isUpper within
+at-lowered s i = List·getD-map lower s i 0
 
 module _ (s word : List ℕ) (i : ℕ) (size : length s ≡ length word) (inv : same (drop i (map lower s)) (drop i word) ≡ sameWord s word) where
   sizes : length (map lower s) ≡ length word

@@ -1,15 +1,12 @@
 -- Bytes written into a buffer: nothing, one piece after another, and what the buffer holds then. `Wrote` composes with no side condition.
-use Prim.Native.Nat.{ℕ, zero, suc, _+_, _-_, _≤_, _<_, _^_, min}
-use mathlib.Core.Bool.{Bool, true, false}
-use lib.Dec.{leb}
-use borrow.Author.Tests.{leb-true, leb-false}
+use Prim.Native.Nat.{ℕ, suc, _+_, _-_, _≤_, _<_, _^_, min}
 use native.Mathlib.Omega.{arith}
 use native.Mathlib.Numerals.{add-one}
 use native.Mathlib.Nat.{add-zero, zero-add, add-suc, suc-add}
 use mathlib.Core.Path.{_≡_, refl, sym, ap, _∙_}
-use mathlib.Core.Logic.{_⊎_, ⊎-elim, inl, inr}
-use mathlib.Core.List.{List, [], _∷_, _++_, map, map-append, append-nil}
-use lib.ListN.{length, getD, take, drop, set, length-set, length-append, take-append-drop, drop-of-length-le}
+use mathlib.Core.Logic.{_⊎_, ⊎-elim}
+use mathlib.Core.List.{List, [], _∷_, _++_, map, map-append, map-id, append-nil}
+use lib.ListN.{length, getD, take, drop, set, length-append, take-append-drop, drop-of-length-le}
 use lib.Seq.{sets, length-sets, sets-eq, set-out, take-suc, take-all, length-take-le}
 use Rattle.text.specs.Writing.{Wrote, overwritten}
 use Rattle.text.proofs.Laws.Orders.{le-or-lt}
@@ -105,10 +102,6 @@ module _ (f : ℕ → ℕ) (s out : List ℕ) (at : ℕ) where
     copied-length = length-wrote out at (map f (take i s)) o n (p .wrote)
 
 -- the same of a plain copy
-pub map-id : (s : List ℕ) → map (λ b. b) s ≡ s
-map-id [] = refl
-map-id (x ∷ xs) = rw (map-id xs)
-
 module _ (s out : List ℕ) (at i : ℕ) (o : List ℕ) (n : ℕ) (p : Copied (λ b. b) s out at i o n) where
   pub plain-next : i < length s → (o′ : List ℕ) (n′ : ℕ) → Wrote (getD s i 0 ∷ []) o n o′ n′ → Copied (λ b. b) s out at (i + 1) o′ n′
   plain-next h o′ n′ w = copied-next (λ b. b) s out at i o n p h (getD s i 0) refl o′ n′ w

@@ -3,7 +3,7 @@
 use Prim.Native.Nat.{ℕ, _+_, _≤_, _<_, _/_, _%_}
 use mathlib.Core.Path.{_≡_, refl, _∙_}
 use mathlib.Core.List.{List, [], _∷_, _++_, append-assoc}
-use mathlib.Core.Bool.{Bool, true, false, cond, _||_}
+use mathlib.Core.Bool.{Bool, true, false, cond, or-false}
 use borrow.Author.Tests.{lt-ltb, le-ltb}
 use Rattle.text.specs.Bytes.{within, isUpper, isAlpha, isDigit, isAlphanumeric}
 use Rattle.text.specs.Lists.{contains}
@@ -13,10 +13,6 @@ use Rattle.text.specs.declared.bytes.Class.the-variants.{Alphanumeric}
 use Rattle.text.proofs.Laws.Writing.{wrote-then}
 use Rattle.transformers.specs.Transform.{isListed, isUnreserved, hexDigit, escapedByte, escaped}
 
-or-nothing : (t : Bool) → (t || false) ≡ t
-or-nothing true = refl
-or-nothing false = refl
-
 -- `is_unreserved`
 module _ (b : ℕ) (r : Bool) (p : r ≡ isIn Alphanumeric b) where
   pub unreserved-alphanumeric : r ≡ true → true ≡ isUnreserved b
@@ -25,7 +21,7 @@ module _ (b : ℕ) (r : Bool) (p : r ≡ isIn Alphanumeric b) where
 
   pub unreserved-other : r ≡ false → (u : Bool) → u ≡ contains (45 ∷ 46 ∷ 95 ∷ 126 ∷ []) b → u ≡ isUnreserved b
   unfolding isUnreserved isIn contains
-  unreserved-other k u e = rw (← p, k) (e ∙ rw or-nothing)
+  unreserved-other k u e = rw (← p, k) (e ∙ rw or-false)
 
 -- `hex_digit`
 pub hex-low : (n : ℕ) → n < 10 → 48 + n ≡ hexDigit n

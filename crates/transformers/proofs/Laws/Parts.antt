@@ -7,14 +7,14 @@ use mathlib.Core.Path.{_≡_, refl, sym, ap, _∙_}
 use mathlib.Core.List.{List, [], _∷_, _++_, map, map-append, append-nil, reverse, reverse-cons}
 use mathlib.Core.Bool.{Bool, true, false, cond, not}
 use lib.ListN.{length, getD, take, drop, take-append-drop, drop-of-length-le, length-reverse}
-use lib.Seq.{drop-cons, take-suc, take-all}
+use lib.Seq.{take-suc, take-all}
 use lib.Dec.{eqb}
 use Rattle.text.specs.Decimal.{decimal}
-use Rattle.text.specs.Lists.{split, join, dotBefore, rightmost}
+use Rattle.text.specs.Lists.{split, separatorBefore, joinBy, join, rightmost}
 use Rattle.text.specs.Runs.{run}
 use Rattle.text.specs.Writing.{Wrote}
 use Rattle.text.proofs.Laws.Parts.{rightmost-none, rightmost-all, rightmost-append, rightmost-reverse}
-use Rattle.text.proofs.Laws.Spans.{rest-part}
+use Rattle.text.proofs.Laws.Spans.{rest-part, drop-before}
 use Rattle.text.proofs.Laws.Splitting.{Some, some, some-snoc, split-some, split-append, join-split, split-none, split-first, split-before, count-in, count-out, count-le, join-snoc}
 use Rattle.text.proofs.Laws.Writing.{wrote-none, wrote-then, length-wrote}
 use Rattle.transformers.specs.Transform.{isListed, reversedIf, kept, escapedByte, escaped, transformed}
@@ -64,7 +64,7 @@ join-reversed (suc zero) h k x xs t = absurd (k refl)
 join-reversed (suc (suc n)) h k x xs t =
     let z : suc (suc n) - 1 ≡ suc n = omega arith in
     rw (z, rightmost-reverse (suc (suc n)) (x ∷ xs), rightmost-reverse (suc n) xs, reverse-cons)
-    (join-snoc (reverse (take (suc n) xs)) x (some-reversed n xs t))
+    (join-snoc 46 (reverse (take (suc n) xs)) x (some-reversed n xs t))
 
 module _ (s ds : List ℕ) (n : ℕ) (escape : Bool) (out : List ℕ) (at : ℕ) (some-kept : 0 < n) (i : ℕ) (q : i ≡ run (λ b. not (isListed ds b)) s) where
   pub reversed-one-part : length s ≤ i → (o : List ℕ) (m : ℕ) → Wrote (escaped escape (join (split (isListed ds) s))) out at o m
@@ -90,7 +90,7 @@ module _ (s ds : List ℕ) (n : ℕ) (escape : Bool) (out : List ℕ) (at : ℕ)
         → Wrote (46 ∷ []) o₁ m₁ o₂ m₂
         → Wrote (escaped escape (join (split (isListed ds) (take i s)))) o₂ m₂ o₃ m₃
         → Wrote (escaped escape (join (rightmost n (reverse (split (isListed ds) s))))) out at o₃ m₃
-    unfolding join dotBefore escaped
+    unfolding joinBy separatorBefore escaped
     reversed-more k o₁ o₂ o₃ m₁ m₂ m₃ u v w =
         let all : take (length s - (i + 1)) (drop (i + 1) s) ≡ drop (i + 1) s = rest-part s (i + 1) in
         let u′ : Wrote (escaped escape (join (rightmost (n - 1) (reverse (split (isListed ds) (drop (i + 1) s)))))) out at o₁ m₁ = rw all at u in
@@ -116,7 +116,7 @@ module _ (s ds : List ℕ) (n : ℕ) where
 
     module _ (h : 0 < i) (r : Bool) (q : r ≡ isListed ds (getD s (i - 1) 0)) where
       at-before : drop (i - 1) s ≡ getD s (i - 1) 0 ∷ drop i s
-      at-before = let z : suc (i - 1) ≡ i = omega arith in drop-cons s (i - 1) 0 (omega (arith, p .within)) ∙ rw z
+      at-before = drop-before s i h (p .within)
 
       pub left-found : r ≡ true → left ≡ 1 → split (isListed ds) (drop i s) ≡ rightmost n (split (isListed ds) s)
       left-found k l =
@@ -151,7 +151,7 @@ module _ (s digits : List ℕ) (reversed : Bool) (ds : List ℕ) (escape : Bool)
   kept-reversed = kept-count digits n e (reverse (split (isListed ds) s)) (simp length-reverse (omega (arith, count-le (isListed ds) s)))
 
   pub transform-none : n ≡ 0 → at < 2 ^ 64 → length out < 2 ^ 64 → Wrote (transformed digits reversed ds escape s) out at out at
-  unfolding transformed reversedIf join escaped
+  unfolding transformed reversedIf joinBy escaped
   transform-none z h l = by reversed
     where
       by : (t : Bool) → Wrote (transformed digits t ds escape s) out at out at
