@@ -1,9 +1,9 @@
 -- Networks and prefix lengths as productions: RFC 7208 appendix A and RFC 4291 section 2.2, with 01's amendments. Each relates bytes to what they
 -- write. Nothing of a reader is imported.
-use Prim.Native.Nat.{ℕ, zero, suc, _+_, _-_, _*_, _≤_}
+use Prim.Native.Nat.{ℕ, _+_, _-_, _*_, _≤_}
 use mathlib.Core.Path.{_≡_}
 use mathlib.Core.List.{List, [], _∷_, _++_}
-use mathlib.Core.Bool.{Bool, true, cond}
+use mathlib.Core.Bool.{Bool, true, false, cond}
 use lib.ListN.{length, take, drop, replicate}
 use Rattle.text.specs.Bytes.{within, isDigit, isHexDigit, lower}
 use Rattle.text.specs.Lists.{all}
@@ -25,7 +25,7 @@ pub data Ip4Network : List ℕ → List ℕ → Type 0 where
   octets : {p q r s : List ℕ} {a b c d : ℕ} → Qnum p a → Qnum q b → Qnum r c → Qnum s d
       → Ip4Network (p ++ (46 ∷ (q ++ (46 ∷ (r ++ (46 ∷ s)))))) (a ∷ b ∷ c ∷ d ∷ [])
 
--- the value of a hex digit, and the number that hex digits write
+-- the value of a hex digit, and the number of hex digits that stand after those of the number v
 unfoldable pub hexValue : ℕ → ℕ
 hexValue b = cond (isDigit b) (b - 48) (lower b - 87)
 
@@ -37,30 +37,21 @@ hexFrom v (b ∷ s) = hexFrom (16 * v + hexValue b) s
 pub data Group : List ℕ → ℕ → Type 0 where
   digits : {w : List ℕ} → within 1 4 (length w) ≡ true → all isHexDigit w ≡ true → Group w (hexFrom 0 w)
 
--- groups joined by ":"
-pub data Groups : List ℕ → List ℕ → Type 0 where
-  one : {w : List ℕ} {g : ℕ} → Group w g → Groups w (g ∷ [])
-  more : {w rest : List ℕ} {g : ℕ} {gs : List ℕ} → Group w g → Groups rest gs → Groups (w ++ (58 ∷ rest)) (g ∷ gs)
+-- groups joined by ":", of which the last may be an IPv4 tail where a tail may stand: "an IPv4 tail, written as for ip4, counts as two groups"
+pub data Row : Bool → List ℕ → List ℕ → Type 0 where
+  one : {tails : Bool} {w : List ℕ} {g : ℕ} → Group w g → Row tails w (g ∷ [])
+  tail : {w : List ℕ} {a b c d : ℕ} → Ip4Network w (a ∷ b ∷ c ∷ d ∷ []) → Row true w ((256 * a + b) ∷ (256 * c + d) ∷ [])
+  more : {tails : Bool} {w rest : List ℕ} {g : ℕ} {gs : List ℕ} → Group w g → Row tails rest gs → Row tails (w ++ (58 ∷ rest)) (g ∷ gs)
 
--- groups joined by ":", of which the last may be an IPv4 tail: "an IPv4 tail, written as for ip4, counts as two groups"
-pub data Row : List ℕ → List ℕ → Type 0 where
-  one : {w : List ℕ} {g : ℕ} → Group w g → Row w (g ∷ [])
-  tail : {w : List ℕ} {a b c d : ℕ} → Ip4Network w (a ∷ b ∷ c ∷ d ∷ []) → Row w ((256 * a + b) ∷ (256 * c + d) ∷ [])
-  more : {w rest : List ℕ} {g : ℕ} {gs : List ℕ} → Group w g → Row rest gs → Row (w ++ (58 ∷ rest)) (g ∷ gs)
+-- what stands at a side of "::", which may be nothing
+pub data Side (tails : Bool) : List ℕ → List ℕ → Type 0 where
+  nothing : Side tails [] []
+  row : {w gs : List ℕ} → Row tails w gs → Side tails w gs
 
--- what stands before and after "::"
-pub data Before : List ℕ → List ℕ → Type 0 where
-  nothing : Before [] []
-  groups : {w gs : List ℕ} → Groups w gs → Before w gs
-
-pub data After : List ℕ → List ℕ → Type 0 where
-  nothing : After [] []
-  row : {w gs : List ℕ} → Row w gs → After w gs
-
--- ip6-network (RFC 4291 section 2.2), with its eight groups: "`::` at most once and for at least one group"
+-- ip6-network (RFC 4291 section 2.2), with its eight groups: "`::` at most once and for at least one group". A tail is the end of the text.
 pub data Ip6Network : List ℕ → List ℕ → Type 0 where
-  full : {w gs : List ℕ} → Row w gs → length gs ≡ 8 → Ip6Network w gs
-  short : {u w ls rs : List ℕ} → Before u ls → After w rs → length ls + length rs ≤ 7
+  full : {w gs : List ℕ} → Row true w gs → length gs ≡ 8 → Ip6Network w gs
+  short : {u w ls rs : List ℕ} → Side false u ls → Side true w rs → length ls + length rs ≤ 7
       → Ip6Network (u ++ (58 ∷ 58 ∷ w)) (ls ++ (replicate (8 - (length ls + length rs)) 0 ++ rs))
 
 -- the number that 16-bit groups write
@@ -80,23 +71,26 @@ pub data LengthNumber (limit : ℕ) : List ℕ → ℕ → Type 0 where
   nought : LengthNumber limit (48 ∷ []) 0
   number : {a : ℕ} {w : List ℕ} → within 49 57 a ≡ true → all isDigit w ≡ true → decimal (a ∷ w) ≤ limit → LengthNumber limit (a ∷ w) (decimal (a ∷ w))
 
--- ip4-cidr-length = "/" ("0" / %x31-39 0*1DIGIT) ; value range 0-32
-pub data Ip4CidrLength : List ℕ → ℕ → Type 0 where
-  slash : {w : List ℕ} {n : ℕ} → LengthNumber 32 w n → Ip4CidrLength (47 ∷ w) n
+-- a slash and the number
+pub data CidrLength (limit : ℕ) : List ℕ → ℕ → Type 0 where
+  slash : {w : List ℕ} {n : ℕ} → LengthNumber limit w n → CidrLength limit (47 ∷ w) n
 
 -- ip6-cidr-length = "/" ("0" / %x31-39 0*2DIGIT) ; value range 0-128
-pub data Ip6CidrLength : List ℕ → ℕ → Type 0 where
-  slash : {w : List ℕ} {n : ℕ} → LengthNumber 128 w n → Ip6CidrLength (47 ∷ w) n
+abbrev pub Ip6CidrLength : List ℕ → ℕ → Type 0
+Ip6CidrLength w n = CidrLength 128 w n
 
--- [ ip4-cidr-length ]: "Absent means 32"
-pub data Length4 : List ℕ → ℕ → Type 0 where
-  absent : Length4 [] 32
-  present : {w : List ℕ} {n : ℕ} → Ip4CidrLength w n → Length4 w n
+-- a length that may be absent: "Absent means 32 and 128."
+pub data OptionalLength (limit : ℕ) : List ℕ → ℕ → Type 0 where
+  absent : OptionalLength limit [] limit
+  present : {w : List ℕ} {n : ℕ} → CidrLength limit w n → OptionalLength limit w n
 
--- [ ip6-cidr-length ] after an ip6-network: absent means 128
-pub data Length6 : List ℕ → ℕ → Type 0 where
-  absent : Length6 [] 128
-  present : {w : List ℕ} {n : ℕ} → Ip6CidrLength w n → Length6 w n
+-- [ ip4-cidr-length ], where ip4-cidr-length = "/" ("0" / %x31-39 0*1DIGIT) ; value range 0-32
+abbrev pub Length4 : List ℕ → ℕ → Type 0
+Length4 w n = OptionalLength 32 w n
+
+-- [ ip6-cidr-length ]
+abbrev pub Length6 : List ℕ → ℕ → Type 0
+Length6 w n = OptionalLength 128 w n
 
 -- dual-cidr-length = [ ip4-cidr-length ] [ "/" ip6-cidr-length ]: "`a` and `mx` take `/n`, `//m` or `/n//m`"
 pub data DualCidrLength : List ℕ → ℕ → ℕ → Type 0 where

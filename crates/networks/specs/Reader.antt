@@ -1,13 +1,13 @@
 -- Texts as the code reads them. The laws say that this is what the productions write.
-use Prim.Native.Nat.{ℕ, zero, suc, _+_, _-_, _*_}
-use mathlib.Core.List.{List, [], _∷_, _++_}
-use mathlib.Core.Bool.{Bool, true, false, cond, _&&_, _||_}
-use lib.ListN.{length, take, drop}
-use lib.Dec.{leb, ltb, eqb}
-use Rattle.text.specs.Bytes.{at, part, isDigit}
+use Prim.Native.Nat.{ℕ, _+_}
+use mathlib.Core.List.{List, [], _∷_}
+use mathlib.Core.Bool.{cond}
+use lib.ListN.{length}
+use lib.Dec.{eqb}
+use Rattle.text.specs.Bytes.{at, part}
 use Rattle.text.specs.Decimal.{readNumber}
 use Rattle.text.specs.Runs.{isIn, runEnd}
-use Rattle.text.specs.declared.bytes.Class.the-variants.{Digit, HexDigit}
+use Rattle.text.specs.declared.bytes.Class.the-variants.{Digit}
 use Rattle.networks.specs.declared.Network.{Network}
 use Rattle.networks.specs.declared.Network.the-variants.{Is, NoNetwork}
 use Rattle.networks.specs.declared.Length.{Length}
@@ -17,7 +17,7 @@ use Rattle.networks.specs.declared.Dual.the-variants.{Both, NoLengths}
 use Rattle.text.specs.declared.decimal.Number.{Number}
 use Rattle.text.specs.declared.decimal.Number.the-variants.{Value, Refused}
 use Rattle.address.specs.Octets.{valueOf}
-use Rattle.address.specs.declared.Address.the-variants.{IPv4, IPv6}
+use Rattle.address.specs.declared.Address.the-variants.{IPv4}
 use Rattle.networks.specs.declared.ip4.Octet.{Octet}
 use Rattle.networks.specs.declared.ip4.Octet.the-variants.{Ends, NoOctet}
 

@@ -2,10 +2,10 @@
 use Prim.Native.Nat.{ℕ, suc, _+_, _-_, _/_, _%_}
 use mathlib.Core.Path.{_≡_}
 use mathlib.Core.List.{List, [], _∷_, _++_}
-use mathlib.Core.Bool.{Bool, true, false, cond, not, _&&_}
+use mathlib.Core.Bool.{Bool, true, false, cond, _&&_}
 use lib.ListN.{length, take, drop, replicate}
 use lib.Dec.{leb, ltb, eqb}
-use Rattle.text.specs.Bytes.{at}
+use Rattle.text.specs.Bytes.{at, isColon, isNotColon}
 use Rattle.text.specs.Lists.{all, split}
 use Rattle.text.specs.Runs.{isIn, run}
 use Rattle.text.specs.Writing.{Wrote}
@@ -22,12 +22,9 @@ use Rattle.networks.specs.declared.ip6.H16.the-variants.{Value, NoValue}
 use Rattle.networks.specs.declared.ip6.RowEnd.{RowEnd}
 use Rattle.networks.specs.declared.ip6.RowEnd.the-variants.{At, NoRow}
 
-abbrev pub isColon : ℕ → Bool
-isColon b = eqb b 58
-
 -- the place of the first colon, and the length where there is none
 unfoldable pub firstColon : List ℕ → ℕ
-firstColon s = run (λ b. not (isColon b)) s
+firstColon s = run isNotColon s
 
 -- whether "::" stands at a place
 unfoldable pub isDoubleColon : List ℕ → ℕ → Bool

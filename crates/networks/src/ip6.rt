@@ -89,14 +89,7 @@ fn put_h16(g: u16, out: &mut [u8], at: usize) -> usize
 fn first_colon(s: &[u8]) -> usize
     ensures { λ r. ⌜ r ≡ firstColon (now (s .entry)) ⌝ }
 {
-    let mut i = 0;
-    while i < s.len() {
-        if s[i] == 58 {
-            return i;
-        }
-        i += 1;
-    }
-    i
+    bytes::run_end(s, 0, Class::NotColon)
 }
 
 // Whether "::" stands at i.

@@ -3,9 +3,10 @@
 use Prim.Native.Nat.{ℕ, _≤_}
 use mathlib.Core.Path.{_≡_, refl, sym, ap, subst, _∙_}
 use mathlib.Core.List.{List, _∷_, _++_}
-use mathlib.Core.Bool.{true, false}
+use mathlib.Core.Bool.{Bool, true, false}
 use native.Mathlib.Omega.{arith}
 use lib.ListN.{length}
+use Rattle.text.specs.Bytes.{isNotColon}
 use Rattle.text.specs.Lists.{all}
 use Rattle.text.proofs.Laws.Parts.{all-between}
 use Rattle.address.specs.declared.Address.{Address}
@@ -16,7 +17,6 @@ use Rattle.networks.specs.Reader6.{readIp6, firstOf, readAddress}
 use Rattle.networks.specs.declared.Network.{Network}
 use Rattle.networks.specs.declared.Network.the-variants.{Is, NoNetwork}
 use Rattle.networks.proofs.Laws.Readings.{network-answer}
-use Rattle.networks.proofs.Laws.Colons.{isNotColon}
 use Rattle.networks.proofs.Laws.Ip4.{ip4-sound, ip4-complete}
 use Rattle.networks.proofs.Laws.Rows.{ip4-colonless}
 use Rattle.networks.proofs.Laws.Ip6.{ip6-sound, ip6-complete}
@@ -28,7 +28,7 @@ not-colon = refl
 colon-between : (u w : List ℕ) → all isNotColon (u ++ (58 ∷ w)) ≡ true → ⊥
 colon-between u w h = let e = all-between isNotColon u 58 w h in let z : _≡_ {A = ℕ} 0 1 = cc not-colon in omega arith
 
-row-two : {w gs : List ℕ} → Row w gs → all isNotColon w ≡ true → length gs ≤ 2
+row-two : {tails : Bool} {w gs : List ℕ} → Row tails w gs → all isNotColon w ≡ true → length gs ≤ 2
 row-two (Row.one g) h = omega arith
 row-two (Row.tail n) h = omega arith
 row-two (Row.more {w = w} {rest = rest} g r) h = absurd (colon-between w rest h)
@@ -65,6 +65,7 @@ address-complete s a (six p) = by (readIp4 s) refl
     by (Is b) q = absurd (not-both (ip4-sound s b q) p)
     by NoNetwork q = ip6-complete s a p
 
+-- a text writes one address of either family
 pub address-one : (s : List ℕ) (a b : Address) → Written s a → Written s b → a ≡ b
 address-one s a b p q = let f = address-complete s a p in let g = address-complete s b q in cc
 

@@ -6,35 +6,23 @@ use mathlib.Core.Bool.{Bool, true, false, cond, not, _&&_}
 use native.Mathlib.Omega.{arith}
 use native.Mathlib.Numerals.{add-one}
 use native.Mathlib.Nat.{add-zero, zero-add, suc-add}
-use lib.ListN.{length, getD, take, drop, drop-of-length-le, length-append}
+use lib.ListN.{length, take, drop, drop-of-length-le, length-append}
 use lib.Seq.{drop-cons, getD-drop, length-take-le}
 use lib.Dec.{eqb}
-use borrow.Author.Tests.{eq-eqb, ne-eqb, eqb-true}
-use Rattle.text.specs.Bytes.{at}
+use borrow.Author.Tests.{ne-eqb, eqb-true}
+use Rattle.text.specs.Bytes.{at, isColon, isNotColon}
 use Rattle.text.specs.Lists.{all, split}
-use Rattle.text.specs.Runs.{runEnd}
+use Rattle.text.specs.Runs.{isIn, runEnd}
+use Rattle.text.specs.declared.bytes.Class.the-variants.{NotColon}
 use Rattle.text.proofs.Laws.Tests.{and-left, and-right}
-use Rattle.text.proofs.Laws.Runs.{run-nil, all-run, run-end-next, run-end-here, run-end-out}
+use Rattle.text.proofs.Laws.Runs.{run-nil, all-run}
 use Rattle.text.proofs.Laws.Splitting.{split-none, split-append}
-use Rattle.networks.specs.Reader6.{isColon, firstColon, isDoubleColon, doubleColon}
+use Rattle.networks.specs.Reader6.{firstColon, isDoubleColon, doubleColon}
 
-abbrev pub isNotColon : ℕ → Bool
-isNotColon b = not (isColon b)
-
--- the loop of `first_colon`
-pub colon-start : (s : List ℕ) → runEnd isNotColon s 0 ≡ firstColon s
-unfolding runEnd firstColon
-colon-start s = zero-add _
-
-module _ (s : List ℕ) (i : ℕ) (inv : runEnd isNotColon s i ≡ firstColon s) where
-  pub colon-next : i < length s → (getD s i 0 ≡ 58 → ⊥) → runEnd isNotColon s (i + 1) ≡ firstColon s
-  colon-next h e = run-end-next isNotColon s i h (ap not (ne-eqb _ _ e)) ∙ inv
-
-  pub colon-here : i < length s → getD s i 0 ≡ 58 → i ≡ firstColon s
-  colon-here h e = sym (run-end-here isNotColon s i h (ap not (eq-eqb _ _ e))) ∙ inv
-
-  pub colon-out : length s ≤ i → i ≡ firstColon s
-  colon-out h = sym (run-end-out isNotColon s i h) ∙ inv
+-- `first_colon`
+pub colon-first : (s : List ℕ) (e : ℕ) → e ≡ runEnd (isIn NotColon) s 0 → e ≡ firstColon s
+unfolding runEnd isIn firstColon
+colon-first s e h = h ∙ zero-add _
 
 -- `is_double_colon`
 module _ (s : List ℕ) (i a : ℕ) (p : a ≡ at s i) where

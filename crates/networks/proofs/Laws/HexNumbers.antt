@@ -28,9 +28,6 @@ module _ (b : ℕ) (t : Bool) (e : t ≡ within 48 57 b) where
   unfolding hexValue isDigit
   hex-digit h = simp (sym e ∙ h)
 
-  pub digit-from : t ≡ true → 48 ≤ b
-  digit-from h = within-range 48 57 b (sym e ∙ h) .0
-
   pub hex-letter : t ≡ false → (l : ℕ) → l ≡ lower b → 87 ≤ l → l - 87 ≡ hexValue b
   unfolding hexValue isDigit
   hex-letter h l q k = simp (sym e ∙ h, q)

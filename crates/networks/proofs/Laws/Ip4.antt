@@ -77,7 +77,7 @@ dot-found s i o j e = subst (DotRight s i) e
         record { qnum = f .qnum; span = span-join (span-byte s i 45 h) (f .span) }
     after NoOctet q h = tt
 
--- what was read as an ip4-network: four octets, and the address that they write
+-- what was read as an ip4-network: four octets, and the address that they write; the bounds are those that an IPv6 tail's groups need
 pub record Ip4Made (s : List ℕ) (address : Address) : Type 0 where
   pub first : ℕ
   pub second : ℕ
@@ -85,8 +85,6 @@ pub record Ip4Made (s : List ℕ) (address : Address) : Type 0 where
   pub fourth : ℕ
   pub written : Ip4Network s (first ∷ second ∷ third ∷ fourth ∷ [])
   pub value : address ≡ IPv4 (valueOf (first ∷ second ∷ third ∷ fourth ∷ []))
-  pub first-small : first ≤ 255
-  pub second-small : second ≤ 255
   pub third-small : third ≤ 255
   pub fourth-small : fourth ≤ 255
 
@@ -106,8 +104,6 @@ four-found s a b c d i j k l p q r t e =
       fourth = d;
       written = subst (λ (u : List ℕ). Ip4Network u (a ∷ b ∷ c ∷ d ∷ [])) (sym whole) (octets (p .qnum) (q .qnum) (r .qnum) (t .qnum));
       value = refl;
-      first-small = qnum-small (p .qnum);
-      second-small = qnum-small (q .qnum);
       third-small = qnum-small (r .qnum);
       fourth-small = qnum-small (t .qnum);
     }

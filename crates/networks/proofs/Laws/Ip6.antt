@@ -1,8 +1,8 @@
 -- IPv6 networks: the reader is sound and complete for the production, so that a text writes one address. From the laws of Rows and Colons.
 use Prim.Native.Nat.{ℕ, _+_, _-_, _≤_, _<_}
 use mathlib.Core.Path.{_≡_, sym, subst, _∙_}
-use mathlib.Core.List.{List, _∷_, _++_}
-use mathlib.Core.Bool.{true, false}
+use mathlib.Core.List.{List, [], _∷_, _++_, append-nil}
+use mathlib.Core.Bool.{Bool, true, false}
 use native.Mathlib.Omega.{arith}
 use lib.ListN.{length, take, drop, length-append}
 use lib.Seq.{take-append-seam, drop-append-add}
@@ -11,14 +11,14 @@ use borrow.Author.Tests.{eq-eqb, eqb-true, leb-true, ltb-true, lt-ltb, le-ltb, l
 use Rattle.text.proofs.Laws.Tests.{cond-elim}
 use Rattle.text.proofs.Laws.Spans.{rest-part}
 use Rattle.address.specs.declared.Address.{Address}
-use Rattle.networks.specs.Grammar.{Before, Ip6Network, full, short, Network6, network}
+use Rattle.networks.specs.Grammar.{Side, Ip6Network, full, short, Network6, network}
 use Rattle.networks.specs.Answers.{NetworkAnswer}
 use Rattle.networks.specs.Reader6.{doubleColon, Reading, groups, refused, readRow, readSide, addressOf, filled, fullOf, shortOf, readIp6}
 use Rattle.networks.specs.declared.Network.{Network}
 use Rattle.networks.specs.declared.Network.the-variants.{Is, NoNetwork}
 use Rattle.networks.proofs.Laws.Readings.{network-answer}
-use Rattle.networks.proofs.Laws.Colons.{double-splits, double-at}
-use Rattle.networks.proofs.Laws.Rows.{RowRight, SideRight, row-right, side-right, row-complete, before-complete, after-complete, row-double, groups-double}
+use Rattle.networks.proofs.Laws.Colons.{double-splits, double-at, double-empty}
+use Rattle.networks.proofs.Laws.Rows.{RowRight, SideRight, row-right, side-right, row-complete, side-complete, row-double}
 
 -- what was read as an address is written so
 abbrev Ip6Right : List ℕ → Network → Type 0
@@ -54,28 +54,28 @@ pub ip6-sound : (s : List ℕ) (a : Address) → readIp6 s ≡ Is a → Network6
 ip6-sound s a e = subst (Ip6Right s) e (ip6-right s)
 
 -- what the production makes is read
-before-double : {u ls : List ℕ} → Before u ls → (t : List ℕ) → doubleColon (u ++ (58 ∷ 58 ∷ t)) ≡ length u
-before-double Before.nothing t = double-at t
-before-double (Before.groups g) t = groups-double g t .place
+side-double : {tails : Bool} {u ls : List ℕ} → Side tails u ls → (t : List ℕ) → doubleColon (u ++ (58 ∷ 58 ∷ t)) ≡ length u
+side-double Side.nothing t = double-at t
+side-double (Side.row r) t = row-double r (58 ∷ 58 ∷ t) (double-at t) .place
 
 pub groups-read : {w gs : List ℕ} → Ip6Network w gs → readIp6 w ≡ Is (addressOf gs)
 unfolding readIp6 fullOf shortOf filled
 groups-read (full {w = w} {gs = gs} r e) =
-    let d = row-double r .no-double in
+    let d : doubleColon w ≡ length w = rw append-nil at (row-double r [] double-empty .place) in
     rw (le-ltb (doubleColon w) (length w) (omega arith), row-complete r, eq-eqb (length gs) 8 e)
 groups-read (short {u = u} {w = w} {ls = ls} {rs = rs} b a h) =
     let s = u ++ (58 ∷ 58 ∷ w) in
-    let d = before-double b w in
+    let d = side-double b w in
     let inside : length u < length s = simp length-append (omega arith) in
     let left : take (length u) s ≡ u = take-append-seam u (58 ∷ 58 ∷ w) in
     let right : drop (length u + 2) s ≡ w = drop-append-add u (58 ∷ 58 ∷ w) 2 in
-    rw (d, lt-ltb (length u) (length s) inside, left, right, before-complete b, after-complete a, le-leb (length ls + length rs) 7 h)
+    rw (d, lt-ltb (length u) (length s) inside, left, right, side-complete b, side-complete a, le-leb (length ls + length rs) 7 h)
 
 pub ip6-complete : (s : List ℕ) (a : Address) → Network6 s a → readIp6 s ≡ Is a
 unfolding addressOf
 ip6-complete s a (network n) = groups-read n
 
--- one address for a text
+-- a text writes one address, which tells a reader that the production isn't ambiguous
 pub ip6-one : (s : List ℕ) (a b : Address) → Network6 s a → Network6 s b → a ≡ b
 ip6-one s a b p q = let f = ip6-complete s a p in let g = ip6-complete s b q in cc
 

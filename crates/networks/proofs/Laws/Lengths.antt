@@ -26,23 +26,16 @@ use Rattle.networks.specs.declared.Length.{Length}
 use Rattle.networks.specs.declared.Length.the-variants.{Of, NoLength}
 use Rattle.networks.specs.declared.Dual.{Dual}
 use Rattle.networks.specs.declared.Dual.the-variants.{Both, NoLengths}
-use Rattle.networks.specs.Grammar.{LengthNumber, Ip6CidrLength, slash, Length4, Length6, absent, present, DualCidrLength, four-only, both}
+use Rattle.networks.specs.Grammar.{CidrLength, slash, Ip6CidrLength, OptionalLength, absent, present, Length4, Length6, DualCidrLength, four-only, both}
 use Rattle.networks.specs.Answers.{LengthAnswer, DualAnswer}
 use Rattle.networks.specs.Reader.{slashNumber, readLength, readLength4, readLength6, frontEnd, secondLength, readDual}
 use Rattle.networks.proofs.Laws.Readings.{number-elim, length-elim, length-answer, dual-answer}
 use Rattle.networks.proofs.Laws.Numbers.{number-digits, number-some, number-limit, number-read, number-made}
 
--- the productions of a length, over the limit
-data Slashed (limit : ℕ) : List ℕ → ℕ → Type 0 where
-  slashed : {w : List ℕ} {n : ℕ} → LengthNumber limit w n → Slashed limit (47 ∷ w) n
-
-data Optional (limit : ℕ) : List ℕ → ℕ → Type 0 where
-  missing : Optional limit [] limit
-  given : {w : List ℕ} {n : ℕ} → Slashed limit w n → Optional limit w n
-
+-- over the limit
 module _ (limit : ℕ) where
   abbrev SlashRight : List ℕ → Length → Type 0
-  SlashRight s (Of n) = Slashed limit s n
+  SlashRight s (Of n) = CidrLength limit s n
   SlashRight s NoLength = Unit {0}
 
   slash-right : (s : List ℕ) → SlashRight s (slashNumber limit s)
@@ -51,23 +44,23 @@ module _ (limit : ℕ) where
   slash-right (b ∷ w) =
       cond-elim (SlashRight (b ∷ w)) (eqb b 47)
       (λ e. number-elim (SlashRight (b ∷ w)) (readNumber limit (part (b ∷ w) 1 (suc (length w)))) (λ n. Of n) NoLength
-      (λ n h. subst (λ (c : ℕ). Slashed limit (c ∷ w) n) (sym (eqb-true b 47 e)) (slashed (number-made limit w n (ap (readNumber limit) (sym (rest-part (b ∷ w) 1)) ∙ h))))
+      (λ n h. subst (λ (c : ℕ). CidrLength limit (c ∷ w) n) (sym (eqb-true b 47 e)) (slash (number-made limit w n (ap (readNumber limit) (sym (rest-part (b ∷ w) 1)) ∙ h))))
       (λ _. tt))
       (λ _. tt)
 
-  slash-made : (s : List ℕ) (n : ℕ) → slashNumber limit s ≡ Of n → Slashed limit s n
+  slash-made : (s : List ℕ) (n : ℕ) → slashNumber limit s ≡ Of n → CidrLength limit s n
   slash-made s n e = subst (SlashRight s) e (slash-right s)
 
-  slash-read : {s : List ℕ} {n : ℕ} → Slashed limit s n → slashNumber limit s ≡ Of n
+  slash-read : {s : List ℕ} {n : ℕ} → CidrLength limit s n → slashNumber limit s ≡ Of n
   unfolding slashNumber
-  slash-read (slashed {w = w} l) = simp (rest-part (47 ∷ w) 1, number-read l)
+  slash-read (slash {w = w} l) = simp (rest-part (47 ∷ w) 1, number-read l)
 
   abbrev LengthRight : List ℕ → Length → Type 0
-  LengthRight s (Of n) = Optional limit s n
+  LengthRight s (Of n) = OptionalLength limit s n
   LengthRight s NoLength = Unit {0}
 
   slash-length : (s : List ℕ) (x : Length) → SlashRight s x → LengthRight s x
-  slash-length s (Of n) h = given h
+  slash-length s (Of n) h = present h
   slash-length s NoLength h = tt
 
   length-cons : (b : ℕ) (w : List ℕ) → readLength limit (b ∷ w) ≡ slashNumber limit (b ∷ w)
@@ -76,52 +69,33 @@ module _ (limit : ℕ) where
 
   length-right : (s : List ℕ) → LengthRight s (readLength limit s)
   unfolding readLength
-  length-right [] = missing
+  length-right [] = absent
   length-right (b ∷ w) = subst (LengthRight (b ∷ w)) (sym (length-cons b w)) (slash-length (b ∷ w) (slashNumber limit (b ∷ w)) (slash-right (b ∷ w)))
 
-  length-made : (s : List ℕ) (n : ℕ) → readLength limit s ≡ Of n → Optional limit s n
+  length-made : (s : List ℕ) (n : ℕ) → readLength limit s ≡ Of n → OptionalLength limit s n
   length-made s n e = subst (LengthRight s) e (length-right s)
 
-  length-read : {s : List ℕ} {n : ℕ} → Optional limit s n → readLength limit s ≡ Of n
+  length-read : {s : List ℕ} {n : ℕ} → OptionalLength limit s n → readLength limit s ≡ Of n
   unfolding readLength
-  length-read missing = refl
-  length-read (given (slashed {w = w} l)) = length-cons 47 w ∙ slash-read (slashed l)
+  length-read absent = refl
+  length-read (present (slash {w = w} l)) = length-cons 47 w ∙ slash-read (slash l)
 
 -- for 32 and 128
-slash-6 : {s : List ℕ} {n : ℕ} → Slashed 128 s n → Ip6CidrLength s n
-slash-6 (slashed l) = slash l
-
-optional-4 : {s : List ℕ} {n : ℕ} → Optional 32 s n → Length4 s n
-optional-4 missing = absent
-optional-4 (given (slashed l)) = present (slash l)
-
-optional-6 : {s : List ℕ} {n : ℕ} → Optional 128 s n → Length6 s n
-optional-6 missing = absent
-optional-6 (given (slashed l)) = present (slash l)
-
-length-4 : {s : List ℕ} {n : ℕ} → Length4 s n → Optional 32 s n
-length-4 absent = missing
-length-4 (present (slash l)) = given (slashed l)
-
-length-6 : {s : List ℕ} {n : ℕ} → Length6 s n → Optional 128 s n
-length-6 absent = missing
-length-6 (present (slash l)) = given (slashed l)
-
 pub length4-sound : (s : List ℕ) (n : ℕ) → readLength4 s ≡ Of n → Length4 s n
 unfolding readLength4
-length4-sound s n e = optional-4 (length-made 32 s n e)
+length4-sound s n e = length-made 32 s n e
 
 pub length4-complete : (s : List ℕ) (n : ℕ) → Length4 s n → readLength4 s ≡ Of n
 unfolding readLength4
-length4-complete s n l = length-read 32 (length-4 l)
+length4-complete s n l = length-read 32 l
 
 pub length6-sound : (s : List ℕ) (n : ℕ) → readLength6 s ≡ Of n → Length6 s n
 unfolding readLength6
-length6-sound s n e = optional-6 (length-made 128 s n e)
+length6-sound s n e = length-made 128 s n e
 
 pub length6-complete : (s : List ℕ) (n : ℕ) → Length6 s n → readLength6 s ≡ Of n
 unfolding readLength6
-length6-complete s n l = length-read 128 (length-6 l)
+length6-complete s n l = length-read 128 l
 
 -- both lengths: what was read of the second
 data Second (s : List ℕ) (i : ℕ) : ℕ → Type 0 where
@@ -141,7 +115,7 @@ second-right s i =
     (λ _. tt))
   where
     after : (x : Length) → slashNumber 128 (part s (i + 1) (length s)) ≡ x → at s i ≡ 47 → SecondRight s i x
-    after (Of m) q h = at-slash h (slash-6 (slash-made 128 (part s (i + 1) (length s)) m q))
+    after (Of m) q h = at-slash h (slash-made 128 (part s (i + 1) (length s)) m q)
     after NoLength q h = tt
 
 second-made : (s : List ℕ) (i m : ℕ) → secondLength s i ≡ Of m → Second s i m
@@ -217,7 +191,7 @@ both-complete : {w v : List ℕ} {n m : ℕ} → Length4 w n → Ip6CidrLength v
 both-complete {w} {v} {n} {m} l (slash {w = u} d) =
     dual-read (w ++ (47 ∷ 47 ∷ u)) (length w) n m (front-ends (47 ∷ 47 ∷ u) l slash-no-digit slash-no-digit)
     (ap readLength4 (front-part (w ++ (47 ∷ 47 ∷ u)) (length w) ∙ take-append-seam w (47 ∷ 47 ∷ u)) ∙ length4-complete w n l)
-    (second-read w (47 ∷ u) m (slash-read 128 (slashed d)))
+    (second-read w (47 ∷ u) m (slash-read 128 (slash d)))
 
 pub dual-complete : (s : List ℕ) (n m : ℕ) → DualCidrLength s n m → readDual s ≡ Both n m
 dual-complete s n m (four-only l) = four-complete l

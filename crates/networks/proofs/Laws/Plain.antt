@@ -11,33 +11,9 @@ use Rattle.address.specs.declared.Address.{Address}
 use Rattle.address.specs.declared.Address.the-variants.{IPv4, IPv6}
 use Rattle.text.specs.Bytes.{at, within, isDigit, isHexDigit, isNotSlash, isNotSpace, isLengthByte}
 use Rattle.text.specs.Lists.{all}
-use Rattle.text.proofs.Laws.Tests.{and-both}
-use Rattle.text.proofs.Laws.Parts.{all-join-by, all-inside}
+use Rattle.text.proofs.Laws.Parts.{all-none, all-cons, all-join-by, all-inside}
 use Rattle.text.proofs.Laws.Classes.{apart, within-range, range-within}
-use Rattle.networks.specs.Grammar.{
-  Qnum,
-  Ip4Network,
-  octets,
-  Group,
-  digits,
-  Groups,
-  Row,
-  Before,
-  After,
-  Ip6Network,
-  full,
-  short,
-  Network4,
-  Network6,
-  LengthNumber,
-  Ip4CidrLength,
-  Ip6CidrLength,
-  Length4,
-  Length6,
-  DualCidrLength,
-  four-only,
-  both,
-}
+use Rattle.networks.specs.Grammar.{Qnum, Ip4Network, octets, Group, digits, Row, Side, Ip6Network, full, short, Network4, Network6, CidrLength, slash, OptionalLength, absent, present, DualCidrLength, four-only, both}
 use Rattle.networks.proofs.Laws.Numbers.{number-digits, qnum-number}
 
 pub record Plain (w : List ℕ) : Type 0 where
@@ -52,42 +28,33 @@ digit-hex : (b : ℕ) → isDigit b ≡ true → isHexDigit b ≡ true
 unfolding isHexDigit
 digit-hex b h = rw h
 
--- networks are of every class that holds the hex digits, the colon and the dot
-module _ (p : ℕ → Bool) (hex : (b : ℕ) → isHexDigit b ≡ true → p b ≡ true) (colon : p 58 ≡ true) (dot : p 46 ≡ true) where
-  qnum-bytes : {w : List ℕ} {v : ℕ} → Qnum w v → all p w ≡ true
-  qnum-bytes {w} q = all-inside isDigit p (λ b h. hex b (digit-hex b h)) w (number-digits (qnum-number q))
-
-  ip4-bytes : {w os : List ℕ} → Ip4Network w os → all p w ≡ true
-  ip4-bytes (octets {p = u} {q = v} {r = r} {s = s} a b c d) =
-      all-join-by p u 46 (v ++ (46 ∷ (r ++ (46 ∷ s)))) (qnum-bytes a) dot
-      (all-join-by p v 46 (r ++ (46 ∷ s)) (qnum-bytes b) dot (all-join-by p r 46 s (qnum-bytes c) dot (qnum-bytes d)))
-
-  group-bytes : {w : List ℕ} {g : ℕ} → Group w g → all p w ≡ true
+-- networks are of every class that holds the hex digits, the dot and, for IPv6, the colon
+module _ (p : ℕ → Bool) (hex : (b : ℕ) → isHexDigit b ≡ true → p b ≡ true) where
+  pub group-bytes : {w : List ℕ} {g : ℕ} → Group w g → all p w ≡ true
   group-bytes (digits {w = w} l h) = all-inside isHexDigit p hex w h
 
-  groups-bytes : {w gs : List ℕ} → Groups w gs → all p w ≡ true
-  groups-bytes (Groups.one g) = group-bytes g
-  groups-bytes (Groups.more {w = w} {rest = rest} g r) = all-join-by p w 58 rest (group-bytes g) colon (groups-bytes r)
+  module _ (dot : p 46 ≡ true) where
+    qnum-bytes : {w : List ℕ} {v : ℕ} → Qnum w v → all p w ≡ true
+    qnum-bytes {w} q = all-inside isDigit p (λ b h. hex b (digit-hex b h)) w (number-digits (qnum-number q))
 
-  row-bytes : {w gs : List ℕ} → Row w gs → all p w ≡ true
-  row-bytes (Row.one g) = group-bytes g
-  row-bytes (Row.tail n) = ip4-bytes n
-  row-bytes (Row.more {w = w} {rest = rest} g r) = all-join-by p w 58 rest (group-bytes g) colon (row-bytes r)
+    pub ip4-bytes : {w os : List ℕ} → Ip4Network w os → all p w ≡ true
+    ip4-bytes (octets {p = u} {q = v} {r = r} {s = s} a b c d) =
+        all-join-by p u 46 (v ++ (46 ∷ (r ++ (46 ∷ s)))) (qnum-bytes a) dot
+        (all-join-by p v 46 (r ++ (46 ∷ s)) (qnum-bytes b) dot (all-join-by p r 46 s (qnum-bytes c) dot (qnum-bytes d)))
 
-  before-bytes : {w gs : List ℕ} → Before w gs → all p w ≡ true
-  unfolding all
-  before-bytes Before.nothing = refl
-  before-bytes (Before.groups g) = groups-bytes g
+    module _ (colon : p 58 ≡ true) where
+      row-bytes : {tails : Bool} {w gs : List ℕ} → Row tails w gs → all p w ≡ true
+      row-bytes (Row.one g) = group-bytes g
+      row-bytes (Row.tail n) = ip4-bytes n
+      row-bytes (Row.more {w = w} {rest = rest} g r) = all-join-by p w 58 rest (group-bytes g) colon (row-bytes r)
 
-  after-bytes : {w gs : List ℕ} → After w gs → all p w ≡ true
-  unfolding all
-  after-bytes After.nothing = refl
-  after-bytes (After.row r) = row-bytes r
+      side-bytes : {tails : Bool} {w gs : List ℕ} → Side tails w gs → all p w ≡ true
+      side-bytes Side.nothing = all-none p
+      side-bytes (Side.row r) = row-bytes r
 
-  ip6-bytes : {w gs : List ℕ} → Ip6Network w gs → all p w ≡ true
-  ip6-bytes (full r l) = row-bytes r
-  ip6-bytes (short {u = u} {w = w} b a l) =
-      all-join-by p u 58 (58 ∷ w) (before-bytes b) colon (all-join-by p [] 58 w (before-bytes Before.nothing) colon (after-bytes a))
+      ip6-bytes : {w gs : List ℕ} → Ip6Network w gs → all p w ≡ true
+      ip6-bytes (full r l) = row-bytes r
+      ip6-bytes (short {u = u} {w = w} b a l) = all-join-by p u 58 (58 ∷ w) (side-bytes b) colon (all-cons p 58 w colon (side-bytes a))
 
 -- neither the slash nor the space is among them
 hex-not-slash : (b : ℕ) → isHexDigit b ≡ true → isNotSlash b ≡ true
@@ -101,8 +68,8 @@ hex-not-space b h = ap not (apart isHexDigit b 32 h refl)
 pub network4-plain : {w : List ℕ} {a : Address} → Network4 w a → Plain w
 unfolding isNotSlash isNotSpace
 network4-plain (Network4.network n) = record {
-  no-slash = ip4-bytes isNotSlash hex-not-slash refl refl n;
-  no-space = ip4-bytes isNotSpace hex-not-space refl refl n;
+  no-slash = ip4-bytes isNotSlash hex-not-slash refl n;
+  no-space = ip4-bytes isNotSpace hex-not-space refl n;
 }
 
 pub network6-plain : {w : List ℕ} {a : Address} → Network6 w a → Plain w
@@ -124,37 +91,26 @@ pub digit-length : (b : ℕ) → isDigit b ≡ true → isLengthByte b ≡ true
 unfolding isDigit isLengthByte
 digit-length b h = let r = within-range 48 57 b h in range-within 47 57 b (omega arith) (omega arith)
 
-slash-number : {limit : ℕ} {w : List ℕ} {n : ℕ} → LengthNumber limit w n → LengthText (47 ∷ w)
-unfolding all isLengthByte within
-slash-number {w = w} d = record {
-  bytes = and-both (isLengthByte 47) (all isLengthByte w) refl (all-inside isDigit isLengthByte digit-length w (number-digits d));
+slash-number : {limit : ℕ} {w : List ℕ} {n : ℕ} → CidrLength limit w n → LengthText w
+unfolding isLengthByte within
+slash-number (slash {w = w} d) = record {
+  bytes = all-cons isLengthByte 47 w refl (all-inside isDigit isLengthByte digit-length w (number-digits d));
   begins = inr refl;
 }
 
-no-length : LengthText []
-unfolding all
-no-length = record { bytes = refl; begins = inl refl }
-
-ip6-length-text : {w : List ℕ} {n : ℕ} → Ip6CidrLength w n → LengthText w
-ip6-length-text (Ip6CidrLength.slash d) = slash-number d
-
-pub length4-text : {w : List ℕ} {n : ℕ} → Length4 w n → LengthText w
-length4-text Length4.absent = no-length
-length4-text (Length4.present (Ip4CidrLength.slash d)) = slash-number d
-
-pub length6-text : {w : List ℕ} {n : ℕ} → Length6 w n → LengthText w
-length6-text Length6.absent = no-length
-length6-text (Length6.present d) = ip6-length-text d
+pub length-text : {limit : ℕ} {w : List ℕ} {n : ℕ} → OptionalLength limit w n → LengthText w
+length-text absent = record { bytes = all-none isLengthByte; begins = inl refl }
+length-text (present d) = slash-number d
 
 -- both lengths begin with a slash, be the first absent or not
-both-begin : {w : List ℕ} {n : ℕ} → Length4 w n → (v : List ℕ) → at (w ++ (47 ∷ v)) 0 ≡ 47
-both-begin Length4.absent v = refl
-both-begin (Length4.present (Ip4CidrLength.slash d)) v = refl
+both-begin : {limit : ℕ} {w : List ℕ} {n : ℕ} → OptionalLength limit w n → (v : List ℕ) → at (w ++ (47 ∷ v)) 0 ≡ 47
+both-begin absent v = refl
+both-begin (present (slash d)) v = refl
 
 pub dual-text : {w : List ℕ} {n m : ℕ} → DualCidrLength w n m → LengthText w
 unfolding isLengthByte within
-dual-text (four-only l) = length4-text l
+dual-text (four-only l) = length-text l
 dual-text (both {w = w} {v = v} l d) = record {
-  bytes = all-join-by isLengthByte w 47 v (length4-text l .bytes) refl (ip6-length-text d .bytes);
+  bytes = all-join-by isLengthByte w 47 v (length-text l .bytes) refl (slash-number d .bytes);
   begins = inr (both-begin l v);
 }

@@ -8,6 +8,7 @@ use native.Mathlib.Omega.{arith}
 use native.Mathlib.Numerals.{add-one}
 use lib.ListN.{length, take, drop}
 use borrow.Author.Tests.{ne-eqb}
+use Rattle.text.specs.Bytes.{isColon}
 use Rattle.text.specs.Lists.{split}
 use Rattle.text.specs.Writing.{Wrote}
 use Rattle.text.proofs.Laws.Spans.{rest-part}
@@ -16,7 +17,7 @@ use Rattle.text.proofs.Laws.Writing.{wrote-none, wrote-then}
 use Rattle.address.specs.declared.Address.{Address}
 use Rattle.address.specs.declared.Address.the-variants.{IPv4, IPv6}
 use Rattle.networks.specs.Reader.{readIp4}
-use Rattle.networks.specs.Reader6.{isColon, firstColon, readH16, Reading, tailOf, lastOf, lastPart, push, rowOf, readRow, readSide, octetPairs, RowWritten, written, none}
+use Rattle.networks.specs.Reader6.{firstColon, readH16, Reading, tailOf, lastOf, lastPart, push, rowOf, readRow, readSide, octetPairs, RowWritten, written, none}
 use Rattle.networks.specs.declared.Network.{Network}
 use Rattle.networks.specs.declared.Network.the-variants.{Is, NoNetwork}
 use Rattle.networks.specs.declared.ip6.H16.{H16}

@@ -1,32 +1,32 @@
--- Rows of groups: the reader against the productions, sound and complete, with and without a tail. From the laws of Ip4, of hex numbers and
--- of colons.
+-- Rows of groups: the reader against the productions, sound and complete, whether or not a tail may stand. From the laws of Ip4, Plain, of hex
+-- numbers, of colons and of splitting.
 use Prim.Native.Nat.{ℕ, _+_, _*_, _/_, _%_, _≤_, _<_}
-use mathlib.Core.Path.{_≡_, refl, ap, subst, _∙_}
+use mathlib.Core.Path.{_≡_, refl, ap, subst}
 use mathlib.Core.List.{List, [], _∷_, _++_, append-assoc, append-nil}
-use mathlib.Core.Bool.{Bool, true, false, cond, not, _&&_}
+use mathlib.Core.Bool.{Bool, true, false, not, _&&_}
 use native.Mathlib.Omega.{arith}
 use lib.ListN.{length, length-append}
 use lib.Dec.{leb, eqb}
 use borrow.Author.Tests.{le-leb, leb-true, eqb-true, ne-eqb, not-true}
-use Rattle.text.specs.Bytes.{at, within, isDigit, isHexDigit}
-use Rattle.text.specs.Lists.{all, split, grow}
+use Rattle.text.specs.Bytes.{at, within, isColon, isNotColon, isDigit, isHexDigit}
+use Rattle.text.specs.Lists.{all, split, separatorBefore, joinBy}
 use Rattle.text.proofs.Laws.Tests.{cond-elim, and-left, and-right}
 use Rattle.text.proofs.Laws.Classes.{apart, within-range}
-use Rattle.text.proofs.Laws.Parts.{all-join-by, all-between, all-inside}
-use Rattle.text.proofs.Laws.Splitting.{Some, some, split-some}
+use Rattle.text.proofs.Laws.Parts.{all-between}
+use Rattle.text.proofs.Laws.Splitting.{split-some, join-again}
 use Rattle.address.specs.Octets.{valueFrom, valueOf}
 use Rattle.address.specs.declared.Address.the-variants.{IPv4, IPv6}
-use Rattle.networks.specs.Grammar.{Qnum, Ip4Network, octets, Group, digits, Groups, Row, Before, After}
+use Rattle.networks.specs.Grammar.{Ip4Network, octets, Group, digits, Row, Side}
 use Rattle.networks.specs.Reader.{readIp4}
-use Rattle.networks.specs.Reader6.{isColon, doubleColon, readH16, Reading, refused, tailOf, lastOf, lastPart, push, rowOf, readRow, readSide}
+use Rattle.networks.specs.Reader6.{doubleColon, readH16, Reading, refused, tailOf, lastOf, lastPart, push, rowOf, readRow, readSide}
 use Rattle.networks.specs.declared.Network.{Network}
 use Rattle.networks.specs.declared.Network.the-variants.{Is, NoNetwork}
 use Rattle.networks.specs.declared.ip6.H16.{H16}
 use Rattle.networks.specs.declared.ip6.H16.the-variants.{Value, NoValue}
-use Rattle.networks.proofs.Laws.Numbers.{number-digits, qnum-number}
+use Rattle.networks.proofs.Laws.Plain.{group-bytes, ip4-bytes}
 use Rattle.networks.proofs.Laws.Ip4.{ip4-made, ip4-octets, qnum-small}
 use Rattle.networks.proofs.Laws.HexNumbers.{h16-sound, h16-complete}
-use Rattle.networks.proofs.Laws.Colons.{isNotColon, first-none, first-part, double-past, double-single, double-at, double-empty}
+use Rattle.networks.proofs.Laws.Colons.{first-none, first-part, double-past, double-single}
 use Rattle.networks.proofs.Laws.RowWriting.{row-cons}
 
 -- a group has no colon, and an IPv4 tail has none
@@ -34,21 +34,11 @@ hex-not-colon : (b : ℕ) → isHexDigit b ≡ true → isNotColon b ≡ true
 unfolding isHexDigit isDigit within
 hex-not-colon b h = ap not (apart isHexDigit b 58 h refl)
 
-digit-not-colon : (b : ℕ) → isDigit b ≡ true → isNotColon b ≡ true
-unfolding isDigit within
-digit-not-colon b h = ap not (apart isDigit b 58 h refl)
-
 group-colonless : {w : List ℕ} {g : ℕ} → Group w g → all isNotColon w ≡ true
-group-colonless (digits {w = w} l h) = all-inside isHexDigit isNotColon hex-not-colon w h
-
-qnum-colonless : {w : List ℕ} {v : ℕ} → Qnum w v → all isNotColon w ≡ true
-qnum-colonless {w} q = all-inside isDigit isNotColon digit-not-colon w (number-digits (qnum-number q))
+group-colonless g = group-bytes isNotColon hex-not-colon g
 
 pub ip4-colonless : {w os : List ℕ} → Ip4Network w os → all isNotColon w ≡ true
-ip4-colonless (octets {p = p} {q = q} {r = r} {s = s} a b c d) =
-    all-join-by isNotColon p 46 (q ++ (46 ∷ (r ++ (46 ∷ s)))) (qnum-colonless a) refl
-    (all-join-by isNotColon q 46 (r ++ (46 ∷ s)) (qnum-colonless b) refl
-    (all-join-by isNotColon r 46 s (qnum-colonless c) refl (qnum-colonless d)))
+ip4-colonless n = ip4-bytes isNotColon hex-not-colon refl n
 
 -- nor are they empty
 group-some : {w : List ℕ} {g : ℕ} → Group w g → 0 < length w
@@ -62,49 +52,28 @@ unfolding all
 first-byte [] t h k = absurd (omega arith)
 first-byte (b ∷ w) t h k = not-true (eqb b 58) (and-left (isNotColon b) (all isNotColon w) h)
 
--- a row has no "::"
-pub record NoDouble (w : List ℕ) : Type 0 where
-  pub no-double : doubleColon w ≡ length w
-  pub first : isColon (at w 0) ≡ false
-  pub some-byte : 0 < length w
+row-some : {tails : Bool} {w gs : List ℕ} → Row tails w gs → 0 < length w
+row-some (Row.one g) = group-some g
+row-some (Row.tail n) = ip4-some n
+row-some (Row.more g r) = simp length-append (omega arith)
 
-colonless-double : (w : List ℕ) → all isNotColon w ≡ true → 0 < length w → NoDouble w
-colonless-double w h k = record {
-  no-double = simp append-nil at (double-past w [] h) ∙ omega (arith, double-empty);
-  first = simp append-nil at (first-byte w [] h k);
-  some-byte = k;
-}
-
-pub row-double : {w gs : List ℕ} → Row w gs → NoDouble w
-row-double (Row.one {w = w} g) = colonless-double w (group-colonless g) (group-some g)
-row-double (Row.tail {w = w} n) = colonless-double w (ip4-colonless n) (ip4-some n)
-row-double (Row.more {w = w} {rest = rest} g r) =
-    let d = row-double r in
-    record {
-      no-double = omega (arith, double-past w (58 ∷ rest) (group-colonless g), double-single rest (d .first), d .no-double, length-append w (58 ∷ rest));
-      first = first-byte w (58 ∷ rest) (group-colonless g) (group-some g);
-      some-byte = simp length-append (omega arith);
-    }
-
--- the first "::" after groups
+-- the first "::" of a row and what follows it, if that begins with one or is nothing, is just after the row
 pub record DoubleAfter (u t : List ℕ) : Type 0 where
-  pub place : doubleColon (u ++ (58 ∷ 58 ∷ t)) ≡ length u
-  pub first : isColon (at (u ++ (58 ∷ 58 ∷ t)) 0) ≡ false
-  pub some-byte : 0 < length u
+  pub place : doubleColon (u ++ t) ≡ length u
+  pub first : isColon (at (u ++ t) 0) ≡ false
 
-pub groups-double : {u gs : List ℕ} → Groups u gs → (t : List ℕ) → DoubleAfter u t
-groups-double (Groups.one {w = w} g) t = record {
-  place = omega (arith, double-past w (58 ∷ 58 ∷ t) (group-colonless g), double-at t);
-  first = first-byte w (58 ∷ 58 ∷ t) (group-colonless g) (group-some g);
-  some-byte = group-some g;
-}
-groups-double (Groups.more {w = w} {rest = rest} g r) t =
-    let d = groups-double r t in
+colonless-double : (w t : List ℕ) → all isNotColon w ≡ true → 0 < length w → doubleColon t ≡ 0 → DoubleAfter w t
+colonless-double w t h k z = record { place = omega (arith, double-past w t h); first = first-byte w t h k }
+
+pub row-double : {tails : Bool} {u gs : List ℕ} → Row tails u gs → (t : List ℕ) → doubleColon t ≡ 0 → DoubleAfter u t
+row-double (Row.one {w = w} g) t z = colonless-double w t (group-colonless g) (group-some g) z
+row-double (Row.tail {w = w} n) t z = colonless-double w t (ip4-colonless n) (ip4-some n) z
+row-double (Row.more {w = w} {rest = rest} g r) t z =
+    let d = row-double r t z in
     record {
-      place = rw (append-assoc w (58 ∷ rest) (58 ∷ 58 ∷ t))
-          (omega (arith, double-past w (58 ∷ (rest ++ (58 ∷ 58 ∷ t))) (group-colonless g), double-single (rest ++ (58 ∷ 58 ∷ t)) (d .first), d .place, length-append w (58 ∷ rest)));
-      first = rw (append-assoc w (58 ∷ rest) (58 ∷ 58 ∷ t)) (first-byte w (58 ∷ (rest ++ (58 ∷ 58 ∷ t))) (group-colonless g) (group-some g));
-      some-byte = simp length-append (omega arith);
+      place = rw (append-assoc w (58 ∷ rest) t)
+          (omega (arith, double-past w (58 ∷ (rest ++ t)) (group-colonless g), double-single (rest ++ t) (d .first), d .place, length-append w (58 ∷ rest)));
+      first = rw (append-assoc w (58 ∷ rest) t) (first-byte w (58 ∷ (rest ++ t)) (group-colonless g) (group-some g));
     }
 
 -- completeness: a tail is no group, and is read as two
@@ -152,60 +121,23 @@ tail-groups a b c d h =
     rw (g .high, g .low)
 
 -- what the productions make is read
-pub row-complete : {w gs : List ℕ} → Row w gs → readRow true w ≡ Reading.groups gs
+pub row-complete : {tails : Bool} {w gs : List ℕ} → Row tails w gs → readRow tails w ≡ Reading.groups gs
 unfolding readRow rowOf lastPart lastOf push
 row-complete (Row.one {w = w} g) = rw (first-none w (group-colonless g), h16-complete g)
 row-complete (Row.tail {w = w} {a = a} {b = b} {c = c} {d = d} n) =
     rw (first-none w (ip4-colonless n), ip4-no-h16 n, ip4-octets n) (tail-groups a b c d (octets-small n))
-row-complete (Row.more {w = w} {rest = rest} g r) =
-    rw (first-part w rest (group-colonless g), row-cons true w (split isColon rest) (split-some isColon rest), h16-complete g, row-complete r)
+row-complete {tails} (Row.more {w = w} {rest = rest} g r) =
+    rw (first-part w rest (group-colonless g), row-cons tails w (split isColon rest) (split-some isColon rest), h16-complete g, row-complete r)
 
-groups-complete : {w gs : List ℕ} → Groups w gs → readRow false w ≡ Reading.groups gs
-unfolding readRow rowOf lastPart lastOf push
-groups-complete (Groups.one {w = w} g) = rw (first-none w (group-colonless g), h16-complete g)
-groups-complete (Groups.more {w = w} {rest = rest} g r) =
-    rw (first-part w rest (group-colonless g), row-cons false w (split isColon rest) (split-some isColon rest), h16-complete g, groups-complete r)
-
-pub before-complete : {u ls : List ℕ} → Before u ls → readSide false u ≡ Reading.groups ls
+pub side-complete : {tails : Bool} {w gs : List ℕ} → Side tails w gs → readSide tails w ≡ Reading.groups gs
 unfolding readSide
-before-complete Before.nothing = refl
-before-complete (Before.groups {w = w} g) = rw (ne-eqb (length w) 0 (λ e. omega (arith, groups-double g [] .some-byte))) (groups-complete g)
+side-complete Side.nothing = refl
+side-complete (Side.row {w = w} r) = rw (ne-eqb (length w) 0 (λ e. omega (arith, row-some r))) (row-complete r)
 
-pub after-complete : {w rs : List ℕ} → After w rs → readSide true w ≡ Reading.groups rs
-unfolding readSide
-after-complete After.nothing = refl
-after-complete (After.row {w = w} r) = rw (ne-eqb (length w) 0 (λ e. omega (arith, row-double r .some-byte))) (row-complete r)
-
--- soundness: parts joined by colons
-unfoldable joinColons : List (List ℕ) → List ℕ
-joinColons [] = []
-joinColons (w ∷ []) = w
-joinColons (w ∷ x ∷ ws) = w ++ (58 ∷ joinColons (x ∷ ws))
-
-join-more : (w : List ℕ) (ws : List (List ℕ)) → Some ws → joinColons (w ∷ ws) ≡ w ++ (58 ∷ joinColons ws)
-unfolding joinColons
-join-more w (x ∷ ws) some = refl
-
-join-grow : (b : ℕ) (ws : List (List ℕ)) → Some ws → joinColons (grow b ws) ≡ b ∷ joinColons ws
-unfolding joinColons grow
-join-grow b (w ∷ []) some = refl
-join-grow b (w ∷ x ∷ ws) some = refl
-
-join-colons : (s : List ℕ) → joinColons (split isColon s) ≡ s
-unfolding joinColons split
-join-colons [] = refl
-join-colons (b ∷ s) = by (eqb b 58) refl (join-colons s)
-  where
-    by : (t : Bool) → eqb b 58 ≡ t → joinColons (split isColon s) ≡ s → joinColons (cond t ([] ∷ split isColon s) (grow b (split isColon s))) ≡ b ∷ s
-    by true e ih = join-more [] (split isColon s) (split-some isColon s) ∙ rw (ih, eqb-true b 58 e)
-    by false e ih = join-grow b (split isColon s) (split-some isColon s) ∙ rw ih
-
--- what a reading says by the productions
+-- soundness: what a reading says by the productions
 abbrev pub RowRight : Bool → List ℕ → Reading → Type 0
-RowRight true s (Reading.groups gs) = Row s gs
-RowRight false s (Reading.groups gs) = Groups s gs
-RowRight true s refused = Unit {0}
-RowRight false s refused = Unit {0}
+RowRight tails s (Reading.groups gs) = Row tails s gs
+RowRight tails s refused = Unit {0}
 
 tail-right : (w : List ℕ) (x : Network) → readIp4 w ≡ x → RowRight true w (tailOf x)
 unfolding tailOf
@@ -217,53 +149,43 @@ tail-right w (Is (IPv4 v)) e =
 tail-right w (Is (IPv6 high low)) e = tt
 tail-right w NoNetwork e = tt
 
-last-right : (tail : Bool) (w : List ℕ) (h : H16) → readH16 w ≡ h → RowRight tail w (lastOf tail w h)
+last-right : (tails : Bool) (w : List ℕ) (h : H16) → readH16 w ≡ h → RowRight tails w (lastOf tails w h)
 unfolding lastOf
-last-right true w (Value g) e = Row.one (h16-sound w g e)
-last-right false w (Value g) e = Groups.one (h16-sound w g e)
+last-right tails w (Value g) e = Row.one (h16-sound w g e)
 last-right true w NoValue e = tail-right w (readIp4 w) refl
 last-right false w NoValue e = tt
 
-push-right : (tail : Bool) (w s : List ℕ) (h : H16) → readH16 w ≡ h → (x : Reading) → RowRight tail s x → RowRight tail (w ++ (58 ∷ s)) (push h x)
+push-right : (tails : Bool) (w s : List ℕ) (h : H16) → readH16 w ≡ h → (x : Reading) → RowRight tails s x → RowRight tails (w ++ (58 ∷ s)) (push h x)
 unfolding push
-push-right true w s (Value g) e (Reading.groups gs) r = Row.more (h16-sound w g e) r
-push-right false w s (Value g) e (Reading.groups gs) r = Groups.more (h16-sound w g e) r
-push-right true w s (Value g) e refused r = tt
-push-right false w s (Value g) e refused r = tt
-push-right true w s NoValue e x r = tt
-push-right false w s NoValue e x r = tt
+push-right tails w s (Value g) e (Reading.groups gs) r = Row.more (h16-sound w g e) r
+push-right tails w s (Value g) e refused r = tt
+push-right tails w s NoValue e x r = tt
 
-parts-right : (tail : Bool) (ws : List (List ℕ)) → RowRight tail (joinColons ws) (rowOf tail ws)
-unfolding rowOf joinColons lastPart
-parts-right true [] = tt
-parts-right false [] = tt
-parts-right tail (w ∷ []) = last-right tail w (readH16 w) refl
-parts-right tail (w ∷ x ∷ ws) = push-right tail w (joinColons (x ∷ ws)) (readH16 w) refl (rowOf tail (x ∷ ws)) (parts-right tail (x ∷ ws))
+parts-right : (tails : Bool) (ws : List (List ℕ)) → RowRight tails (joinBy 58 ws) (rowOf tails ws)
+unfolding rowOf joinBy separatorBefore lastPart
+parts-right tails [] = tt
+parts-right tails (w ∷ []) = rw append-nil (last-right tails w (readH16 w) refl)
+parts-right tails (w ∷ x ∷ ws) = push-right tails w (joinBy 58 (x ∷ ws)) (readH16 w) refl (rowOf tails (x ∷ ws)) (parts-right tails (x ∷ ws))
 
-pub row-right : (tail : Bool) (s : List ℕ) → RowRight tail s (readRow tail s)
+pub row-right : (tails : Bool) (s : List ℕ) → RowRight tails s (readRow tails s)
 unfolding readRow
-row-right tail s = subst (λ (t : List ℕ). RowRight tail t (rowOf tail (split isColon s))) (join-colons s) (parts-right tail (split isColon s))
+row-right tails s = subst (λ (t : List ℕ). RowRight tails t (rowOf tails (split isColon s))) (join-again 58 s) (parts-right tails (split isColon s))
 
 -- the same at a side of "::"
 abbrev pub SideRight : Bool → List ℕ → Reading → Type 0
-SideRight true s (Reading.groups gs) = After s gs
-SideRight false s (Reading.groups gs) = Before s gs
-SideRight true s refused = Unit {0}
-SideRight false s refused = Unit {0}
+SideRight tails s (Reading.groups gs) = Side tails s gs
+SideRight tails s refused = Unit {0}
 
-row-side : (tail : Bool) (s : List ℕ) (x : Reading) → RowRight tail s x → SideRight tail s x
-row-side true s (Reading.groups gs) r = After.row r
-row-side false s (Reading.groups gs) r = Before.groups r
-row-side true s refused r = tt
-row-side false s refused r = tt
+row-side : (tails : Bool) (s : List ℕ) (x : Reading) → RowRight tails s x → SideRight tails s x
+row-side tails s (Reading.groups gs) r = Side.row r
+row-side tails s refused r = tt
 
-empty-side : (tail : Bool) (s : List ℕ) → length s ≡ 0 → SideRight tail s (Reading.groups [])
-empty-side true [] e = After.nothing
-empty-side false [] e = Before.nothing
-empty-side tail (b ∷ s) e = absurd (omega arith)
+empty-side : (tails : Bool) (s : List ℕ) → length s ≡ 0 → SideRight tails s (Reading.groups [])
+empty-side tails [] e = Side.nothing
+empty-side tails (b ∷ s) e = absurd (omega arith)
 
-pub side-right : (tail : Bool) (s : List ℕ) → SideRight tail s (readSide tail s)
+pub side-right : (tails : Bool) (s : List ℕ) → SideRight tails s (readSide tails s)
 unfolding readSide
-side-right tail s =
-    cond-elim (SideRight tail s) (eqb (length s) 0) {x = Reading.groups []} {y = readRow tail s}
-    (λ e. empty-side tail s (eqb-true (length s) 0 e)) (λ _. row-side tail s (readRow tail s) (row-right tail s))
+side-right tails s =
+    cond-elim (SideRight tails s) (eqb (length s) 0) {x = Reading.groups []} {y = readRow tails s}
+    (λ e. empty-side tails s (eqb-true (length s) 0 e)) (λ _. row-side tails s (readRow tails s) (row-right tails s))

@@ -21,7 +21,7 @@ use Rattle.text.proofs.Laws.Runs.{run-span, run-end-inside}
 use Rattle.text.proofs.Laws.Parts.{all-none, all-join}
 use Rattle.macros.specs.Grammar.{Piece, DomainSpecs}
 use Rattle.networks.specs.Grammar.{Network4, Network6, Length4, Length6}
-use Rattle.networks.proofs.Laws.Plain.{LengthText, network4-plain, network6-plain, length4-text, length6-text, dual-text}
+use Rattle.networks.proofs.Laws.Plain.{LengthText, network4-plain, network6-plain, length-text, dual-text}
 use Rattle.records.specs.Readings.{Optional, absent, present, Said, mechanism, hosts, network4, network6}
 use Rattle.records.specs.Grammar.{Literal, OptionalSpec, without, with-spec, Mechanism}
 use Rattle.records.specs.Numbers.{saidOf}
@@ -325,7 +325,7 @@ solid-mechanism (Mechanism.a l s d) = solid-hosts (literal-word a-word l) s (dua
 solid-mechanism (Mechanism.mx l s d) = solid-hosts (literal-word mx-word l) s (dual-text d)
 solid-mechanism (Mechanism.ptr {w = w} {u = u} l s) = all-join isNotSpace w u (solid-name (literal-word ptr-word l)) (solid-optional s)
 solid-mechanism (Mechanism.ip4 {t = t} {l = z} l d e) =
-    solid-after (literal-word ip4-word l) 58 (t ++ z) refl (all-join isNotSpace t z (network4-plain d .no-space) (solid-length (length4-text e)))
+    solid-after (literal-word ip4-word l) 58 (t ++ z) refl (all-join isNotSpace t z (network4-plain d .no-space) (solid-length (length-text e)))
 solid-mechanism (Mechanism.ip6 {t = t} {l = z} l d e) =
-    solid-after (literal-word ip6-word l) 58 (t ++ z) refl (all-join isNotSpace t z (network6-plain d .no-space) (solid-length (length6-text e)))
+    solid-after (literal-word ip6-word l) 58 (t ++ z) refl (all-join isNotSpace t z (network6-plain d .no-space) (solid-length (length-text e)))
 solid-mechanism (Mechanism.exists {d = d} l s) = solid-after (literal-word exists-word l) 58 d refl (solid-spec s)

@@ -27,7 +27,7 @@ use Rattle.networks.specs.declared.Length.{Length}
 use Rattle.networks.proofs.Laws.Ip4.{ip4-sound, ip4-complete}
 use Rattle.networks.proofs.Laws.Ip6.{ip6-sound, ip6-complete}
 use Rattle.networks.proofs.Laws.Lengths.{length4-sound, length4-complete, length6-sound, length6-complete}
-use Rattle.networks.proofs.Laws.Plain.{LengthText, network4-plain, network6-plain, network4-family, network6-family, length4-text, length6-text}
+use Rattle.networks.proofs.Laws.Plain.{LengthText, network4-plain, network6-plain, network4-family, network6-family, length-text}
 use Rattle.records.specs.Readings.{network4, network6}
 use Rattle.records.specs.Numbers.{networkSaid}
 use Rattle.records.specs.Reader.{afterNetwork, afterLength, ip4Cut, ip4Of, ip6Cut, ip6Of}
@@ -159,10 +159,10 @@ pub ip4-read : {w t l : List ℕ} {k : ℕ} {x : Address} {n : ℕ} (sign : ℕ)
     → NetworkRead (ip4Of sign k w) sign w t x n
 ip4-read {w} {t} {l} {k} {x} {n} sign d e p =
     subst (λ (z : Token). NetworkRead z sign w t x n) (sym (ip4-by sign k w))
-    (network-complete readIp4 readLength4 sign (network4-plain d .no-slash) (length4-text e) (ip4-complete t x d) (length4-complete l n e) p)
+    (network-complete readIp4 readLength4 sign (network4-plain d .no-slash) (length-text e) (ip4-complete t x d) (length4-complete l n e) p)
 
 pub ip6-read : {w t l : List ℕ} {k : ℕ} {x : Address} {n : ℕ} (sign : ℕ) → Network6 t x → Length6 l n → Span w k (length w) (58 ∷ (t ++ l))
     → NetworkRead (ip6Of sign k w) sign w t x n
 ip6-read {w} {t} {l} {k} {x} {n} sign d e p =
     subst (λ (z : Token). NetworkRead z sign w t x n) (sym (ip6-by sign k w))
-    (network-complete readIp6 readLength6 sign (network6-plain d .no-slash) (length6-text e) (ip6-complete t x d) (length6-complete l n e) p)
+    (network-complete readIp6 readLength6 sign (network6-plain d .no-slash) (length-text e) (ip6-complete t x d) (length6-complete l n e) p)

@@ -1,5 +1,6 @@
 -- `networks::ip6::hex_value` meets its contract. From the laws of HexNumbers.
-use Rattle.networks.proofs.Laws.HexNumbers.{digit-from, hex-digit, hex-none, hex-letter}
+use Rattle.text.proofs.Laws.Digits.{digit-least}
+use Rattle.networks.proofs.Laws.HexNumbers.{hex-digit, hex-none, hex-letter}
 use borrow.Author.Needs.{needs}
 use Rattle.networks.proofs.ip6.hex_value.Statement.{statement}
 use Rattle.networks.proofs.ip6.hex_value.Tie as tie
@@ -8,7 +9,7 @@ is-within-requires : tie.Need-is-within-requires
 is-within-requires c κs = search needs
 
 sub-result : tie.Need-sub-result
-sub-result c = search digit-from
+sub-result c = search digit-least
 
 cast-result : tie.Need-cast-result
 cast-result c = search needs
