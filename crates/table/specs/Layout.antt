@@ -1,4 +1,4 @@
--- The answer table as productions: "entries, end to end; little-endian".
+-- The answer table as productions: entries "end to end", all numbers "Little-endian".
 use Prim.Native.Nat.{ℕ, _+_, _*_}
 use mathlib.Core.Path.{_≡_}
 use mathlib.Core.List.{List, [], _∷_, _++_}

@@ -13,7 +13,7 @@ pub data Report : Type 0 where
   accepted : ℕ → Report
   refused : ℕ → Place → Report
 
--- 24 "table over 65,535 bytes"; 25 "entry malformed, or a 513th: its place in the table"; 26 "pair seen before: place of the second"
+-- 24 "table over 65,535 bytes"; 25 "entry malformed, or a 513th", with "its place in the table"; 26 "pair seen before", with "place of the second"
 abbrev pub reported : TableAnswer → Report
 reported (Accepted n) = accepted n
 reported TooLong = refused 24 nowhere

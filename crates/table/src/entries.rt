@@ -6,6 +6,7 @@ ghost use Rattle.text.specs.Lists.{same};
 ghost use Rattle.table.specs.Layout.{isKind, isStatus};
 ghost use Rattle.table.specs.Reader.{headerOf, isWell, nameOf, itemBytes};
 use crate::items;
+use text::bytes;
 use text::words;
 
 // The header of an entry: kind, status, length of the name, size of the whole entry; or that none stands there.
@@ -81,14 +82,7 @@ fn is_status(status: u8) -> bool
 pub fn name_of(s: &[u8], n: u8) -> &[u8]
     ensures { λ r. ⌜ now r ≡ nameOf (now (s .entry)) n ⌝ }
 {
-    let end = 6 + n as usize;
-    if s.len() < 6 {
-        return &s[..0];
-    }
-    if s.len() < end {
-        return &s[6..];
-    }
-    &s[6..end]
+    bytes::part(s, 6, 6 + n as usize)
 }
 
 // Whether the entry at the front, of kind k and with a name of n bytes, is of a kind and a name.
@@ -133,15 +127,5 @@ pub fn is_well(s: &[u8], h: Header) -> bool
 fn item_bytes(s: &[u8], n: u8, size: usize) -> &[u8]
     ensures { λ r. ⌜ now r ≡ itemBytes (now (s .entry)) n size ⌝ }
 {
-    let start = 6 + n as usize;
-    if s.len() < start {
-        return &s[..0];
-    }
-    if size < start {
-        return &s[..0];
-    }
-    if s.len() < size {
-        return &s[start..];
-    }
-    &s[start..size]
+    bytes::part(s, 6 + n as usize, size)
 }

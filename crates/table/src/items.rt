@@ -68,18 +68,8 @@ pub fn items_fit(kind: u16, s: &[u8]) -> bool
 pub fn item(items: &[u8], at: usize) -> &[u8]
     ensures { λ r. ⌜ now r ≡ firstItem (drop at (now (items .entry))) ⌝ }
 {
-    if items.len() < at {
-        return &items[..0];
-    }
-    let rest = &items[at..];
-    let n = number(rest) as usize;
-    if rest.len() < 2 {
-        return &rest[..0];
-    }
-    if rest.len() - 2 < n {
-        return &rest[2..];
-    }
-    &rest[2..2 + n]
+    let rest = bytes::part(items, at, items.len());
+    bytes::part(rest, 2, 2 + number(rest) as usize)
 }
 
 // The place just after the item that begins at a place.
@@ -107,8 +97,5 @@ pub fn preference(item: &[u8]) -> u16
 pub fn host(item: &[u8]) -> &[u8]
     ensures { λ r. ⌜ now r ≡ drop 2 (now (item .entry)) ⌝ }
 {
-    if item.len() < 2 {
-        return &item[..0];
-    }
-    &item[2..]
+    bytes::part(item, 2, item.len())
 }

@@ -22,7 +22,7 @@ use Rattle.table.specs.declared.TableAnswer.the-variants.{Accepted, TooLong, Ma
 use Rattle.table.specs.Numbers.{Place, nowhere, byte, accepted, refused as table-refused, reported as table-reported}
 use Rattle.table.specs.Answers.{TableAnswers, whole}
 use Rattle.table.specs.Reader.{entriesOf, checkTable}
-use Rattle.table.proofs.Laws.Checks.{checked, checked-is}
+use Rattle.table.proofs.Laws.Checks.{table-answers, table-answers-is}
 use Rattle.table.proofs.Laws.Entries.{entries-complete}
 use Rattle.macros.specs.Expansion.{isSender, isHost, isShort}
 use Rattle.meaning.specs.declared.Counts.{Counts}
@@ -175,7 +175,7 @@ module _ (client : Address) (domain sender helo receiver : List ℕ) (seconds : 
       (λ s. cond-elim A (isHost helo && isHost receiver)
       (λ h. cond-elim A (isShort domain)
       (λ d. cond-elim A (hasRoom name text)
-      (λ r. by-table (record { sender-fits = s; hosts-fit = h; domain-fits = d; room = r }) (checkTable table) (checked table))
+      (λ r. by-table (record { sender-fits = s; hosts-fit = h; domain-fits = d; room = r }) (checkTable table) (table-answers table))
       (λ r. no-room s h d r))
       (λ d. long-domain s h d))
       (λ h. no-host s h))
@@ -273,7 +273,7 @@ module _ (client : Address) (domain sender helo receiver : List ℕ) (seconds : 
   answers-is (long-domain s h d) = rw (s, h, d)
   answers-is (no-room s h d r) = rw (s, h, d, r)
   answers-is (bad-table {number = number} {place = place} f c) =
-      rw (f .sender-fits, f .hosts-fit, f .domain-fits, f .room) (by-refusal number place (checkTable table) _ (checked-is c))
+      rw (f .sender-fits, f .hosts-fit, f .domain-fits, f .room) (by-refusal number place (checkTable table) _ (table-answers-is c))
   answers-is (decides {es = es} f h e) =
       rw (f .sender-fits, f .hosts-fit, f .domain-fits, f .room, ← entries-complete (e .entries), ← table-is table)
-      (by-acceptance _ (checkTable table) _ (checked-is (whole h e)))
+      (by-acceptance _ (checkTable table) _ (table-answers-is (whole h e)))

@@ -4,7 +4,7 @@ use Prim.Native.Nat.{ℕ, zero, suc, _+_, _≤_, _<_}
 use mathlib.Core.Path.{_≡_, refl, sym, ap, subst, _∙_}
 use mathlib.Core.List.{List, [], _∷_, _++_, append-nil, append-assoc}
 use mathlib.Core.Bool.{Bool, true, false, cond}
-use mathlib.Core.Logic.{_⊎_, inl, inr, _↔_}
+use mathlib.Core.Logic.{_⊎_, inl, inr}
 use native.Mathlib.Omega.{arith}
 use native.Mathlib.Decide.{decLt}
 use native.Mathlib.Nat.{add-zero, zero-add}
@@ -15,13 +15,13 @@ use borrow.Author.Tests.{ltb-true, ltb-false, eqb-true, eqb-false, lt-ltb, le-lt
 use Rattle.text.proofs.Laws.Tests.{cond-elim}
 use Rattle.table.specs.Layout.{Entry, Encodes, Entries, none, more, holds, distinct}
 use Rattle.table.specs.Numbers.{Report, accepted, refused, byte, reported}
-use Rattle.table.specs.Answers.{most-bytes, most-entries, Encoded, Ill, TableAnswers, too-long, malformed, repeated, whole}
+use Rattle.table.specs.Answers.{most-entries, Encoded, Ill, TableAnswers, too-long, malformed, repeated, whole}
 use Rattle.table.specs.Reader.{headerOf, isWell, nameOf, entryOf, findAt, isFound, stepAfter, stepAt, checkAfter, checkFrom, checkTable}
 use Rattle.table.specs.declared.entries.Header.{Header}
 use Rattle.table.specs.declared.entries.Header.the-variants.{Whole, Broken}
 use Rattle.table.specs.declared.Step.{Step}
 use Rattle.table.specs.declared.TableAnswer.{TableAnswer}
-use Rattle.table.specs.declared.TableAnswer.the-variants.{Accepted, TooLong, Malformed, Repeated}
+use Rattle.table.specs.declared.TableAnswer.the-variants.{Accepted, Malformed, Repeated}
 use Rattle.table.proofs.Laws.Encoding.{header-facts, well-sound, well-complete}
 use Rattle.table.proofs.Laws.Entries.{entries-snoc, distinct-snoc, distinct-before}
 use Rattle.table.proofs.Laws.Finding.{found-iff}
@@ -141,9 +141,10 @@ module _ (t : List ℕ) (short : length t ≤ 65535) where
           (cut ∙ ap (λ (u : List ℕ). take i t ++ u) (sym (take-append-drop (r .0) (drop i t)))) p (omega arith) (r .1 .encodes)
           (sym (found-iff (p .entries) (r .1 .it .kind) (r .1 .it .name)) ∙ r .1 .before))
 
-pub checked : (t : List ℕ) → TableAnswers t (reported (checkTable t))
+-- the check's answer is the one that the productions give
+pub table-answers : (t : List ℕ) → TableAnswers t (reported (checkTable t))
 unfolding checkTable distinct
-checked t =
+table-answers t =
     cond-elim (λ (a : TableAnswer). TableAnswers t (reported a)) (ltb 65535 (length t)) (λ a. too-long (ltb-true 65535 (length t) a))
     (λ a. sound-from t (ltb-false 65535 (length t) a) (suc (length t)) 0 0 [] (omega arith) (omega arith) (record { entries = none; few = omega arith; once = refl }) refl)
 
@@ -214,10 +215,11 @@ ill-step t i ill = by (stepAt t i) (step-right t i)
     by Step.Malformed r = refl
     by Step.Repeated r = absurd (never (r .0) true (r .1))
 
-pub checked-is : {t : List ℕ} {a : Report} → TableAnswers t a → a ≡ reported (checkTable t)
+-- the productions give no other answer: they determine it
+pub table-answers-is : {t : List ℕ} {a : Report} → TableAnswers t a → a ≡ reported (checkTable t)
 unfolding checkTable
-checked-is {t} (too-long h) = simp (lt-ltb 65535 (length t) h)
-checked-is {t} (malformed front rest {es = es} short q p some o) =
+table-answers-is {t} (too-long h) = simp (lt-ltb 65535 (length t) h)
+table-answers-is {t} (malformed front rest {es = es} short q p some o) =
     let c = comes-to p t rest q short in
     let here : length front < length t = omega (arith, ap length q, length-append front rest) in
     let at-front : drop (length front) t ≡ rest = ap (drop (length front)) q ∙ drop-append-seam front rest in
@@ -230,50 +232,16 @@ checked-is {t} (malformed front rest {es = es} short q p some o) =
     by f here bad o (no l) = check-full f t (length front) (length es) here (omega (arith, p .few))
     by f here bad (inl n) (yes l) = absurd (omega arith)
     by f here bad (inr ill) (yes l) = bad (λ n. omega arith) ill
-checked-is {t} (repeated front w rest {es = es} {e = e} short q p few x h) =
+table-answers-is {t} (repeated front w rest {es = es} {e = e} short q p few x h) =
     let c = comes-to p t (w ++ rest) q short in
     let s = well-complete x rest .some in
     let here : length front < length t = omega (arith, ap length q, length-append front (w ++ rest), length-append w rest) in
     let old = step-old x front rest (found-iff (p .entries) (e .kind) (e .name) ∙ h) in
     let o : stepAt t (length front) ≡ Step.Repeated = ap (λ (u : List ℕ). stepAt u (length front)) q ∙ old in
     ap reported (sym (c .1 ∙ check-again (c .0) t (length front) (length es) here (omega arith) o))
-checked-is {t} (whole {es = es} short p) =
+table-answers-is {t} (whole {es = es} short p) =
     let c = comes-to p t [] (sym (append-nil t)) short in
     ap reported (sym (c .1 ∙ check-end (suc (c .0)) t (length t) (length es) (omega arith)))
-
--- the productions give one answer
-pub checked-one : {t : List ℕ} {a b : Report} → TableAnswers t a → TableAnswers t b → a ≡ b
-checked-one p q = checked-is p ∙ sym (checked-is q)
-
--- accepted: at most 65,535 bytes that encode at most 512 well-formed entries without a repeated pair
-abbrev Holding : List ℕ → Report → Type 0
-Holding t (accepted n) = (length t ≤ most-bytes) × ((es : List Entry) × (Encoded t es × (length es ≡ n)))
-Holding t (refused n place) = Unit {0}
-
-holding : {t : List ℕ} {a : Report} → TableAnswers t a → Holding t a
-holding (too-long h) = tt
-holding (malformed front rest short q p some o) = tt
-holding (repeated front w rest short q p few x h) = tt
-holding (whole {es = es} short p) = (short, (es, (p, refl)))
-
-pub accepted-count : (t : List ℕ) (n : ℕ)
-    → (checkTable t ≡ Accepted n) ↔ ((length t ≤ most-bytes) × ((es : List Entry) × (Encoded t es × (length es ≡ n))))
-accepted-count t n = ((λ e. subst (λ (a : TableAnswer). Holding t (reported a)) e (holding (checked t))), (λ h. back h))
-  where
-    of : (a : TableAnswer) → accepted n ≡ reported a → a ≡ Accepted n
-    of (Accepted m) e = cc
-    of TooLong e = let z : _≡_ {A = ℕ} 0 1 = cc in cc
-    of (Malformed p) e = let z : _≡_ {A = ℕ} 0 1 = cc in cc
-    of (Repeated p) e = let z : _≡_ {A = ℕ} 0 1 = cc in cc
-
-    back : (length t ≤ most-bytes) × ((es : List Entry) × (Encoded t es × (length es ≡ n))) → checkTable t ≡ Accepted n
-    back h = of (checkTable t) (sym (ap accepted (h .1 .1 .1)) ∙ checked-is (whole (h .0) (h .1 .1 .0)))
-
-pub accepted-iff : (t : List ℕ) → ((n : ℕ) × (checkTable t ≡ Accepted n)) ↔ ((length t ≤ most-bytes) × ((es : List Entry) × Encoded t es))
-accepted-iff t = (
-  (λ h. let r = accepted-count t (h .0) .0 (h .1) in (r .0, (r .1 .0, r .1 .1 .0))),
-  (λ h. (length (h .1 .0), accepted-count t (length (h .1 .0)) .1 (h .0, (h .1 .0, (h .1 .1, refl))))),
-)
 
 -- what a whole entry leaves to go on with
 pub step-next : (t : List ℕ) (i next : ℕ) → stepAt t i ≡ Step.Next next → (i < next) × (next ≤ length t)

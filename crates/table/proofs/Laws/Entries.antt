@@ -46,6 +46,7 @@ pub entries-complete : {t : List ℕ} {es : List Entry} → Entries t es → ent
 unfolding entriesOf
 entries-complete {t} p = entries-read p (length t) (omega arith)
 
+-- bytes encode one list of entries at most, which tells a reader that an accepted table has its entries and no others
 pub entries-one : {t : List ℕ} {es fs : List Entry} → Entries t es → Entries t fs → es ≡ fs
 entries-one p q = sym (entries-complete p) ∙ entries-complete q
 

@@ -198,10 +198,7 @@ items-complete {kind} (more {n = n} {d = d} {rest = rest} {ds = ds} t i r) =
       of-more s p ∙ simp (read-first n d rest t, read-others n d rest t, q .1),
     )
 
--- two lists that the same bytes encode
-pub items-one : {kind : ℕ} {s : List ℕ} {ds es : List (List ℕ)} → Items kind s ds → Items kind s es → ds ≡ es
-items-one p q = sym (items-complete p .1) ∙ items-complete q .1
-
+-- each of them is an item of the kind
 pub items-each : {kind : ℕ} {s : List ℕ} {ds : List (List ℕ)} → Items kind s ds → all (isItem kind) ds ≡ true
 unfolding all
 items-each none = refl

@@ -1,18 +1,18 @@
 -- The reader's steps as the code makes them: one rule for each way out of a function of src/items.rt and src/entries.rt. A part `&s[i..]`
 -- stands as `take (length s - i) (drop i s)`.
 use Prim.Native.Nat.{ℕ, _+_, _-_, _≤_, _<_}
-use mathlib.Core.Path.{_≡_, refl, sym, ap, _∙_}
-use mathlib.Core.List.{List, []}
+use mathlib.Core.Path.{_≡_, sym, ap, _∙_}
+use mathlib.Core.List.{List}
 use mathlib.Core.Bool.{Bool, true, false, _&&_}
 use native.Mathlib.Omega.{arith}
 use native.Mathlib.Nat.{add-sub-cancel-left}
 use lib.Dec.{ltb, eqb}
 use lib.ListN.{length, take, drop, length-drop, drop-of-length-le}
-use lib.Seq.{take-all, take-nil, drop-drop}
+use lib.Seq.{drop-drop}
 use borrow.Author.Tests.{lt-ltb, le-ltb, le-leb, eq-eqb, ne-eqb}
-use Rattle.text.specs.Bytes.{at}
+use Rattle.text.specs.Bytes.{at, part}
 use Rattle.text.specs.Lists.{same}
-use Rattle.text.proofs.Laws.Spans.{rest-part, drop-past}
+use Rattle.text.proofs.Laws.Spans.{rest-part}
 use Rattle.domain.specs.Names.{isTableName}
 use Rattle.table.specs.Layout.{isKind, isStatus, isMailExchange, isItem}
 use Rattle.table.specs.Reader.{number, firstItem, otherItems, nextItem, itemsFit, headerOf, nameOf, itemBytes, isWell}
@@ -20,39 +20,20 @@ use Rattle.table.specs.declared.entries.Header.{Header}
 use Rattle.table.specs.declared.entries.Header.the-variants.{Whole, Broken}
 use Rattle.table.proofs.Laws.Items.{fit-of, fit-empty}
 
--- `is_mail_exchange`, `host`
-module _ (s : List ℕ) where
-  pub mail-host : (length s ≡ 2 → ⊥) → 2 ≤ length s → (r : Bool) → r ≡ isTableName (take (length s - 2) (drop 2 s)) → r ≡ isMailExchange s
-  unfolding isMailExchange
-  mail-host h k r e = e ∙ simp (ne-eqb (length s) 2 h, le-leb 2 (length s) k, rest-part)
-
-  pub host-none : length s < 2 → [] ≡ drop 2 s
-  host-none h = sym (drop-past s 2 h)
+-- `is_mail_exchange`
+pub mail-host : (s : List ℕ) → (length s ≡ 2 → ⊥) → 2 ≤ length s → (r : Bool) → r ≡ isTableName (take (length s - 2) (drop 2 s)) → r ≡ isMailExchange s
+unfolding isMailExchange
+mail-host s h k r e = e ∙ simp (ne-eqb (length s) 2 h, le-leb 2 (length s) k, rest-part)
 
 -- `item`
-module _ (s : List ℕ) (i : ℕ) where
-  pub item-past : length s < i → [] ≡ firstItem (drop i s)
-  unfolding firstItem number
-  item-past h = simp (drop-past s i h)
+item-whole : (s : List ℕ) (i m : ℕ) → m ≡ number (take (length s - i) (drop i s))
+    → take (2 + m - 2) (drop 2 (take (length s - i) (drop i s))) ≡ firstItem (drop i s)
+unfolding firstItem
+item-whole s i m e = simp (add-sub-cancel-left, e, rest-part)
 
-  pub item-less : length (take (length s - i) (drop i s)) < 2 → [] ≡ firstItem (drop i s)
-  unfolding firstItem
-  item-less h =
-      let d : length (drop i s) < 2 = rw rest-part at h in
-      simp (drop-past (drop i s) 2 d, take-nil)
-
-  module _ (m : ℕ) (e : m ≡ number (take (length s - i) (drop i s))) where
-    pub item-short : length (take (length s - i) (drop i s)) - 2 < m
-        → take (length (take (length s - i) (drop i s)) - 2) (drop 2 (take (length s - i) (drop i s))) ≡ firstItem (drop i s)
-    unfolding firstItem
-    item-short h =
-        let f : m ≡ number (drop i s) = rw rest-part at e in
-        let k : length (drop i s) - 2 < m = rw rest-part at h in
-        rw (rest-part, rest-part) (sym (take-all (number (drop i s)) (drop 2 (drop i s)) (rw (length-drop 2 (drop i s), ← f) (omega arith))))
-
-    pub item-whole : take (2 + m - 2) (drop 2 (take (length s - i) (drop i s))) ≡ firstItem (drop i s)
-    unfolding firstItem
-    item-whole = simp (add-sub-cancel-left, e, rest-part)
+pub item-read : (s : List ℕ) (i : ℕ) (rest : List ℕ) → rest ≡ part s i (length s) → (m : ℕ) → m ≡ number rest → (r : List ℕ) → r ≡ part rest 2 (2 + m)
+    → r ≡ firstItem (drop i s)
+item-read s i rest p m e r q = q ∙ rw p (item-whole s i m (rw p at e))
 
 -- `next_item`
 module _ (s : List ℕ) (i : ℕ) (h : i < length s) (m : ℕ) (e : m ≡ number (take (length s - i) (drop i s))) where
@@ -115,35 +96,9 @@ module _ (s : List ℕ) (h : 6 ≤ length s) (m : ℕ) (e : m ≡ number s) wher
         simp (le-ltb (length s) 6 h, le-ltb (length s) (2 + number s) (rw e at k), le-ltb (2 + number s) (6 + at s 5) (rw e at l), e, f, rest-part)
 
 -- `name_of`
-module _ (s : List ℕ) (n : ℕ) where
-  pub name-none : length s < 6 → [] ≡ nameOf s n
-  unfolding nameOf
-  name-none h = simp (drop-past s 6 h, take-nil)
-
-  pub name-short : length s < 6 + n → take (length s - 6) (drop 6 s) ≡ nameOf s n
-  unfolding nameOf
-  name-short h = rest-part s 6 ∙ sym (take-all n (drop 6 s) (simp length-drop (omega arith)))
-
-  pub name-whole : take (6 + n - 6) (drop 6 s) ≡ nameOf s n
-  unfolding nameOf
-  name-whole = simp add-sub-cancel-left
-
-  -- `item_bytes`
-  pub bytes-none : length s < 6 + n → (size : ℕ) → [] ≡ itemBytes s n size
-  unfolding itemBytes
-  bytes-none h size = simp (drop-past s (6 + n) h, take-nil)
-
-  pub bytes-less : (size : ℕ) → size < 6 + n → [] ≡ itemBytes s n size
-  unfolding itemBytes
-  bytes-less size h = let e : size - (6 + n) ≡ 0 = omega arith in simp e
-
-  pub bytes-short : (size : ℕ) → length s < size → take (length s - (6 + n)) (drop (6 + n) s) ≡ itemBytes s n size
-  unfolding itemBytes
-  bytes-short size h = rest-part s (6 + n) ∙ sym (take-all (size - (6 + n)) (drop (6 + n) s) (simp length-drop (omega arith)))
-
-  pub bytes-whole : (size : ℕ) → take (size - (6 + n)) (drop (6 + n) s) ≡ itemBytes s n size
-  unfolding itemBytes
-  bytes-whole size = refl
+pub name-read : (s : List ℕ) (n : ℕ) (r : List ℕ) → r ≡ part s 6 (6 + n) → r ≡ nameOf s n
+unfolding nameOf
+name-read s n r e = e ∙ simp add-sub-cancel-left
 
 -- `is_pair`
 module _ (s : List ℕ) (n k kind : ℕ) (name : List ℕ) where

@@ -1,5 +1,5 @@
 -- One rule for each way out of `find`, `found_items`, `step_at` and `check_table`: its premises are what the code knows there. From the
--- definitions of the reader, header-facts (Encoding), `finds` and `checked`.
+-- definitions of the reader, header-facts (Encoding), `finds` and `table-answers`.
 use Prim.Native.Nat.{ℕ, zero, suc, _+_, _-_, _*_, _^_, _≤_, _<_}
 use mathlib.Core.Path.{_≡_, refl, sym, ap, _∙_}
 use mathlib.Core.List.{List, []}
@@ -24,7 +24,7 @@ use Rattle.table.specs.declared.TableAnswer.{TableAnswer}
 use Rattle.table.specs.declared.TableAnswer.the-variants.{Accepted, TooLong, Malformed, Repeated}
 use Rattle.table.proofs.Laws.Encoding.{header-facts}
 use Rattle.table.proofs.Laws.Finding.{finds}
-use Rattle.table.proofs.Laws.Checks.{checked, check-end, check-full, check-next, check-bad, check-again, step-next}
+use Rattle.table.proofs.Laws.Checks.{table-answers, check-end, check-full, check-next, check-bad, check-again, step-next}
 
 -- `find`: what it answers is what looking up says
 pub find-right : (t : List ℕ) (kind : ℕ) (name : List ℕ) (r : Found) → r ≡ findAt t kind name → Finds t (lookup kind name (entriesOf t)) r
@@ -163,7 +163,7 @@ module _ (t : List ℕ) (i : ℕ) (h : Header) (p : h ≡ headerOf (take (length
 
 -- `check_table`: what it answers is what the productions say
 pub check-right : (t : List ℕ) (r : TableAnswer) → r ≡ checkTable t → TableAnswers t (reported r)
-check-right t r e = rw e (checked t)
+check-right t r e = rw e (table-answers t)
 
 pub check-long : (t : List ℕ) → 65535 < length t → TooLong ≡ checkTable t
 unfolding checkTable

@@ -1,35 +1,15 @@
--- `host` is what follows the preference.
+-- `host` is what follows the first two bytes, if there are so many.
 use Rattle.text.proofs.Laws.Spans.{rest-part}
-use Rattle.table.proofs.Laws.Reading.{host-none}
+use mathlib.Core.Path.{_∙_}
 use borrow.Author.Needs.{needs}
 use Rattle.table.proofs.items.host.Statement.{statement}
 use Rattle.table.proofs.items.host.Tie as tie
 
-slice-aggregate-result : tie.Need-slice-aggregate-result
-slice-aggregate-result c = search needs
+part-requires : tie.Need-part-requires
+part-requires c κs = search needs
 
 returns : tie.Need-returns
-returns c = search host-none
-
-sub-result : tie.Need-sub-result
-sub-result c = search needs
-
-part-result-start : tie.Need-part-result-start
-part-result-start c = search needs
-
-part-result-end : tie.Need-part-result-end
-part-result-end c = search needs
-
-returns-2 : tie.Need-returns-2
-returns-2 c = search rest-part
+returns c = c .part .ensures ∙ rest-part (c .before .before .args .item .now) 2
 
 pub host-spec : {M : Type 1} → statement M
-host-spec =
-    tie.close
-    (tie.spec
-    slice-aggregate-result
-    returns
-    sub-result
-    part-result-start
-    part-result-end
-    returns-2)
+host-spec = tie.close (tie.spec part-requires returns)
