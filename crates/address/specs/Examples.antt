@@ -1,10 +1,10 @@
 -- 01's cases: 192.0.2.129 against 192.0.2.0 matches at /24 and doesn't at /25.
 use mathlib.Core.Path.{_≡_, refl}
-use mathlib.Core.List.{List, [], _∷_}
+use mathlib.Core.List.{[], _∷_}
 use mathlib.Core.Bool.{true, false}
 use Rattle.text.specs.Lists.{same}
 use Rattle.address.specs.declared.Address.{Address}
-use Rattle.address.specs.declared.Address.the-variants.{IPv4, IPv6}
+use Rattle.address.specs.declared.Address.the-variants.{IPv4}
 use Rattle.address.specs.Octets.{octetsOf, octets}
 use Rattle.address.specs.Matching.{bitsOf, bits, agree, matchesAt}
 

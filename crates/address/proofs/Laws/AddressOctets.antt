@@ -1,19 +1,19 @@
 -- An address and its octets, one from the other. Assumes nothing.
 use Prim.Native.Nat.{ℕ, _-_, _^_, _<_}
-use mathlib.Core.Path.{_≡_, sym, ap, subst, _∙_}
+use mathlib.Core.Path.{_≡_, ap, subst, _∙_}
 use mathlib.Core.List.{List, _++_}
 use native.Mathlib.Omega.{arith}
 use lib.ListN.{length, getD, take, drop, length-append, length-take, length-drop, take-append-drop}
-use lib.Seq.{take-at, drop-at, take-all}
 use lib.Dec.{eqb}
 use borrow.Author.Tests.{eqb-true}
 use Rattle.text.proofs.Laws.Tests.{cond-elim}
+use Rattle.text.proofs.Laws.Spans.{rest-part}
 use Rattle.address.specs.declared.Address.{Address}
 use Rattle.address.specs.declared.Address.the-variants.{IPv4, IPv6}
 use Rattle.address.specs.declared.FromOctets.{FromOctets}
 use Rattle.address.specs.declared.FromOctets.the-variants.{Is, NoAddress}
 use Rattle.address.specs.Octets.{octetsOf, octets, valueOf, fromOctets}
-use Rattle.address.proofs.Laws.OctetValues.{length-octetsOf, octets-value, octets-injective, bytes-take, bytes-drop}
+use Rattle.address.proofs.Laws.OctetValues.{length-octetsOf, octets-value, octets-injective, octets-first, bytes-take, bytes-drop}
 
 -- the numbers of an address as its types hold them
 abbrev pub InRange : Address → Type 0
@@ -53,18 +53,18 @@ module _ (s : List ℕ) (h : (i : ℕ) → getD s i 0 < 256) where
       cond-elim (OctetsOf s) (eqb (length s) 4) (λ e. from-four (eqb-true _ _ e))
       (λ _. cond-elim (OctetsOf s) (eqb (length s) 16) (λ e. from-sixteen (eqb-true _ _ e)) (λ _. tt))
 
+  -- the address that octets are has those octets: this tells a reader what `from_octets` answers, without numbers
   pub octets-from : (a : Address) → fromOctets s ≡ Is a → octets a ≡ s
   octets-from a e = subst (OctetsOf s) e from-right
 
--- an address in range is the only one of its octets
+-- an address in range is the only one of its octets: this tells a reader that "an address is its octets" is no loss
 pub octets-one : (a b : Address) → InRange a → InRange b → octets a ≡ octets b → a ≡ b
 unfolding octets
 octets-one (IPv4 v) (IPv4 w) p q e = ap IPv4 (octets-injective 4 v w p q e)
 octets-one (IPv6 h l) (IPv6 i m) p q e =
-    let high = sym (take-at (octetsOf 8 h) (octetsOf 8 l) 8 (length-octetsOf 8 h)) ∙ ap (take 8) e ∙ take-at (octetsOf 8 i) (octetsOf 8 m) 8 (length-octetsOf 8 i) in
-    let low = sym (drop-at (octetsOf 8 h) (octetsOf 8 l) 8 (length-octetsOf 8 h)) ∙ ap (drop 8) e ∙ drop-at (octetsOf 8 i) (octetsOf 8 m) 8 (length-octetsOf 8 i) in
-    let first : h ≡ i = octets-injective 8 h i (p .0) (q .0) high in
-    let second : l ≡ m = octets-injective 8 l m (p .1) (q .1) low in
+    let f = octets-first 8 h i (p .0) (q .0) (octetsOf 8 l) (octetsOf 8 m) e in
+    let first : h ≡ i = f .0 in
+    let second : l ≡ m = octets-injective 8 l m (p .1) (q .1) (f .1) in
     cc
 octets-one (IPv4 v) (IPv6 i m) p q e = absurd (omega (arith, length-four v, length-sixteen i m, ap length e))
 octets-one (IPv6 h l) (IPv4 w) p q e = absurd (omega (arith, length-four w, length-sixteen h l, ap length e))
@@ -73,6 +73,4 @@ octets-one (IPv6 h l) (IPv4 w) p q e = absurd (omega (arith, length-four w, leng
 pub from-halves : (s : List ℕ) (high low : ℕ) → length s ≡ 16 → high ≡ valueOf (take 8 s) → low ≡ valueOf (take (length s - 8) (drop 8 s))
     → Is (IPv6 high low) ≡ fromOctets s
 unfolding fromOctets
-from-halves s high low e p q =
-    let all : take (length s - 8) (drop 8 s) ≡ drop 8 s = take-all (length s - 8) (drop 8 s) (omega (arith, length-drop 8 s)) in
-    simp (e, p, q ∙ ap valueOf all)
+from-halves s high low e p q = simp (e, p, q ∙ ap valueOf (rest-part s 8))

@@ -2,7 +2,7 @@
 use Prim.Native.Nat.{ℕ, _+_, _-_, _*_, _/_, _%_, _^_, _≤_, _<_}
 use mathlib.Core.Path.{_≡_, refl, sym, ap, _∙_}
 use mathlib.Core.List.{List, [], _∷_, _++_}
-use mathlib.Core.Bool.{Bool, true, false, _&&_}
+use mathlib.Core.Bool.{true, false, _&&_}
 use mathlib.Core.Logic.{_↔_}
 use native.Mathlib.Omega.{arith}
 use native.Mathlib.Numerals.{add-one, unary-clauses}
@@ -148,18 +148,3 @@ module _ (a b : List ℕ) (n i : ℕ) (p : Compared a b n i) where
         let e : i ≡ n / 8 = omega arith in
         let r : n - 8 * i ≡ n % 8 = omega arith in
         rw (← e, ← r) (agree-part (getD a i 0) (getD b i 0) (drop (i + 1) a) (drop (i + 1) b) (n - 8 * i) (omega arith) (rw e hx) (rw e hy) ∙ next-octet (omega arith) (omega arith))
-
--- lists without the octet that is partly compared
-module _ (a b : List ℕ) (n : ℕ) where
-  pub short-first : length a < n / 8 → false ≡ agree a b n
-  short-first h = agree-over-first a b n (omega arith)
-
-  pub short-second : length b < n / 8 → false ≡ agree a b n
-  short-second h = agree-over-second a b n (omega arith)
-
-  module _ (part : n % 8 ≡ 0 → ⊥) where
-    pub whole-first : length a ≡ n / 8 → false ≡ agree a b n
-    whole-first h = agree-over-first a b n (omega arith)
-
-    pub whole-second : length b ≡ n / 8 → false ≡ agree a b n
-    whole-second h = agree-over-second a b n (omega arith)

@@ -15,7 +15,7 @@ use Rattle.text.proofs.Laws.Words.{same-true, same-refl}
 use Rattle.address.specs.declared.Address.{Address}
 use Rattle.address.specs.declared.Address.the-variants.{IPv4, IPv6}
 use Rattle.address.specs.Octets.{octetsOf, octets, mappedPrefix, clientOctets, asClient}
-use Rattle.address.proofs.Laws.OctetValues.{length-octetsOf, octets-split, octets-add, octets-injective}
+use Rattle.address.proofs.Laws.OctetValues.{length-octetsOf, octets-split, octets-add, octets-injective, octets-first}
 use Rattle.address.proofs.Laws.AddressOctets.{InRange, length-four, length-sixteen}
 
 -- the octets of an IPv6 address, cut before the last four
@@ -53,10 +53,8 @@ mapped-test high low hh hl =
     same-tests _ _
     (λ h.
     let e : octetsOf 8 high ++ octetsOf 4 (low / 4294967296) ≡ octetsOf 8 0 ++ octetsOf 4 65535 = sym (first-twelve high low) ∙ same-true _ _ h ∙ prefix-octets in
-    let front = sym (take-at (octetsOf 8 high) _ 8 (length-octetsOf 8 high)) ∙ ap (take 8) e ∙ take-at (octetsOf 8 0) _ 8 (length-octetsOf 8 0) in
-    let back = sym (drop-at (octetsOf 8 high) _ 8 (length-octetsOf 8 high)) ∙ ap (drop 8) e ∙ drop-at (octetsOf 8 0) _ 8 (length-octetsOf 8 0) in
-    and-both t u (eq-eqb _ _ (octets-injective 8 high 0 hh (omega arith) front))
-    (eq-eqb _ _ (octets-injective 4 (low / 4294967296) 65535 (omega arith) (omega arith) back)))
+    let f = octets-first 8 high 0 hh (omega arith) (octetsOf 4 (low / 4294967296)) (octetsOf 4 65535) e in
+    and-both t u (eq-eqb _ _ (f .0)) (eq-eqb _ _ (octets-injective 4 (low / 4294967296) 65535 (omega arith) (omega arith) (f .1))))
     (λ h.
     let first : high ≡ 0 = eqb-true _ _ (and-left t u h) in
     let second : low / 4294967296 ≡ 65535 = eqb-true _ _ (and-right t u h) in

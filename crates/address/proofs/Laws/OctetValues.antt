@@ -6,7 +6,7 @@ use native.Mathlib.Omega.{arith}
 use native.Mathlib.Numerals.{add-one, one-add}
 use native.Mathlib.Nat.{add-zero, add-suc, mul-assoc, div-one, pow-zero, pow-suc, pow-succ', div-lt-iff-lt-mul, div-div-eq-div-mul, pow-le-pow-right, lt-of-lt-of-le, mul-add-div-right, mul-add-mod-self-right}
 use lib.ListN.{length, getD, take, drop, length-append}
-use lib.Seq.{getD-drop, take-suc, take-all}
+use lib.Seq.{getD-drop, take-suc, take-all, take-at, drop-at}
 use Rattle.address.specs.Octets.{octetsOf, valueFrom, valueOf}
 
 pub length-octetsOf : (n v : ℕ) → length (octetsOf n v) ≡ n
@@ -74,6 +74,13 @@ bytes-drop n s h i = rw (getD-drop n s i 0) (h (n + i))
 -- two numbers in range with the same octets are the same
 pub octets-injective : (n v w : ℕ) → v < 256 ^ n → w < 256 ^ n → octetsOf n v ≡ octetsOf n w → v ≡ w
 octets-injective n v w hv hw e = sym (value-octets n v hv) ∙ ap valueOf e ∙ value-octets n w hw
+
+-- and so are what follows them
+pub octets-first : (n v w : ℕ) → v < 256 ^ n → w < 256 ^ n → (s t : List ℕ) → octetsOf n v ++ s ≡ octetsOf n w ++ t → (v ≡ w) × (s ≡ t)
+octets-first n v w hv hw s t e = (
+  octets-injective n v w hv hw (sym (take-at (octetsOf n v) s n (length-octetsOf n v)) ∙ ap (take n) e ∙ take-at (octetsOf n w) t n (length-octetsOf n w)),
+  sym (drop-at (octetsOf n v) s n (length-octetsOf n v)) ∙ ap (drop n) e ∙ drop-at (octetsOf n w) t n (length-octetsOf n w),
+)
 
 -- the rules of the loop of `value8`
 pub record Valued (s : List ℕ) (v i : ℕ) : Type 0 where

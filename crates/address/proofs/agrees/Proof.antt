@@ -2,7 +2,7 @@
 use Prim.Native.Nat.{_-_, _/_}
 use native.Mathlib.Omega.{arith}
 use borrow.Author.Needs.{needs}
-use Rattle.address.proofs.Laws.Agreement.{Compared, compared-none, compared-more, compared-differs, compared-whole, compared-part, short-first, short-second, whole-first, whole-second}
+use Rattle.address.proofs.Laws.Agreement.{Compared, compared-none, compared-more, compared-differs, compared-whole, compared-part, agree-over-first, agree-over-second}
 use Rattle.address.proofs.agrees.Statement.{statement}
 use Rattle.address.proofs.agrees.Tie as tie
 
@@ -13,10 +13,10 @@ abbrev μ-loop : tie.MeasureT-loop
 μ-loop a b n whole part i₀ i = whole - i
 
 returns : tie.Need-returns Inv-loop μ-loop
-returns c = search short-first
+returns c = agree-over-first _ _ _ (omega arith)
 
 returns-2 : tie.Need-returns-2 Inv-loop μ-loop
-returns-2 c = search short-second
+returns-2 c = agree-over-second _ _ _ (omega arith)
 
 loop-holds : tie.Need-loop-holds Inv-loop μ-loop
 loop-holds c = search compared-none
@@ -52,10 +52,10 @@ returns-4 : tie.Need-returns-4 Inv-loop μ-loop
 returns-4 c = search compared-whole
 
 returns-5 : tie.Need-returns-5 Inv-loop μ-loop
-returns-5 c = search whole-first
+returns-5 c = agree-over-first _ _ _ (omega arith)
 
 returns-6 : tie.Need-returns-6 Inv-loop μ-loop
-returns-6 c = search whole-second
+returns-6 c = agree-over-second _ _ _ (omega arith)
 
 sub-unused : tie.Need-sub-unused Inv-loop μ-loop
 sub-unused c = omega arith
