@@ -1,4 +1,5 @@
--- The sender strong-bad@email.example.com and the current domain email.example.com, each text as a domain-spec: the first three cases are 01's.
+-- The sender strong-bad@email.example.com and the current domain email.example.com, each text as a domain-spec: 01's three cases, an absent local
+-- part, and refusals.
 use Prim.Native.Nat.{ℕ}
 use mathlib.Core.Path.{_≡_, refl}
 use mathlib.Core.List.{List}
@@ -26,10 +27,13 @@ abbrev pub strongBad : Given
 strongBad = from (bytes "strong-bad@email.example.com")
 
 pub record Cases : Type 0 where
+  -- `%{lr-}` bad.strong; `%{l1r-}` strong; `%{d2r}` example.email
   pub reversed-at-dash : outcome DomainSpec (bytes "%{lr-}") strongBad 500 ≡ expanded (bytes "bad.strong")
   pub one-kept : outcome DomainSpec (bytes "%{l1r-}") strongBad 500 ≡ expanded (bytes "strong")
   pub two-kept : outcome DomainSpec (bytes "%{d2r}") strongBad 500 ≡ expanded (bytes "example.email")
+  -- "An absent or empty local part is `postmaster`, in s too."
   pub absent-local : outcome DomainSpec (bytes "%{s}") (from (bytes "email.example.com")) 500 ≡ expanded (bytes "postmaster@email.example.com")
+  -- 41: the 13 bytes of `example.email` don't fit 12; 40: a value of 0; 20 comes before 40
   pub no-room : outcome DomainSpec (bytes "%{d2r}") strongBad 12 ≡ refused 41
   pub zero-digits : outcome DomainSpec (bytes "%{d0}") strongBad 500 ≡ refused 40
   pub empty-sender : outcome DomainSpec (bytes "%{d0}") (from (bytes "")) 500 ≡ refused 20

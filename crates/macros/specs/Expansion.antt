@@ -75,8 +75,7 @@ abbrev pub letters : (s l o d i p v h c r t : List ℕ) → Letters
 letters s l o d i p v h c r t = record { s = s; l = l; o = o; d = d; i = i; p = p; v = v; h = h; c = c; r = r; t = t }
 
 -- "s sender, l local part, o sender's domain, d current domain, i address .., p below, v `in-addr` or `ip6`, h HELO, c address .., r receiver ..,
--- t seconds in decimal"; "IPv4-mapped clients count as IPv4, in expansion too"; "the public expansion takes the
--- domain as given"
+-- t seconds in decimal"; "IPv4-mapped clients count as IPv4, in expansion too"; "the public expansion takes the domain as given"
 unfoldable pub lettersOf : Given → Letters
 lettersOf g = record {
   s = localPart (g .sender) ++ (64 ∷ senderDomain (g .sender));
@@ -121,7 +120,7 @@ laterValue p v h c r t b =
 unfoldable pub escapeText : ℕ → List ℕ
 escapeText b = cond (eqb b 37) (bytes "%") (cond (eqb b 95) (bytes " ") (bytes "%20"))
 
--- the text of a piece: an upper-case letter escapes
+-- the text of a piece; "An upper-case letter escapes .."
 unfoldable pub pieceText : Letters → Piece → List ℕ
 pieceText x (literal b) = b ∷ []
 pieceText x (escape b) = escapeText b

@@ -1,9 +1,10 @@
--- Macro strings as productions: RFC 7208 section 7.1, with 01's amendments. Each relates bytes to their pieces. Any split that the ABNF allows
--- is a derivation; nothing of a reader is imported.
-use Prim.Native.Nat.{ℕ, _≤_}
+-- Macro strings as productions: RFC 7208 section 7.1 in the RFC's names, each rule after those that it uses, with 01's amendments, which are quoted.
+-- Each relates bytes to their pieces. Any split that the ABNF allows is a derivation; nothing of a reader is imported. The rules of one byte are
+-- classes of `text`: alphanum is isAlphanumeric, macro-literal isMacroLiteral, delimiter isDelimiter, and alphanum / "-" isToplabelByte.
+use Prim.Native.Nat.{ℕ}
 use mathlib.Core.Path.{_≡_}
 use mathlib.Core.List.{List, [], _∷_, _++_, map}
-use mathlib.Core.Bool.{Bool, true, false, cond, not, _&&_, _||_}
+use mathlib.Core.Bool.{Bool, true, false, _&&_, _||_}
 use lib.ListN.{length}
 use lib.Dec.{leb, eqb}
 use Rattle.text.specs.Bytes.{lower, isAlpha, isDigit, isAlphanumeric, isToplabelByte, isMacroLiteral, isDelimiter}
@@ -33,7 +34,7 @@ isLetter DomainSpec b = contains (bytes "slodipvh") (lower b)
 isLetter ModifierValue b = contains (bytes "slodipvhcrt") (lower b)
 isLetter Explanation b = contains (bytes "slodipvhcrt") (lower b)
 
--- *DIGIT. "Macro digits have a value above 0; leading zeros are allowed."
+-- *DIGIT: "Macro digits have a value above 0; leading zeros are allowed"
 unfoldable pub isCount : List ℕ → Bool
 isCount digits = all isDigit digits && (eqb (length digits) 0 || leb 1 (decimal digits))
 

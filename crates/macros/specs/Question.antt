@@ -1,5 +1,5 @@
--- The question name of an expansion: "over 4,096 bytes is malformed; drop one trailing dot, and no second one later; while over 253 bytes, labels
--- leave from the left, each with its dot, as long as a dot remains"; then lowered, and well-formed or malformed.
+-- The question name of an expansion: "over 4,096 bytes is malformed (house choice); drop one trailing dot, and no second one later; while over 253
+-- bytes, labels leave from the left, each with its dot, as long as a dot remains"; then lowered, and well-formed or malformed.
 use Prim.Native.Nat.{ℕ}
 use mathlib.Core.List.{List}
 use mathlib.Core.Bool.{cond}

@@ -4,9 +4,8 @@ use Prim.Native.Nat.{ℕ, zero, suc, _+_, _-_}
 use mathlib.Core.List.{List, [], _∷_}
 use mathlib.Core.Bool.{Bool, true, false, cond, not, _&&_, _||_}
 use lib.ListN.{length, take, drop}
-use lib.Dec.{leb, ltb, eqb}
+use lib.Dec.{eqb}
 use Rattle.text.specs.Bytes.{at, part, lower, isDot, isAlphanumeric, isDigit, isToplabelByte, isMacroLiteral, isSpace}
-use Rattle.text.specs.Decimal.{decimal}
 use Rattle.text.specs.Lists.{all, split}
 use Rattle.text.specs.Runs.{isIn, runEnd}
 use Rattle.text.specs.declared.bytes.Class.the-variants.{Digit, Delimiter}
@@ -56,7 +55,7 @@ pieceOf form s =
     (cond (isEscape (at s 1)) (Found.Escape (at s 1)) (cond (eqb (at s 1) 123) (bracesOf form s) Found.Bad))
     (cond (isLiteral form (at s 0)) (Found.Literal (at s 0)) Found.Bad))
 
--- what it is in the grammar's words, and how many bytes it takes
+-- a macro in braces in the grammar's words
 unfoldable pub macroOf : List ℕ → Braces → Macro
 macroOf s m =
     record { letter = m .letter; digits = part s 3 (m .digits); reversed = m .reversed; delimiters = part s (m .from) (m .to) }

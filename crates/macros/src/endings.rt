@@ -34,14 +34,11 @@ fn is_toplabel(l: &[u8]) -> bool
 fn last_label(s: &[u8]) -> &[u8]
     ensures { λ r. ⌜ now r ≡ lastLabel (split isDot (now (s .entry))) ⌝ }
 {
-    let mut i = s.len();
-    while 0 < i {
-        if s[i - 1] == 46 {
-            return &s[i..];
-        }
-        i -= 1;
+    let i = bytes::trailing_start(s, Class::NotDot);
+    if i == 0 {
+        return &s[..0];
     }
-    &s[..0]
+    &s[i..]
 }
 
 // Whether a text ends in a dot and a top label, perhaps with one more dot.

@@ -41,7 +41,7 @@ module _ (form : Form) (s : List ℕ) (g : Given) (room : ℕ) where
       (λ b. no-host a b))
       (λ a. no-sender a)
 
-  -- the answer is determined
+  -- for the reader: what the productions say of an answer determines it, so `Answered` is no weaker than the equation with `outcome`
   pub expands-is : {o : Outcome} → Expands form s g room o → o ≡ outcome form s g room
   unfolding outcome fitted
   expands-is (no-sender a) = rw a

@@ -1,6 +1,6 @@
 -- One macro-expand: what the reader finds at the front of a text, the grammar produces, and what it produces, the reader finds, whatever stands
 -- behind it. The digits are a longest run, and r, a delimiter or the brace behind them is no digit; a delimiter or the brace is no r; the
--- delimiters are a longest run, and the brace behind them is no delimiter.
+-- delimiters are a longest run, and the brace behind them is no delimiter. From the laws of runs and of spans.
 use Prim.Native.Nat.{ℕ, suc, _+_, _≤_, _<_}
 use mathlib.Core.Path.{_≡_, refl, sym, ap, subst, _∙_}
 use mathlib.Core.List.{List, [], _∷_, _++_}
@@ -39,7 +39,7 @@ FoundRight form s (Found.Escape b) = Expanded form s 2 (escape b)
 FoundRight form s (Found.Expand m) = Expanded form s (m .to + 1) (expand (macroOf s m))
 FoundRight form s Found.Bad = Unit {0}
 
--- SOUNDNESS
+-- what is found is produced
 letter-zero : (form : Form) → isLetter form 0 ≡ false
 unfolding isLetter lower isUpper within contains
 letter-zero DomainSpec = refl
@@ -109,7 +109,7 @@ escape-sound form s b h0 h1 h =
       inside = let k = nonzero-inside s 1 (λ z. omega arith) in omega arith;
     })
 
-empty-of : (s : List ℕ) → length s ≡ 0 → s ≡ []
+pub empty-of : (s : List ℕ) → length s ≡ 0 → s ≡ []
 empty-of [] h = refl
 empty-of (x ∷ xs) h = absurd (omega arith)
 
@@ -127,7 +127,7 @@ piece-sound form s =
     (λ k. (drop-cons s 0 0 (let q = eqb-false (length s) 0 n in omega arith), k))
     (λ _. tt)))
 
--- COMPLETENESS
+-- what is produced is found
 percent-no-literal : (form : Form) → isLiteral form 37 ≡ false
 unfolding isLiteral isMacroLiteral isSpace within
 percent-no-literal DomainSpec = refl

@@ -1,4 +1,4 @@
--- What the grammar produces is accepted, with exactly these pieces; so a text has one list of pieces.
+-- What the grammar produces is accepted, with exactly these pieces; so a text has one list of pieces. From the laws of strings and of endings.
 use Prim.Native.Nat.{ℕ}
 use mathlib.Core.Path.{_≡_, refl, sym, ap, _∙_}
 use mathlib.Core.List.{List, append-nil}

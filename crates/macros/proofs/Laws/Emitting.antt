@@ -22,7 +22,7 @@ use Rattle.macros.specs.Expansion.{Letters, letters, valueOf, laterValue
 use Rattle.macros.specs.declared.Form.{Form}
 use Rattle.macros.specs.declared.pieces.Braces.{Braces}
 use Rattle.macros.specs.declared.pieces.Found.{Found}
-use Rattle.macros.proofs.Laws.Pieces.{escape-inside, expand-inside, pieces-none, pieces-end, pieces-bad, pieces-literal, pieces-escape, pieces-expand}
+use Rattle.macros.proofs.Laws.Pieces.{found-at, escape-within, expand-within, pieces-none, pieces-end, pieces-bad, pieces-literal, pieces-escape, pieces-expand}
 
 -- `put_escape`
 module _ (b : ℕ) (out : List ℕ) (n : ℕ) (o : List ℕ) (m : ℕ) where
@@ -106,7 +106,7 @@ module _ (x : Letters) (form : Form) (text out : List ℕ) (at : ℕ) where
 
     module _ (here : from < length text) (r : Found) (p : r ≡ pieceOf form (take (length text - from) (drop from text))) where
       found : {y : Found} → r ≡ y → pieceOf form (drop from text) ≡ y
-      found q = ap (pieceOf form) (sym (rest-part text from)) ∙ sym p ∙ q
+      found q = found-at form text from r p q
 
       pub walk-end : r ≡ Found.End → Wrote (textOf x (pieces form text .list)) out at o next
       walk-end q = over true (pieces-end form (drop from text) (found q))
@@ -119,28 +119,22 @@ module _ (x : Letters) (form : Form) (text out : List ℕ) (at : ℕ) where
         unfolding pieceText
         walk-literal q o′ next′ w = step 1 (literal b) (omega arith) (pieces-literal form (drop from text) b (found q)) o′ next′ w
 
-        escape-within : r ≡ Found.Escape b → from + 2 ≤ length text
-        escape-within q = omega (arith, escape-inside form (drop from text) b (found q), length-drop from text)
-
         pub walk-escape : r ≡ Found.Escape b → (o′ : List ℕ) (next′ : ℕ) → Wrote (escapeText b) o next o′ next′ → Walked (from + 2) o′ next′
         unfolding pieceText
-        walk-escape q o′ next′ w = step 2 (escape b) (escape-within q) (pieces-escape form (drop from text) b (found q)) o′ next′ w
+        walk-escape q o′ next′ w = step 2 (escape b) (escape-within form text from r p b q) (pieces-escape form (drop from text) b (found q)) o′ next′ w
 
         pub escape-room : r ≡ Found.Escape b → from + 2 < 2 ^ 64
-        escape-room q = let h = inv .size in let w = escape-within q in omega arith
+        escape-room q = let h = inv .size in let w = escape-within form text from r p b q in omega arith
 
       module _ (m : Braces) (q : r ≡ Found.Expand m) where
-        expand-within : from + (m .to + 1) ≤ length text
-        expand-within = omega (arith, expand-inside form (drop from text) m (found q), length-drop from text)
-
         pub walk-expand : (o′ : List ℕ) (next′ : ℕ) → Wrote (pieceText x (expand (macroOf (take (length text - from) (drop from text)) m))) o next o′ next′
             → Walked (from + (m .to + 1)) o′ next′
         walk-expand o′ next′ w =
-            step (m .to + 1) (expand (macroOf (drop from text) m)) expand-within (pieces-expand form (drop from text) m (found q)) o′ next′
+            step (m .to + 1) (expand (macroOf (drop from text) m)) (expand-within form text from r p m q) (pieces-expand form (drop from text) m (found q)) o′ next′
             (rw (rest-part text from) at w)
 
         pub brace-room : m .to + 1 < 2 ^ 64
-        brace-room = let h = inv .size in let w = expand-within in omega arith
+        brace-room = let h = inv .size in let w = expand-within form text from r p m q in omega arith
 
         pub expand-room : from + (m .to + 1) < 2 ^ 64
-        expand-room = let h = inv .size in let w = expand-within in omega arith
+        expand-room = let h = inv .size in let w = expand-within form text from r p m q in omega arith

@@ -5,16 +5,16 @@ use Prim.Native.Nat.{ℕ, suc, _+_, _-_, _≤_, _<_}
 use mathlib.Core.Path.{_≡_, refl, sym, ap, subst, _∙_}
 use mathlib.Core.Logic.{_⊎_, inl, inr, ⊎-elim}
 use mathlib.Core.List.{List, [], _∷_, _++_, map, append-assoc, append-nil}
-use mathlib.Core.Bool.{Bool, true, false, _||_}
+use mathlib.Core.Bool.{Bool, true, false, not, _||_}
 use native.Mathlib.Omega.{arith}
 use lib.ListN.{length, take, drop, length-append, take-append-drop, drop-of-length-le}
 use lib.Seq.{getD-at, getD-append-add, take-at, take-append-le, drop-append-le, take-append-seam, drop-append-seam, split-at}
 use borrow.Author.Tests.{eqb-true}
-use Rattle.text.specs.Bytes.{at, within, isDot, isUpper, isAlpha, isDigit, isAlphanumeric, isToplabelByte, isMacroLiteral}
-use Rattle.text.specs.Lists.{all, split, grow, separatorBefore, joinBy, join}
+use Rattle.text.specs.Bytes.{at, within, isDot, isNotDot, isUpper, isAlpha, isDigit, isAlphanumeric, isToplabelByte, isMacroLiteral}
+use Rattle.text.specs.Lists.{all, split, separatorBefore, joinBy, join}
 use Rattle.text.proofs.Laws.Tests.{cond-elim, true-false, or-elim, or-left, or-right}
 use Rattle.text.proofs.Laws.Classes.{class-inside}
-use Rattle.text.proofs.Laws.Splitting.{Some, some, split-some, split-append, join-dots}
+use Rattle.text.proofs.Laws.Splitting.{split-some, split-append, join-dots}
 use Rattle.text.proofs.Laws.Orders.{le-or-lt}
 use Rattle.text.proofs.Laws.Parts.{all-none, all-join, all-cons, all-first, all-rest, all-at, all-inside, at-last}
 use Rattle.macros.specs.Grammar.{Piece, literal, escape, expand, MacroExpand, braces, percent, underscore, hyphen, MacroString, DomainEnd, label, label-dot, DomainSpecs, spec}
@@ -23,7 +23,9 @@ use Rattle.macros.specs.declared.Form.{Form}
 use Rattle.macros.specs.declared.Form.the-variants.{DomainSpec}
 use Rattle.macros.proofs.Laws.Bytes.{alphanumeric-toplabel, toplabel-literal, toplabel-no-dot}
 use Rattle.macros.proofs.Laws.Strings.{Row, none, expands, literals, string-row, row-string}
-use Rattle.macros.proofs.Laws.Toplabels.{passed, toplabel-complete, toplabel-sound}
+use Rattle.macros.proofs.Laws.Braces.{expand-some}
+use Rattle.macros.proofs.Laws.Labels.{last-label, split-undotted}
+use Rattle.macros.proofs.Laws.Toplabels.{passed, empty-no-label, toplabel-complete, toplabel-sound}
 
 -- in a domain-spec the bytes that stand for themselves are the macro-literals
 pub literal-in : (b : ℕ) → isMacroLiteral b ≡ true → isLiteral DomainSpec b ≡ true
@@ -75,16 +77,10 @@ expand-percent percent rest = refl
 expand-percent underscore rest = refl
 expand-percent hyphen rest = refl
 
-expand-inside : {form : Form} {w : List ℕ} {p : Piece} → MacroExpand form w p → (rest : List ℕ) → 0 < length (w ++ rest)
-expand-inside (braces hl hc hr hd) rest = omega arith
-expand-inside percent rest = omega arith
-expand-inside underscore rest = omega arith
-expand-inside hyphen rest = omega arith
-
 ending-pieces : {form : Form} {v : List ℕ} {ps : List Piece} → Row form v ps → all isEnding v ≡ true → ps ≡ map literal v
 ending-pieces none h = refl
 ending-pieces (expands {w = w} {rest = rest} m r) h =
-    absurd (true-false (isEnding 37) (ap isEnding (sym (expand-percent m rest)) ∙ all-at isEnding (w ++ rest) 0 (expand-inside m rest) h) percent-no-ending)
+    absurd (true-false (isEnding 37) (ap isEnding (sym (expand-percent m rest)) ∙ all-at isEnding (w ++ rest) 0 (omega (arith, expand-some m, length-append w rest)) h) percent-no-ending)
 ending-pieces (literals {b = b} {rest = rest} k r) h = ap (λ (t : List Piece). literal b ∷ t) (ending-pieces r (all-rest isEnding b rest h))
 
 ending-row : (v : List ℕ) → all isEnding v ≡ true → Row DomainSpec v (map literal v)
@@ -209,12 +205,8 @@ join-label (x ∷ y ∷ z ∷ r) = dot-before x (join (y ∷ z ∷ r)) (lastLabe
 after-dot : (s : List ℕ) → AfterDot s (lastLabel (split isDot s))
 after-dot s = subst (λ (t : List ℕ). AfterDot t (lastLabel (split isDot s))) (join-dots s) (join-label (split isDot s))
 
-none-no-label : isToplabel [] ≡ false
-unfolding isToplabel all isAlphanumeric isAlpha isDigit isUpper within
-none-no-label = refl
-
 label-before : (s l : List ℕ) → AfterDot s l → isToplabel l ≡ true → (u : List ℕ) × (s ≡ u ++ (46 ∷ l))
-label-before s l (inl e) h = absurd (true-false (isToplabel []) (ap isToplabel (sym e) ∙ h) none-no-label)
+label-before s l (inl e) h = absurd (true-false (isToplabel []) (ap isToplabel (sym e) ∙ h) empty-no-label)
 label-before s l (inr x) h = x
 
 label-of : (s : List ℕ) → isToplabel (lastLabel (split isDot s)) ≡ true → (u : List ℕ) × (s ≡ u ++ (46 ∷ lastLabel (split isDot s)))
@@ -262,15 +254,7 @@ pub spec-row : {s : List ℕ} {ps : List Piece} → DomainSpecs s ps → Row Dom
 spec-row (spec d e) = string-row literal-in d (end-row e)
 
 split-label : (l : List ℕ) → all isToplabelByte l ≡ true → split isDot l ≡ l ∷ []
-unfolding split grow
-split-label [] h = refl
-split-label (b ∷ l) h = simp (toplabel-no-dot b (all-first isToplabelByte b l h), split-label l (all-rest isToplabelByte b l h))
-
-last-label : (xs : List (List ℕ)) (l : List ℕ) → Some xs → lastLabel (xs ++ (l ∷ [])) ≡ l
-unfolding lastLabel
-last-label (x ∷ []) l some = refl
-last-label (x ∷ y ∷ []) l some = refl
-last-label (x ∷ y ∷ z ∷ xs) l some = last-label (y ∷ z ∷ xs) l some
+split-label l h = split-undotted l (all-inside isToplabelByte isNotDot (λ b k. ap not (toplabel-no-dot b k)) l h)
 
 label-found : (u l : List ℕ) → isToplabel l ≡ true → lastLabel (split isDot (u ++ (46 ∷ l))) ≡ l
 label-found u l h =

@@ -1,64 +1,74 @@
--- The last label of a text, found from the right, and the tests of a top label. From the definitions of Reader and the laws of Splitting.
+-- The last label of a text, and the tests of a top label. From the definitions of Reader and the laws of runs and of splitting.
 use Prim.Native.Nat.{ℕ, _-_, _≤_, _<_}
 use mathlib.Core.Path.{_≡_, refl, sym, ap, _∙_}
 use mathlib.Core.List.{List, [], _∷_, _++_}
-use mathlib.Core.Bool.{Bool, true, false, _&&_}
+use mathlib.Core.Bool.{Bool, true, false, not, and-false}
 use native.Mathlib.Omega.{arith}
 use lib.ListN.{length, take, drop}
-use borrow.Author.Tests.{eq-eqb, ne-eqb}
-use Rattle.text.specs.Bytes.{at, isDot, isAlphanumeric, isAlpha, isUpper, isDigit, isToplabelByte, within}
-use Rattle.text.specs.Lists.{all, split}
-use Rattle.text.specs.Runs.{isIn}
-use Rattle.text.specs.declared.bytes.Class.the-variants.{Digit, Alphanumeric, ToplabelByte}
+use borrow.Author.Tests.{eq-eqb, ne-eqb, not-true}
+use Rattle.text.specs.Bytes.{at, isDot, isNotDot, isAlphanumeric, isToplabelByte}
+use Rattle.text.specs.Lists.{all, split, grow}
+use Rattle.text.specs.Runs.{isIn, trailingStart}
+use Rattle.text.specs.declared.bytes.Class.the-variants.{NotDot, Digit, Alphanumeric, ToplabelByte}
+use Rattle.text.proofs.Laws.Tests.{test-holds}
 use Rattle.text.proofs.Laws.Classes.{class-test, class-tests}
+use Rattle.text.proofs.Laws.Parts.{all-first, all-rest}
+use Rattle.text.proofs.Laws.Runs.{trailing-all, trailing-le, trailing-first, trailing-next}
 use Rattle.text.proofs.Laws.Spans.{rest-part}
-use Rattle.text.proofs.Laws.Splitting.{Some, some, split-some, Undelimited, undelimited-start, undelimited-next, undelimited-last, undelimited-whole}
+use Rattle.text.proofs.Laws.Splitting.{Some, some, split-some, Undelimited, undelimited-last, undelimited-whole}
 use Rattle.macros.specs.Reader.{isToplabel, lastLabel, endsInLabel}
+use Rattle.macros.proofs.Laws.Braces.{empty-of}
+use Rattle.macros.proofs.Laws.Toplabels.{empty-no-label}
 
 -- the last of several parts
-last-snoc : (xs : List (List ℕ)) (y : List ℕ) → Some xs → lastLabel (xs ++ (y ∷ [])) ≡ y
+pub last-label : (xs : List (List ℕ)) (y : List ℕ) → Some xs → lastLabel (xs ++ (y ∷ [])) ≡ y
 unfolding lastLabel
-last-snoc (x ∷ []) y some = refl
-last-snoc (x ∷ z ∷ []) y some = refl
-last-snoc (x ∷ z ∷ w ∷ r) y some = last-snoc (z ∷ w ∷ r) y some
+last-label (x ∷ []) y some = refl
+last-label (x ∷ z ∷ []) y some = refl
+last-label (x ∷ z ∷ w ∷ r) y some = last-label (z ∷ w ∷ r) y some
 
--- the loop of `last_label`: from i on there is no dot
-abbrev pub Undotted : List ℕ → ℕ → Type 0
-Undotted s i = Undelimited isDot s i
+-- bytes without a dot are one label
+pub split-undotted : (l : List ℕ) → all isNotDot l ≡ true → split isDot l ≡ l ∷ []
+unfolding split grow
+split-undotted [] h = refl
+split-undotted (b ∷ l) h = simp (not-true (isDot b) (all-first isNotDot b l h), split-undotted l (all-rest isNotDot b l h))
 
-pub undotted-start : (s : List ℕ) → Undotted s (length s)
-undotted-start s = undelimited-start isDot s
+-- `last_label`: from i on there is no dot, and i is the first such place
+module _ (s : List ℕ) (i : ℕ) (p : i ≡ trailingStart (isIn NotDot) s) where
+  pub label-inside : i ≤ length s
+  label-inside = rw p (trailing-le (isIn NotDot) s)
 
-module _ (s : List ℕ) (i : ℕ) (inv : Undotted s i) where
-  pub undotted-next : 0 < i → (at s (i - 1) ≡ 46 → ⊥) → Undotted s (i - 1)
-  undotted-next h n = undelimited-next isDot s i inv h (ne-eqb (at s (i - 1)) 46 n)
+  rest : all (isIn NotDot) (drop i s) ≡ true
+  rest = rw p (trailing-all (isIn NotDot) s)
 
-  pub label-here : 0 < i → at s (i - 1) ≡ 46 → take (length s - i) (drop i s) ≡ lastLabel (split isDot s)
-  label-here h n =
-      rest-part s i ∙ sym (ap lastLabel (undelimited-last isDot s i inv h (eq-eqb (at s (i - 1)) 46 n))
-      ∙ last-snoc (split isDot (take (i - 1) s)) (drop i s) (split-some isDot (take (i - 1) s)))
+  undotted : Undelimited isDot s i
+  undotted = record { within = label-inside; one = split-undotted (drop i s) (sym (class-tests NotDot (drop i s)) ∙ rest) }
 
-  pub label-none : i ≤ 0 → [] ≡ lastLabel (split isDot s)
+  dot-before : 0 < i → isDot (at s (i - 1)) ≡ true
+  dot-before h = test-holds (isDot (at s (i - 1)))
+      (λ n.
+      let c : isIn NotDot (at s (i - 1)) ≡ true = class-test NotDot (at s (i - 1)) ∙ ap not n in
+      let k = trailing-first (isIn NotDot) s (i - 1) (trailing-next (isIn NotDot) s i label-inside rest h (isIn NotDot (at s (i - 1))) refl c) in
+      omega (arith, p))
+
+  pub label-here : (i ≡ 0 → ⊥) → take (length s - i) (drop i s) ≡ lastLabel (split isDot s)
+  label-here n =
+      let h : 0 < i = omega arith in
+      rest-part s i ∙ sym (ap lastLabel (undelimited-last isDot s i undotted h (dot-before h))
+      ∙ last-label (split isDot (take (i - 1) s)) (drop i s) (split-some isDot (take (i - 1) s)))
+
+  pub label-none : i ≡ 0 → [] ≡ lastLabel (split isDot s)
   unfolding lastLabel
-  label-none h = sym (ap lastLabel (undelimited-whole isDot s i inv h))
-
-and-none : (t : Bool) → (t && false) ≡ false
-and-none true = refl
-and-none false = refl
+  label-none h = sym (ap lastLabel (undelimited-whole isDot s i undotted (omega arith)))
 
 -- the ways out of `is_toplabel`
 pub top-digits : (l : List ℕ) (x : Bool) → x ≡ false → (d : Bool) → d ≡ all (isIn Digit) l → d ≡ true → x ≡ isToplabel l
 unfolding isToplabel
-top-digits l x e d p q = e ∙ sym (simp (sym (class-tests Digit l) ∙ sym p ∙ q, and-none))
+top-digits l x e d p q = e ∙ sym (simp (sym (class-tests Digit l) ∙ sym p ∙ q, and-false))
 
 module _ (l : List ℕ) where
   pub top-empty : length l ≡ 0 → false ≡ isToplabel l
-  unfolding isToplabel all isAlphanumeric isAlpha isUpper isDigit within
-  top-empty h = empty l h
-    where
-      empty : (l : List ℕ) → length l ≡ 0 → false ≡ isToplabel l
-      empty [] h = refl
-      empty (b ∷ s) h = absurd (omega arith)
+  top-empty h = sym (ap isToplabel (empty-of l h) ∙ empty-no-label)
 
   module _ (r : Bool) (p : r ≡ all (isIn ToplabelByte) l) where
     bytes : all isToplabelByte l ≡ r
@@ -91,9 +101,8 @@ module _ (l : List ℕ) where
 
 -- the ways out of `ends_in_label`
 pub ends-empty : (s : List ℕ) → length s ≡ 0 → false ≡ endsInLabel s
-unfolding endsInLabel split lastLabel isToplabel all isAlphanumeric isAlpha isUpper isDigit within
-ends-empty [] h = refl
-ends-empty (b ∷ s) h = absurd (omega arith)
+unfolding endsInLabel split lastLabel
+ends-empty s h = sym (ap endsInLabel (empty-of s h) ∙ empty-no-label)
 
 module _ (s w : List ℕ) (r : Bool) (e : r ≡ isToplabel w) where
   pub ends-dot : at s (length s - 1) ≡ 46 → w ≡ lastLabel (split isDot (take (length s - 1) s)) → r ≡ endsInLabel s

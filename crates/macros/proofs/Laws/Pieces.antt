@@ -1,13 +1,14 @@
 -- The piece at the front of a text: what it takes of the text. The pieces of a text: one step of the walk by what stands at the front. From
 -- the laws of one macro-expand and of macro strings.
-use Prim.Native.Nat.{ℕ, _+_, _<_}
-use mathlib.Core.Path.{_≡_, refl, ap, subst, _∙_}
+use Prim.Native.Nat.{ℕ, _+_, _-_, _≤_, _<_}
+use mathlib.Core.Path.{_≡_, refl, sym, ap, subst, _∙_}
 use mathlib.Core.List.{List, [], _∷_}
 use mathlib.Core.Bool.{true, false}
 use native.Mathlib.Omega.{arith}
-use lib.ListN.{length, drop}
+use lib.ListN.{length, take, drop, length-drop}
 use Rattle.text.specs.Bytes.{at}
 use Rattle.text.proofs.Laws.Classes.{class-inside}
+use Rattle.text.proofs.Laws.Spans.{rest-part}
 use Rattle.macros.specs.Grammar.{literal, escape, expand}
 use Rattle.macros.specs.Reader.{isReverse, pieceOf, macroOf, push, piecesAfter, pieces}
 use Rattle.macros.specs.declared.Form.{Form}
@@ -24,11 +25,16 @@ reverse-inside s i h = class-inside isReverse reverse-zero s i h
 piece-right : (form : Form) (s : List ℕ) {x : Found} → pieceOf form s ≡ x → FoundRight form s x
 piece-right form s e = subst (FoundRight form s) e (piece-sound form s)
 
-pub escape-inside : (form : Form) (s : List ℕ) (b : ℕ) → pieceOf form s ≡ Found.Escape b → 1 < length s
-escape-inside form s b e = piece-right form s e .inside
+-- the piece at a place of a text, as the walks read it
+module _ (form : Form) (text : List ℕ) (at : ℕ) (r : Found) (p : r ≡ pieceOf form (take (length text - at) (drop at text))) where
+  pub found-at : {x : Found} → r ≡ x → pieceOf form (drop at text) ≡ x
+  found-at q = ap (pieceOf form) (sym (rest-part text at)) ∙ sym p ∙ q
 
-pub expand-inside : (form : Form) (s : List ℕ) (m : Braces) → pieceOf form s ≡ Found.Expand m → m .to < length s
-expand-inside form s m e = omega (arith, piece-right form s e .inside)
+  pub escape-within : (b : ℕ) → r ≡ Found.Escape b → at + 2 ≤ length text
+  escape-within b q = omega (arith, piece-right form (drop at text) (found-at q) .inside, length-drop at text)
+
+  pub expand-within : (m : Braces) → r ≡ Found.Expand m → at + (m .to + 1) ≤ length text
+  expand-within m q = omega (arith, piece-right form (drop at text) (found-at q) .inside, length-drop at text)
 
 -- at the end of a text stands nothing
 pub piece-none : (form : Form) (s : List ℕ) → length s ≡ 0 → pieceOf form s ≡ Found.End

@@ -4,7 +4,7 @@ use Prim.Native.Nat.{ℕ, _+_, _-_, _≤_, _<_, _^_}
 use mathlib.Core.Path.{_≡_, refl, sym, ap, _∙_}
 use mathlib.Core.List.{List, [], _∷_}
 use mathlib.Core.Logic.{_↔_}
-use mathlib.Core.Bool.{Bool, true, false, cond, _||_}
+use mathlib.Core.Bool.{Bool, true, false, cond, _||_, or-assoc, or-false}
 use native.Mathlib.Omega.{arith}
 use lib.ListN.{length, take, drop, length-drop}
 use lib.Seq.{drop-drop}
@@ -19,7 +19,6 @@ use Rattle.text.specs.declared.bytes.Class.the-variants.{Digit, Delimiter}
 use Rattle.text.specs.declared.decimal.Number.{Number}
 use Rattle.text.specs.declared.decimal.Number.the-variants.{Value, Refused}
 use Rattle.text.proofs.Laws.Classes.{class-tests}
-use Rattle.text.proofs.Laws.Spans.{rest-part}
 use Rattle.macros.specs.Grammar.{Macro, Piece, literal, escape, expand, Produces, isLetter, isCount}
 use Rattle.macros.specs.Reader.{isLiteral, isEscape, isReverse, closedAt, delimitersAt, reversalAt, digitsAt, bracesOf, pieceOf, macroOf, Pieces, push, pieces, endsInMacro, endsInLabel, endsRight, isMacroString, isP, anyP, scanOf, usesP}
 use Rattle.macros.specs.declared.Form.{Form}
@@ -28,7 +27,7 @@ use Rattle.macros.specs.declared.Summary.{Summary}
 use Rattle.macros.specs.declared.pieces.Braces.{Braces}
 use Rattle.macros.specs.declared.pieces.Found.{Found}
 use Rattle.macros.proofs.Laws.Completeness.{accepted-iff}
-use Rattle.macros.proofs.Laws.Pieces.{reverse-inside, piece-none, escape-inside, expand-inside, pieces-none, pieces-end, pieces-bad, pieces-literal, pieces-escape, pieces-expand}
+use Rattle.macros.proofs.Laws.Pieces.{reverse-inside, piece-none, found-at, escape-within, expand-within, pieces-none, pieces-end, pieces-bad, pieces-literal, pieces-escape, pieces-expand}
 
 -- `is_count`
 module _ (s : List ℕ) (r : Bool) (p : r ≡ all (isIn Digit) s) where
@@ -198,14 +197,6 @@ unfolding endsInMacro
 ends-none [] = refl
 ends-none (q ∷ ps) = refl
 
-or-assoc : (t u v : Bool) → ((t || u) || v) ≡ (t || (u || v))
-or-assoc true u v = refl
-or-assoc false u v = refl
-
-or-none : (t : Bool) → (t || false) ≡ t
-or-none true = refl
-or-none false = refl
-
 -- the loop of `scan`: what the pieces passed and those from `at` on tell together is what all pieces tell
 pub record Scanned (form : Form) (text : List ℕ) (at : ℕ) (expands asks : Bool) : Type 0 where
   pub within : at ≤ length text
@@ -237,7 +228,7 @@ module _ (form : Form) (text : List ℕ) (at : ℕ) (expands asks : Bool) (inv :
   told w e =
       let h : pieces form text .whole ≡ w = sym (inv .whole) ∙ ap (λ (x : Pieces). x .whole) e in
       let m : endsInMacro (pieces form text .list) ≡ expands = sym (inv .ending) ∙ ap (λ (x : Pieces). endsAfter expands (x .list)) e in
-      let a : anyP (pieces form text .list) ≡ asks = sym (inv .asking) ∙ ap (λ (x : Pieces). asks || anyP (x .list)) e ∙ or-none asks in
+      let a : anyP (pieces form text .list) ≡ asks = sym (inv .asking) ∙ ap (λ (x : Pieces). asks || anyP (x .list)) e ∙ or-false asks in
       rw (h, m, a)
 
   pub scan-out : length text ≤ at → record { whole = true; expands = expands; asks = asks } ≡ scanOf form text
@@ -245,7 +236,7 @@ module _ (form : Form) (text : List ℕ) (at : ℕ) (expands asks : Bool) (inv :
 
   module _ (here : at < length text) (r : Found) (p : r ≡ pieceOf form (take (length text - at) (drop at text))) where
     found : {x : Found} → r ≡ x → pieceOf form (drop at text) ≡ x
-    found q = ap (pieceOf form) (sym (rest-part text at)) ∙ sym p ∙ q
+    found q = found-at form text at r p q
 
     pub scan-end : r ≡ Found.End → record { whole = true; expands = expands; asks = asks } ≡ scanOf form text
     scan-end q = told true (pieces-end form (drop at text) (found q))
@@ -256,32 +247,26 @@ module _ (form : Form) (text : List ℕ) (at : ℕ) (expands asks : Bool) (inv :
     module _ (b : ℕ) where
       pub scan-literal : r ≡ Found.Literal b → Scanned form text (at + 1) false asks
       unfolding isP
-      scan-literal q = step 1 (literal b) false asks (ends-literal b) (sym (or-none asks)) (omega arith) (pieces-literal form (drop at text) b (found q))
-
-      escape-within : r ≡ Found.Escape b → at + 2 ≤ length text
-      escape-within q = omega (arith, escape-inside form (drop at text) b (found q), length-drop at text)
+      scan-literal q = step 1 (literal b) false asks (ends-literal b) (sym (or-false asks)) (omega arith) (pieces-literal form (drop at text) b (found q))
 
       pub scan-escape : r ≡ Found.Escape b → Scanned form text (at + 2) true asks
       unfolding isP
-      scan-escape q = step 2 (escape b) true asks (ends-escape b) (sym (or-none asks)) (escape-within q) (pieces-escape form (drop at text) b (found q))
+      scan-escape q = step 2 (escape b) true asks (ends-escape b) (sym (or-false asks)) (escape-within form text at r p b q) (pieces-escape form (drop at text) b (found q))
 
       pub escape-room : r ≡ Found.Escape b → length text < 2 ^ 64 → at + 2 < 2 ^ 64
-      escape-room q h = let w = escape-within q in omega arith
+      escape-room q h = let w = escape-within form text at r p b q in omega arith
 
     module _ (m : Braces) (q : r ≡ Found.Expand m) where
-      expand-within : at + (m .to + 1) ≤ length text
-      expand-within = omega (arith, expand-inside form (drop at text) m (found q), length-drop at text)
-
       pub scan-expand : (u : Bool) → u ≡ (asks || eqb (lower (m .letter)) 112) → Scanned form text (at + (m .to + 1)) true u
       unfolding isP macroOf
       scan-expand u e =
-          step (m .to + 1) (expand (macroOf (drop at text) m)) true u (ends-expand (macroOf (drop at text) m)) e expand-within (pieces-expand form (drop at text) m (found q))
+          step (m .to + 1) (expand (macroOf (drop at text) m)) true u (ends-expand (macroOf (drop at text) m)) e (expand-within form text at r p m q) (pieces-expand form (drop at text) m (found q))
 
       pub brace-room : length text < 2 ^ 64 → m .to + 1 < 2 ^ 64
-      brace-room h = let w = expand-within in omega arith
+      brace-room h = let w = expand-within form text at r p m q in omega arith
 
       pub expand-room : length text < 2 ^ 64 → at + (m .to + 1) < 2 ^ 64
-      expand-room h = let w = expand-within in omega arith
+      expand-room h = let w = expand-within form text at r p m q in omega arith
 
 -- `read_macro_string`
 module _ (form : Form) (text : List ℕ) (told : Summary) (p : told ≡ scanOf form text) where

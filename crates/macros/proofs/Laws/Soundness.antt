@@ -1,4 +1,4 @@
--- What the reader accepts, the grammar produces, with exactly these pieces.
+-- What the reader accepts, the grammar produces, with exactly these pieces. From the laws of strings and of endings.
 use Prim.Native.Nat.{ℕ}
 use mathlib.Core.Path.{_≡_}
 use mathlib.Core.List.{List}

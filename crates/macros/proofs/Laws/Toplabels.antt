@@ -104,5 +104,10 @@ passed l h =
       word = not-true (all isDigit l) (and-right (isAlphanumeric (at l (length l - 1))) _ m);
     }
 
+-- nothing is no label
+pub empty-no-label : isToplabel [] ≡ false
+unfolding isToplabel all isAlphanumeric isAlpha isDigit isUpper within
+empty-no-label = refl
+
 pub toplabel-sound : (l : List ℕ) → isToplabel l ≡ true → Toplabel l
 toplabel-sound l h = let p = passed l h in made l (p .bytes) (p .first) (p .last) (p .word)

@@ -1,8 +1,5 @@
 -- `macros::write_fitting` meets its contract. From the laws of Expanding.
 use Rattle.macros.proofs.Laws.Expanding.{fits, fits-not}
-use Prim.Native.Nat.{_≤_}
-use native.Mathlib.Omega.{arith}
-use lib.ListN.{length}
 use borrow.Author.Needs.{needs}
 use Rattle.macros.proofs.write_fitting.Statement.{statement}
 use Rattle.macros.proofs.write_fitting.Tie as tie
@@ -20,10 +17,7 @@ same-length : tie.Need-same-length
 same-length c = search needs
 
 returns : tie.Need-returns
-returns c =
-    let measured = c .before .before .before .before .before .before .put-text in
-    let room : measured .result ≤ length (c .before .before .before .before .before .before .before .before .before .before .before .before .before .before .before .before .before .before .before .before .before .args .out .now) = omega (arith, c .before .before .before .before .if1 .taken) in
-    fits _ _ _ _ (measured .ensures) _ (c .before .before .before .before .before .before .before .before .before .before .before .before .before .before .before .before .before .before .before .before .before .good .1 .1 .1 .1 .1 .1 .1 .1 .1 .1 .1 .1 .1 .0 .1) room _ _ (c .before .before .put-text2 .ensures)
+returns c = search (fits, c .before .before .before .before .before .before .before .before .before .before .before .before .before .before .before .before .before .before .before .before .before .good)
 
 returns-2 : tie.Need-returns-2
 returns-2 c = search (fits-not, c .before .before .before .before .before .before .before .before .before .before .before .before .before .before .before .before .before .good)
