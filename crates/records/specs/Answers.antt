@@ -12,7 +12,7 @@ use Rattle.records.specs.Readings.{Said, Placed}
 use Rattle.records.specs.Grammar.{Literal, Term, Terms, Once, Record}
 use Rattle.records.specs.Numbers.{RecordReport, accepted, refused, TermReport, end, term}
 
--- "Record over 4,096 bytes" is 30
+-- 30 "record over 4,096 bytes"
 abbrev pub most-bytes : ℕ
 most-bytes = 4096
 

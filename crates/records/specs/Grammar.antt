@@ -1,5 +1,6 @@
--- Records as productions: RFC 7208 appendix A, with 01's amendments, in the RFC's names and order. Each relates bytes to what they say. Domain-specs
--- and macro-strings are those of `macros`, networks and prefix lengths those of `networks`. Nothing of a reader is imported.
+-- Records as productions: RFC 7208's collected ABNF (its section 12; 01 calls it appendix A) in the RFC's names, each rule after those that it uses,
+-- with 01's amendments, which are quoted. Each relates bytes to what they say. Domain-specs and macro-strings are those of `macros`, networks and
+-- prefix lengths those of `networks`. Nothing of a reader is imported.
 use Prim.Native.Nat.{ℕ, _+_, _≤_}
 use mathlib.Core.Path.{_≡_}
 use mathlib.Core.List.{List, [], _∷_, _++_, map}
@@ -15,7 +16,7 @@ use Rattle.macros.specs.Grammar.{Piece, MacroString, DomainSpecs}
 use Rattle.networks.specs.Grammar.{Network4, Network6, Length4, Length6, DualCidrLength}
 use Rattle.records.specs.Readings.{Optional, absent, present, Said, Placed, mechanism, hosts, network4, network6, modifier}
 
--- a word in either case of its letters; the given one is in lower case
+-- a quoted word of the ABNF, in either case of its letters; the given one is in lower case
 pub record Literal (word w : List ℕ) : Type 0 where
   pub lowered : map lower w ≡ word
 
@@ -24,7 +25,7 @@ pub data OptionalSpec : List ℕ → Optional (List ℕ) → Type 0 where
   without : OptionalSpec [] absent
   with-spec : {d : List ℕ} {ps : List Piece} → DomainSpecs d ps → OptionalSpec (58 ∷ d) (present d)
 
--- mechanism = ( all / include / a / mx / ptr / ip4 / ip6 / exists ), after its qualifier
+-- mechanism = ( all / include / a / mx / ptr / ip4 / ip6 / exists ); sign is what stands before it, "`+` if unwritten"
 pub data Mechanism (sign : ℕ) : List ℕ → Said → Type 0 where
   -- all = "all"
   all-term : {w : List ℕ} → Literal (bytes "all") w → Mechanism sign w (mechanism (bytes "all") sign absent)
@@ -62,7 +63,7 @@ pub data Directive : List ℕ → Said → Type 0 where
 pub data Name : List ℕ → Type 0 where
   letters : {b : ℕ} {w : List ℕ} → isAlpha b ≡ true → all isNameByte w ≡ true → Name (b ∷ w)
 
--- "`redirect` and `exp` are never unknown modifiers"
+-- the known modifiers: "`redirect` and `exp` are never unknown modifiers"
 unfoldable pub isReserved : List ℕ → Bool
 isReserved w = same (map lower w) (bytes "redirect") || same (map lower w) (bytes "exp")
 
@@ -72,7 +73,7 @@ pub data Modifier : List ℕ → Said → Type 0 where
   redirect : {w d : List ℕ} {ps : List Piece} → Literal (bytes "redirect") w → DomainSpecs d ps → Modifier (w ++ (61 ∷ d)) (modifier (bytes "redirect") d)
   -- explanation = "exp" "=" domain-spec
   explanation : {w d : List ℕ} {ps : List Piece} → Literal (bytes "exp") w → DomainSpecs d ps → Modifier (w ++ (61 ∷ d)) (modifier (bytes "exp") d)
-  -- unknown-modifier = name "=" macro-string
+  -- unknown-modifier = name "=" macro-string, where name is not any known modifier
   unknown : {w v : List ℕ} {ps : List Piece} → Name w → isReserved w ≡ false → MacroString ModifierValue v ps → Modifier (w ++ (61 ∷ v)) (modifier w v)
 
 -- directive / modifier
@@ -80,7 +81,7 @@ pub data Term : List ℕ → Said → Type 0 where
   directive : {w : List ℕ} {x : Said} → Directive w x → Term w x
   modifier-term : {w : List ℕ} {x : Said} → Modifier w x → Term w x
 
--- terms = *( 1*SP ( directive / modifier ) ), then *SP, from a place on
+-- terms = *( 1*SP ( directive / modifier ) ), with the *SP that ends a record; the first byte's place is given, and each term has its own
 pub data Terms : ℕ → List ℕ → List Placed → Type 0 where
   done : {p : ℕ} {w : List ℕ} → all isSpace w ≡ true → Terms p w []
   term : {p : ℕ} (u w : List ℕ) {rest : List ℕ} {x : Said} {ts : List Placed} → all isSpace u ≡ true → Term w x
@@ -92,11 +93,12 @@ unfoldable pub countOf : List ℕ → List Placed → ℕ
 countOf wanted [] = 0
 countOf wanted (t ∷ ts) = cond (same (t .said .name) wanted) 1 0 + countOf wanted ts
 
--- "`redirect` and `exp` ..., and each stands at most once"
+-- "`redirect` and `exp` .., and each stands at most once"
 pub record Once (ts : List Placed) : Type 0 where
   pub redirects : countOf (bytes "redirect") ts ≤ 1
   pub explanations : countOf (bytes "exp") ts ≤ 1
 
--- record = version terms *SP, version = "v=spf1"
+-- record = version terms *SP
+-- version = "v=spf1"
 pub data Record : List ℕ → List Placed → Type 0 where
   spf1 : {v rest : List ℕ} {ts : List Placed} → Literal (bytes "v=spf1") v → Terms (length v) rest ts → Once ts → Record (v ++ rest) ts

@@ -1,7 +1,7 @@
 -- What the contracts of this crate are said in.
 -- Readings: what a term says; a reading is a list of them with their places.
 pub mod Readings
--- Grammar: records as productions (RFC 7208 appendix A with 01's amendments).
+-- Grammar: records as productions (RFC 7208's collected ABNF with 01's amendments).
 pub mod Grammar
 -- Numbers: 01's number and values for each answer.
 pub mod Numbers

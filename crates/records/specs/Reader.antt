@@ -1,15 +1,15 @@
 -- Records as the code reads them. The laws say that this is what the productions make.
 use mathlib.Core.Path.{_≡_}
-use Prim.Native.Nat.{ℕ, zero, suc, _+_, _-_}
+use Prim.Native.Nat.{ℕ, zero, suc, _+_}
 use mathlib.Core.List.{List, [], _∷_}
 use mathlib.Core.Bool.{Bool, true, false, cond, _&&_, _||_}
-use lib.ListN.{length, take, drop}
+use lib.ListN.{length}
 use lib.Dec.{ltb, eqb}
 use Rattle.address.specs.declared.Address.{Address}
 use Rattle.text.specs.Bytes.{at, part, isAlpha}
 use Rattle.text.specs.Lists.{sameWord}
 use Rattle.text.specs.Texts.{bytes}
-use Rattle.text.specs.Runs.{isIn, run, runEnd, trailingStart}
+use Rattle.text.specs.Runs.{isIn, runEnd, trailingStart}
 use Rattle.text.specs.declared.bytes.Class.the-variants.{Space, NotSpace, NotSlash, Digit, LengthByte, NameByte}
 use Rattle.macros.specs.declared.Form.the-variants.{DomainSpec, ModifierValue}
 use Rattle.macros.specs.Reader.{isMacroString}
@@ -29,7 +29,7 @@ use Rattle.records.specs.declared.Token.{Token}
 use Rattle.records.specs.declared.TermAnswer.{TermAnswer}
 use Rattle.records.specs.declared.RecordAnswer.{RecordAnswer}
 
--- which mechanism a name is
+-- which mechanism a name is, in either case of its letters; first where it is none of the first five
 unfoldable pub laterKind : List ℕ → Kind
 laterKind name =
     cond (sameWord name (bytes "ip4")) Kind.Ip4
@@ -78,11 +78,15 @@ afterHosts Hosts.Bad f x = x
 unfoldable pub allOf : ℕ → ℕ → List ℕ → Token
 allOf sign k w = cond (eqb k (length w)) (Token.Is (Term.All sign)) Token.Outside
 
-unfoldable pub includeOf : ℕ → ℕ → List ℕ → Token
-includeOf sign k w = afterSpec (specAt w k (length w)) (λ from. Token.Is (Term.Include sign from (length w))) Token.Outside Token.Outside
+-- include and exists: ":" domain-spec
+unfoldable pub withSpec : (ℕ → ℕ → Term) → ℕ → List ℕ → Token
+withSpec of k w = afterSpec (specAt w k (length w)) (λ from. Token.Is (of from (length w))) Token.Outside Token.Outside
 
-unfoldable pub existsOf : ℕ → ℕ → List ℕ → Token
-existsOf sign k w = afterSpec (specAt w k (length w)) (λ from. Token.Is (Term.Exists sign from (length w))) Token.Outside Token.Outside
+abbrev pub includeOf : ℕ → ℕ → List ℕ → Token
+includeOf sign = withSpec (Term.Include sign)
+
+abbrev pub existsOf : ℕ → ℕ → List ℕ → Token
+existsOf sign = withSpec (Term.Exists sign)
 
 unfoldable pub ptrOf : ℕ → ℕ → List ℕ → Token
 ptrOf sign k w =
@@ -99,34 +103,38 @@ hostsCut w k cut =
     (λ n m. afterSpec (specAt w k cut) (λ from. Hosts.Of from cut n m) (Hosts.Of cut cut n m) Hosts.Bad)
     Hosts.Bad
 
+-- [ ":" domain-spec ] [ dual-cidr-length ], with the name up to k
 unfoldable pub hostsAt : List ℕ → ℕ → Hosts
 hostsAt w k = hostsCut w k (k + cutOf (part w k (length w)))
 
-unfoldable pub aOf : ℕ → ℕ → List ℕ → Token
-aOf sign k w = afterHosts (hostsAt w k) (λ from to n m. Token.Is (Term.A sign from to n m)) Token.Outside
+unfoldable pub withHosts : (ℕ → ℕ → ℕ → ℕ → Term) → ℕ → List ℕ → Token
+withHosts of k w = afterHosts (hostsAt w k) (λ from to n m. Token.Is (of from to n m)) Token.Outside
 
-unfoldable pub mxOf : ℕ → ℕ → List ℕ → Token
-mxOf sign k w = afterHosts (hostsAt w k) (λ from to n m. Token.Is (Term.Mx sign from to n m)) Token.Outside
+abbrev pub aOf : ℕ → ℕ → List ℕ → Token
+aOf sign = withHosts (Term.A sign)
 
--- ":" network [ length ], the network up to the first slash
-unfoldable pub ip4Cut : ℕ → ℕ → List ℕ → ℕ → Token
-ip4Cut sign from w slash =
-    afterNetwork (readIp4 (part w from slash))
-    (λ x. afterLength (readLength4 (part w slash (length w))) (λ n. Token.Is (Term.Network sign from slash x n)) Token.Outside)
-    Token.Outside
+abbrev pub mxOf : ℕ → ℕ → List ℕ → Token
+mxOf sign = withHosts (Term.Mx sign)
 
-unfoldable pub ip4Of : ℕ → ℕ → List ℕ → Token
-ip4Of sign k w = cond (eqb (at w k) 58) (ip4Cut sign (k + 1) w (runEnd (isIn NotSlash) w (k + 1))) Token.Outside
+-- the term of a network and its length, as they were read; the network's text stands from one place up to another
+unfoldable pub networkTerm : ℕ → ℕ → ℕ → Network → Length → Token
+networkTerm sign from to network size =
+    afterNetwork network (λ x. afterLength size (λ n. Token.Is (Term.Network sign from to x n)) Token.Outside) Token.Outside
 
-unfoldable pub ip6Cut : ℕ → ℕ → List ℕ → ℕ → Token
-ip6Cut sign from w slash =
-    afterNetwork (readIp6 (part w from slash))
-    (λ x. afterLength (readLength6 (part w slash (length w))) (λ n. Token.Is (Term.Network sign from slash x n)) Token.Outside)
-    Token.Outside
+-- ":" network [ length ], the network up to the first slash, by a family's readers
+unfoldable pub networkCut : (List ℕ → Network) → (List ℕ → Length) → ℕ → ℕ → List ℕ → ℕ → Token
+networkCut read size sign from w slash = networkTerm sign from slash (read (part w from slash)) (size (part w slash (length w)))
 
-unfoldable pub ip6Of : ℕ → ℕ → List ℕ → Token
-ip6Of sign k w = cond (eqb (at w k) 58) (ip6Cut sign (k + 1) w (runEnd (isIn NotSlash) w (k + 1))) Token.Outside
+unfoldable pub networkBy : (List ℕ → Network) → (List ℕ → Length) → ℕ → ℕ → List ℕ → Token
+networkBy read size sign k w = cond (eqb (at w k) 58) (networkCut read size sign (k + 1) w (runEnd (isIn NotSlash) w (k + 1))) Token.Outside
 
+abbrev pub ip4Of : ℕ → ℕ → List ℕ → Token
+ip4Of = networkBy readIp4 readLength4
+
+abbrev pub ip6Of : ℕ → ℕ → List ℕ → Token
+ip6Of = networkBy readIp6 readLength6
+
+-- a mechanism of a kind
 unfoldable pub mechanismBy : Kind → ℕ → ℕ → List ℕ → Token
 mechanismBy Kind.All sign k w = allOf sign k w
 mechanismBy Kind.Include sign k w = includeOf sign k w
@@ -175,7 +183,7 @@ readTerm s i =
     cond (ltb 4096 (length s)) (TermAnswer.Refused 30 0)
     (cond (ltb (length s) i) (TermAnswer.Refused 34 i) (termFrom s (runEnd (isIn Space) s i)))
 
--- whether a term repeats a redirect or an exp, and what has stood after it
+-- whether a term is a redirect, and whether it is an exp
 unfoldable pub isRedirect : Term → Bool
 isRedirect (Term.Redirect from to) = true
 isRedirect (Term.All sign) = false

@@ -19,7 +19,7 @@ pub record Said : Type 0 where
   pub four : Optional ℕ
   pub six : Optional ℕ
 
--- a term of a reading: "each has its first byte's place"
+-- a term of a reading: "Each has its first byte's place"
 pub record Placed : Type 0 where
   pub place : ℕ
   pub said : Said

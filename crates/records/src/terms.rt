@@ -3,7 +3,7 @@ ghost use mathlib.Core.Path.{_≡_};
 ghost use Prim.Native.Nat.{_≤_, _<_};
 ghost use lib.ListN.{length};
 ghost use Rattle.records.specs.Grammar.{isQualifier};
-ghost use Rattle.records.specs.Reader.{laterKind, kindOf, specAt, allOf, includeOf, existsOf, ptrOf, cutOf, hostsCut, hostsAt, aOf, mxOf, ip4Cut, ip4Of, ip6Cut, ip6Of, mechanismBy, mechanismOf, modifierOf, tokenOf};
+ghost use Rattle.records.specs.Reader.{laterKind, kindOf, specAt, allOf, includeOf, existsOf, ptrOf, cutOf, hostsCut, hostsAt, aOf, mxOf, networkTerm, ip4Of, ip6Of, mechanismBy, mechanismOf, modifierOf, tokenOf};
 use crate::Term;
 use crate::Token;
 use macros::Form;
@@ -61,6 +61,7 @@ fn is_qualifier(b: u8) -> bool
     b == 126
 }
 
+// Which mechanism a name is that is none of the first five.
 fn later_kind(name: &[u8]) -> Kind
     ensures { λ r. ⌜ r ≡ laterKind (now (name .entry)) ⌝ }
 {
@@ -76,6 +77,7 @@ fn later_kind(name: &[u8]) -> Kind
     Kind::NoKind
 }
 
+// Which mechanism a name is, in either case of its letters.
 fn kind_of(name: &[u8]) -> Kind
     ensures { λ r. ⌜ r ≡ kindOf (now (name .entry)) ⌝ }
 {
@@ -187,6 +189,7 @@ fn read_hosts_cut(w: &[u8], k: usize, cut: usize) -> Hosts
     }
 }
 
+// [ ":" domain-spec ] [ dual-cidr-length ], with the name up to k.
 fn read_hosts(w: &[u8], k: usize) -> Hosts
     requires { ⌜ k ≤ length (now w) ⌝ }
     ensures { λ r. ⌜ r ≡ hostsAt (now (w .entry)) k ⌝ }
@@ -239,61 +242,51 @@ fn read_mx(sign: u8, k: usize, w: &[u8]) -> Token
     })
 }
 
-// A network up to the first slash, and its length from there on.
-fn read_ip4_cut(sign: u8, from: usize, w: &[u8], slash: usize) -> Token
-    ensures { λ r. ⌜ r ≡ ip4Cut sign from (now (w .entry)) slash ⌝ }
+// The term of a network and its length, as they were read; the network's text stands from one place up to another.
+fn network_term(sign: u8, from: usize, to: usize, network: Network, size: Length) -> Token
+    ensures { λ r. ⌜ r ≡ networkTerm sign from to network size ⌝ }
 {
-    let Network::Is(address) = networks::read_ip4(bytes::part(w, from, slash)) else {
+    let Network::Is(address) = network else {
         return Token::Outside;
     };
-    let Length::Of(length) = networks::read_length4(bytes::part(w, slash, w.len())) else {
+    let Length::Of(length) = size else {
         return Token::Outside;
     };
     Token::Is(Term::Network {
         sign,
         from,
-        to: slash,
+        to,
         address,
         length,
     })
 }
 
-fn read_ip4_term(sign: u8, k: usize, w: &[u8]) -> Token
+// A network up to the first slash, and its length from there on.
+fn read_ip4(sign: u8, k: usize, w: &[u8]) -> Token
     ensures { λ r. ⌜ r ≡ ip4Of sign k (now (w .entry)) ⌝ }
 {
     if bytes::peek(w, k) == 58 {
-        return read_ip4_cut(sign, k + 1, w, bytes::run_end(w, k + 1, Class::NotSlash));
+        let slash = bytes::run_end(w, k + 1, Class::NotSlash);
+        let network = networks::read_ip4(bytes::part(w, k + 1, slash));
+        let length = networks::read_length4(bytes::part(w, slash, w.len()));
+        return network_term(sign, k + 1, slash, network, length);
     }
     Token::Outside
 }
 
-fn read_ip6_cut(sign: u8, from: usize, w: &[u8], slash: usize) -> Token
-    ensures { λ r. ⌜ r ≡ ip6Cut sign from (now (w .entry)) slash ⌝ }
-{
-    let Network::Is(address) = networks::read_ip6(bytes::part(w, from, slash)) else {
-        return Token::Outside;
-    };
-    let Length::Of(length) = networks::read_length6(bytes::part(w, slash, w.len())) else {
-        return Token::Outside;
-    };
-    Token::Is(Term::Network {
-        sign,
-        from,
-        to: slash,
-        address,
-        length,
-    })
-}
-
-fn read_ip6_term(sign: u8, k: usize, w: &[u8]) -> Token
+fn read_ip6(sign: u8, k: usize, w: &[u8]) -> Token
     ensures { λ r. ⌜ r ≡ ip6Of sign k (now (w .entry)) ⌝ }
 {
     if bytes::peek(w, k) == 58 {
-        return read_ip6_cut(sign, k + 1, w, bytes::run_end(w, k + 1, Class::NotSlash));
+        let slash = bytes::run_end(w, k + 1, Class::NotSlash);
+        let network = networks::read_ip6(bytes::part(w, k + 1, slash));
+        let length = networks::read_length6(bytes::part(w, slash, w.len()));
+        return network_term(sign, k + 1, slash, network, length);
     }
     Token::Outside
 }
 
+// A mechanism of a kind, with its name up to k.
 fn read_mechanism_by(kind: Kind, sign: u8, k: usize, w: &[u8]) -> Token
     requires { ⌜ k ≤ length (now w) ⌝ }
     ensures { λ r. ⌜ r ≡ mechanismBy kind sign k (now (w .entry)) ⌝ }
@@ -304,8 +297,8 @@ fn read_mechanism_by(kind: Kind, sign: u8, k: usize, w: &[u8]) -> Token
         Kind::A => read_a(sign, k, w),
         Kind::Mx => read_mx(sign, k, w),
         Kind::Ptr => read_ptr(sign, k, w),
-        Kind::Ip4 => read_ip4_term(sign, k, w),
-        Kind::Ip6 => read_ip6_term(sign, k, w),
+        Kind::Ip4 => read_ip4(sign, k, w),
+        Kind::Ip6 => read_ip6(sign, k, w),
         Kind::Exists => read_exists(sign, k, w),
         Kind::NoKind => Token::Outside,
     }

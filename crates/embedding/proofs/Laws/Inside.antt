@@ -3,34 +3,29 @@
 use Prim.Native.Nat.{ℕ, _+_, _-_, _≤_, _<_}
 use mathlib.Core.Path.{_≡_, refl, sym, ap, subst, _∙_}
 use mathlib.Core.List.{List}
-use mathlib.Core.Bool.{false}
 use native.Mathlib.Omega.{arith}
 use native.Mathlib.Nat.{sub-self}
 use lib.Dec.{eqb}
 use lib.ListN.{length, length-drop}
 use borrow.Author.Tests.{eqb-true, eqb-false}
-use Rattle.text.specs.Bytes.{at, part, isAlpha}
-use Rattle.text.specs.Lists.{sameWord}
-use Rattle.text.specs.Texts.{bytes}
+use Rattle.text.specs.Bytes.{at, part}
 use Rattle.text.specs.Runs.{isIn, runEnd}
 use Rattle.text.specs.declared.bytes.Class.the-variants.{NameByte, NotSlash}
 use Rattle.text.proofs.Laws.Tests.{cond-elim}
 use Rattle.text.proofs.Laws.Runs.{run-end-from, run-end-inside}
-use Rattle.text.proofs.Laws.Classes.{nonzero-inside, class-inside}
+use Rattle.text.proofs.Laws.Classes.{nonzero-inside}
 use Rattle.text.proofs.Laws.Spans.{rest-part}
 use Rattle.table.proofs.Laws.Places.{part-inside}
 use Rattle.address.specs.declared.Address.{Address}
 use Rattle.address.specs.declared.Address.the-variants.{IPv4, IPv6}
 use Rattle.networks.specs.declared.Network.{Network}
 use Rattle.networks.specs.declared.Length.{Length}
-use Rattle.networks.specs.declared.Dual.{Dual}
 use Rattle.networks.specs.Reader.{readIp4, readLength4, readLength6, readDual}
 use Rattle.networks.specs.Reader6.{readIp6}
-use Rattle.macros.specs.declared.Form.the-variants.{DomainSpec, ModifierValue}
+use Rattle.macros.specs.declared.Form.the-variants.{DomainSpec}
 use Rattle.macros.specs.Reader.{isMacroString}
-use Rattle.records.specs.Grammar.{isQualifier}
 use Rattle.records.specs.Numbers.{argumentOf}
-use Rattle.records.specs.Reader.{kindOf, specAt, afterDual, afterNetwork, afterLength, allOf, includeOf, existsOf, ptrOf, cutOf, hostsCut, hostsAt, aOf, mxOf, ip4Cut, ip4Of, ip6Cut, ip6Of, mechanismBy, mechanismOf, modifierOf, tokenOf, readTerm}
+use Rattle.records.specs.Reader.{kindOf, specAt, afterNetwork, afterLength, allOf, withSpec, ptrOf, cutOf, hostsCut, hostsAt, withHosts, networkTerm, networkCut, networkBy, mechanismBy, mechanismOf, modifierOf, tokenOf, readTerm}
 use Rattle.records.specs.declared.terms.Kind.{Kind}
 use Rattle.records.specs.declared.terms.Spec.{Spec}
 use Rattle.records.specs.declared.terms.Hosts.{Hosts}
@@ -38,7 +33,10 @@ use Rattle.records.specs.declared.Term.{Term}
 use Rattle.records.specs.declared.Token.{Token}
 use Rattle.records.specs.declared.TermAnswer.{TermAnswer}
 use Rattle.records.proofs.Laws.Specs.{spec-elim}
-use Rattle.records.proofs.Laws.Hosts.{cut-inside, hosts-elim}
+use Rattle.records.proofs.Laws.Hosts.{cut-inside, dual-elim, hosts-elim}
+use Rattle.records.proofs.Laws.Networks.{network-elim, length-elim}
+use Rattle.records.proofs.Laws.Modifiers.{modifier-elim}
+use Rattle.records.proofs.Laws.Tokens.{token-elim}
 use Rattle.selection.proofs.Laws.Arguments.{stands}
 use Rattle.embedding.specs.Numbers.{networkShape, shapeOf, Inside}
 use Rattle.embedding.specs.Calls.{ArgumentStands}
@@ -46,19 +44,6 @@ use Rattle.embedding.specs.Calls.{ArgumentStands}
 abbrev Within : List ℕ → Token → Type 0
 Within w (Token.Is t) = Inside (length w) t
 Within w Token.Outside = Unit {0}
-
--- the ways out of the lengths, of a network and of a length
-dual-elim {κ} : {A : Type 0} (P : A → Type κ) (x : Dual) (f : ℕ → ℕ → A) (z : A) → ((n m : ℕ) → P (f n m)) → P z → P (afterDual x f z)
-dual-elim P (Dual.Both n m) f z g h = g n m
-dual-elim P Dual.NoLengths f z g h = h
-
-network-elim {κ} : {A : Type 0} (P : A → Type κ) (x : Network) (f : Address → A) (z : A) → ((a : Address) → P (f a)) → P z → P (afterNetwork x f z)
-network-elim P (Network.Is a) f z g h = g a
-network-elim P Network.NoNetwork f z g h = h
-
-length-elim {κ} : {A : Type 0} (P : A → Type κ) (x : Length) (f : ℕ → A) (z : A) → ((n : ℕ) → P (f n)) → P z → P (afterLength x f z)
-length-elim P (Length.Of n) f z g h = g n
-length-elim P Length.NoLength f z g h = h
 
 -- a domain-spec after its colon
 abbrev SpecWithin : ℕ → Spec → Type 0
@@ -87,9 +72,9 @@ cut-within : (w : List ℕ) (k cut : ℕ) → k ≤ cut → cut ≤ length w →
 unfolding hostsCut
 cut-within w k cut h l =
     dual-elim (HostsWithin w) (readDual (part w cut (length w))) _ Hosts.Bad
-    (λ n m. spec-elim (HostsWithin w) (specAt w k cut) (λ from. Hosts.Of from cut n m) (Hosts.Of cut cut n m) Hosts.Bad
+    (λ n m _. spec-elim (HostsWithin w) (specAt w k cut) (λ from. Hosts.Of from cut n m) (Hosts.Of cut cut n m) Hosts.Bad
     (λ from e. (spec-at w k cut h e, l)) (λ _. (omega arith, l)) (λ _. tt))
-    tt
+    (λ _. tt)
 
 hosts-within : (w : List ℕ) (k : ℕ) → k ≤ length w → HostsWithin w (hostsAt w k)
 unfolding hostsAt
@@ -112,15 +97,15 @@ network-within w sign k x y b =
     let i = nonzero-inside w k (λ e. omega (arith, b, e)) in
     let slash = runEnd (isIn NotSlash) w (k + 1) in
     network-elim (Within w) x _ Token.Outside
-    (λ a. length-elim (Within w) y (λ n. Token.Is (Term.Network sign (k + 1) slash a n)) Token.Outside
-    (λ n. network-inside (length w) sign (k + 1) slash a n (run-end-from (isIn NotSlash) w (k + 1)) (run-end-inside (isIn NotSlash) w (k + 1) (omega arith)))
+    (λ a _. length-elim (Within w) y (λ n. Token.Is (Term.Network sign (k + 1) slash a n)) Token.Outside
+    (λ n _. network-inside (length w) sign (k + 1) slash a n (run-end-from (isIn NotSlash) w (k + 1)) (run-end-inside (isIn NotSlash) w (k + 1) (omega arith)))
     tt)
     tt
 
 -- each mechanism, with its name up to k
 module _ (w : List ℕ) (sign k : ℕ) (inside : k ≤ length w) where
   by-kind : (kind : Kind) → Within w (mechanismBy kind sign k w)
-  unfolding mechanismBy allOf includeOf existsOf ptrOf aOf mxOf ip4Of ip4Cut ip6Of ip6Cut shapeOf
+  unfolding mechanismBy allOf withSpec ptrOf withHosts networkTerm networkCut networkBy shapeOf
   by-kind Kind.All = cond-elim (Within w) (eqb k (length w)) {x = Token.Is (Term.All sign)} {y = Token.Outside} (λ _. (omega arith, omega arith)) (λ _. tt)
   by-kind Kind.Include = spec-elim (Within w) (specAt w k (length w)) (λ from. Token.Is (Term.Include sign from (length w))) Token.Outside Token.Outside
       (λ from e. (spec-at w k (length w) inside e, omega arith)) (λ _. tt) (λ _. tt)
@@ -145,33 +130,15 @@ mechanism-within sign i w h =
 
 -- a modifier
 modifier-within : (w : List ℕ) (k : ℕ) → k < length w → Within w (modifierOf k w)
-unfolding modifierOf shapeOf
-modifier-within w k h =
-    let value = part w (k + 1) (length w) in
-    cond-elim (Within w) (isAlpha (at w 0))
-    (λ _. cond-elim (Within w) (sameWord (part w 0 k) (bytes "redirect"))
-    (λ _. cond-elim (Within w) (isMacroString DomainSpec value) {x = Token.Is (Term.Redirect (k + 1) (length w))} {y = Token.Outside}
-    (λ _. (omega arith, omega arith)) (λ _. tt))
-    (λ _. cond-elim (Within w) (sameWord (part w 0 k) (bytes "exp"))
-    (λ _. cond-elim (Within w) (isMacroString DomainSpec value) {x = Token.Is (Term.Explanation (k + 1) (length w))} {y = Token.Outside}
-    (λ _. (omega arith, omega arith)) (λ _. tt))
-    (λ _. cond-elim (Within w) (isMacroString ModifierValue value) {x = Token.Is (Term.Unknown k (length w))} {y = Token.Outside}
-    (λ _. (omega arith, omega arith)) (λ _. tt))))
-    (λ _. tt)
-
-no-qualifier : isQualifier 0 ≡ false
-unfolding isQualifier
-no-qualifier = refl
+unfolding shapeOf
+modifier-within w k h = modifier-elim k w (Within w)
+    (λ _ _. (omega arith, omega arith)) (λ _ _. (omega arith, omega arith)) (λ _ _ _. (omega arith, omega arith)) tt
 
 token-within : (w : List ℕ) → Within w (tokenOf w)
-unfolding tokenOf
-token-within w =
-    cond-elim (Within w) (isQualifier (at w 0))
-    (λ h. mechanism-within (at w 0) 1 w (let i = class-inside isQualifier no-qualifier w 0 h in omega arith))
-    (λ _. cond-elim (Within w) (eqb (at w (runEnd (isIn NameByte) w 0)) 61)
-    (λ e. let q = eqb-true (at w (runEnd (isIn NameByte) w 0)) 61 e in
-    modifier-within w (runEnd (isIn NameByte) w 0) (nonzero-inside w (runEnd (isIn NameByte) w 0) (λ z. omega (arith, q, z))))
-    (λ _. mechanism-within 43 0 w (omega arith)))
+token-within w = token-elim w (Within w)
+    (λ _ i. mechanism-within (at w 0) 1 w i)
+    (λ q. modifier-within w (runEnd (isIn NameByte) w 0) (nonzero-inside w (runEnd (isIn NameByte) w 0) (λ z. omega (arith, q, z))))
+    (mechanism-within 43 0 w (omega arith))
 
 -- the argument's bytes by its shape
 argument-shape : (w : List ℕ) (t : Term) → part w (shapeOf (length w) t .from) (shapeOf (length w) t .to) ≡ argumentOf w t

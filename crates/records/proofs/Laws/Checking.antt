@@ -6,31 +6,31 @@ use mathlib.Core.List.{List, [], _∷_}
 use mathlib.Core.Bool.{Bool, true, false, _&&_, _||_}
 use native.Mathlib.Omega.{arith}
 use native.Mathlib.Nat.{sub-self}
-use lib.ListN.{length, drop, length-drop}
-use lib.Seq.{getD-drop}
-use lib.Dec.{ltb, eqb}
-use borrow.Author.Tests.{eq-eqb, ne-eqb, eqb-false, ltb-false, lt-ltb, le-ltb}
+use lib.ListN.{length, length-drop, length-append}
+use lib.Dec.{eqb}
+use borrow.Author.Tests.{eq-eqb, ne-eqb, le-ltb}
 use types.Run.{OneOf, miss}
 use denote.Enum.Declared.{tagOf, declared}
-use Rattle.text.specs.Bytes.{at, part, isSpace, isNotSpace}
+use Rattle.text.specs.Bytes.{at, part}
 use Rattle.text.specs.Lists.{sameWord}
 use Rattle.text.specs.Texts.{bytes}
-use Rattle.text.specs.Runs.{isIn, run, runEnd}
+use Rattle.text.specs.Runs.{isIn, runEnd}
 use Rattle.text.specs.declared.bytes.Class.the-variants.{Space, NotSpace}
-use Rattle.text.proofs.Laws.Runs.{run-stops, run-end-next, run-end-from, run-end-inside}
+use Rattle.text.proofs.Laws.Runs.{run-end-inside}
 use Rattle.text.proofs.Laws.Spans.{part-past}
-use Rattle.text.proofs.Laws.Tests.{cond-elim}
+use Rattle.records.specs.Readings.{Placed}
 use Rattle.records.specs.declared.Term.{Term}
 use Rattle.records.specs.declared.Token.{Token}
 use Rattle.records.specs.declared.TermAnswer.{TermAnswer}
 use Rattle.records.specs.declared.RecordAnswer.{RecordAnswer}
-use Rattle.records.specs.Numbers.{argumentOf, termReport, recordReport}
+use Rattle.records.specs.Numbers.{argumentOf, TermReport, term, termReport, recordReport}
 use Rattle.records.specs.Answers.{TermAnswers, RecordAnswers}
 use Rattle.records.specs.Reader.{tokenOf, tokenAnswer, termFrom, readTerm, isRedirect, isExplanation, endedOf, checkAfter, checkFrom, hasVersion, readRecord}
 use Rattle.records.proofs.Term as term-type
 use Rattle.records.proofs.TermAnswer as answer-type
-use Rattle.records.proofs.Laws.Terms.{term-answers}
-use Rattle.records.proofs.Laws.Records.{record-answers}
+use Rattle.records.proofs.Laws.Terms.{read-long, read-past, term-answers}
+use Rattle.records.proofs.Laws.Walks.{check-twice, check-on}
+use Rattle.records.proofs.Laws.Records.{read-record-long, read-record-other, read-record-terms, record-answers}
 use Rattle.records.proofs.Laws.Versions.{version-of, version-inside}
 
 -- `term_from`
@@ -57,13 +57,11 @@ module _ (s : List ℕ) (i : ℕ) where
   term-answered r e = (e, subst (λ (x : TermAnswer). TermAnswers s i (termReport s x)) (sym e) (term-answers s i))
 
   pub term-long : 4096 < length s → TermAnswer.Refused 30 0 ≡ readTerm s i
-  unfolding readTerm
-  term-long h = sym (simp (lt-ltb 4096 (length s) h))
+  term-long h = sym (read-long s i h)
 
   module _ (short : length s ≤ 4096) where
     pub term-past : length s < i → TermAnswer.Refused 34 i ≡ readTerm s i
-    unfolding readTerm
-    term-past h = sym (simp (le-ltb 4096 (length s) short, lt-ltb (length s) i h))
+    term-past h = sym (read-past s i short h)
 
     pub term-found : i ≤ length s → (p : ℕ) → p ≡ runEnd (isIn Space) s i → (r : TermAnswer) → r ≡ termFrom s p → r ≡ readTerm s i
     unfolding readTerm
@@ -72,59 +70,24 @@ module _ (s : List ℕ) (i : ℕ) where
   pub space-inside : i ≤ length s → (p : ℕ) → p ≡ runEnd (isIn Space) s i → p ≤ length s
   space-inside h p q = let l = run-end-inside (isIn Space) s i h in omega (arith, q)
 
--- the next place of a term
-abbrev NextRight : List ℕ → ℕ → TermAnswer → Type 0
-NextRight s i (TermAnswer.Is p e t) = (i < e) × (e ≤ length s)
-NextRight s i TermAnswer.End = Unit {0}
-NextRight s i (TermAnswer.Refused n p) = Unit {0}
-
-token-next : (s : List ℕ) (i p e : ℕ) → i < e → e ≤ length s → (x : Token) → NextRight s i (tokenAnswer p e x)
-unfolding tokenAnswer
-token-next s i p e h g (Token.Is t) = (h, g)
-token-next s i p e h g Token.Outside = tt
-
-not-space : (b : ℕ) → isIn Space b ≡ false → isIn NotSpace b ≡ true
-unfolding isIn isSpace isNotSpace
-not-space b h = simp h
-
--- after a run of spaces that ends inside stands another byte
-space-stops : (s : List ℕ) (i : ℕ) → runEnd (isIn Space) s i < length s → isIn NotSpace (at s (runEnd (isIn Space) s i)) ≡ true
-unfolding runEnd
-space-stops s i h =
-    not-space (at s (i + run (isIn Space) (drop i s)))
-    (ap (isIn Space) (sym (getD-drop i s (run (isIn Space) (drop i s)) 0))
-    ∙ run-stops (isIn Space) (drop i s) (omega (arith, length-drop i s)))
-
-from-next : (s : List ℕ) (i : ℕ) → i ≤ length s → NextRight s i (termFrom s (runEnd (isIn Space) s i))
-unfolding termFrom
-from-next s i h =
-    let p = runEnd (isIn Space) s i in
-    let l : p ≤ length s = run-end-inside (isIn Space) s i h in
-    let f : i ≤ p = run-end-from (isIn Space) s i in
-    cond-elim (NextRight s i) (eqb p (length s)) (λ _. tt)
-    (λ n. let d = eqb-false p (length s) n in
-    let k : p < length s = omega arith in
-    let a = run-end-next (isIn NotSpace) s p k (space-stops s i k) in
-    let b = run-end-from (isIn NotSpace) s (p + 1) in
-    let c = run-end-inside (isIn NotSpace) s p l in
-    token-next s i p (runEnd (isIn NotSpace) s p) (omega arith) c (tokenOf (part s p (runEnd (isIn NotSpace) s p))))
-
-read-next : (s : List ℕ) (i : ℕ) → NextRight s i (readTerm s i)
-unfolding readTerm
-read-next s i =
-    cond-elim (NextRight s i) (ltb 4096 (length s)) (λ _. tt)
-    (λ _. cond-elim (NextRight s i) (ltb (length s) i) (λ _. tt) (λ n. from-next s i (ltb-false (length s) i n)))
-
+-- the next place of a term lies further on and inside
 term-next : (s : List ℕ) (i : ℕ) (r : TermAnswer) → r ≡ readTerm s i → (p e : ℕ) (t : Term) → r ≡ TermAnswer.Is p e t → (i < e) × (e ≤ length s)
-term-next s i r q p e t h = subst (NextRight s i) (sym q ∙ h) (read-next s i)
+term-next s i r q p e t h = by (term-answers s i) (ap (termReport s) (sym q ∙ h))
+  where
+    by : {x : TermReport} {y : Placed} → TermAnswers s i x → x ≡ term e y → (i < e) × (e ≤ length s)
+    by (TermAnswers.too-long l) g = absurd (let z : _≡_ {A = ℕ} 0 1 = cc in omega arith)
+    by (TermAnswers.beyond l k) g = absurd (let z : _≡_ {A = ℕ} 0 1 = cc in omega arith)
+    by (TermAnswers.only-spaces l k m) g = absurd (let z : _≡_ {A = ℕ} 0 1 = cc in omega arith)
+    by (TermAnswers.outside u w rest l k d m n f) g = absurd (let z : _≡_ {A = ℕ} 0 1 = cc in omega arith)
+    by (TermAnswers.produced u w rest l k d m n f) g =
+        let j : i + (length u + length w) ≡ e = cc in
+        let c = simp length-append at (ap length d) in
+        (omega (arith, n .some), omega (arith, c, length-drop i s))
 
-module _ (s : List ℕ) (i : ℕ) (r : TermAnswer) (q : r ≡ readTerm s i) (p e : ℕ) (t : Term) (h : r ≡ TermAnswer.Is p e t) where
-  pub next-inside : e ≤ length s
-  next-inside = term-next s i r q p e t h .1
-
-  -- so that what is left to read falls
-  pub next-less : (m : ℕ) → i ≤ length s → length s - i ≡ m → length s - e < m
-  next-less m l k = let n = term-next s i r q p e t h in omega (arith, n .0, n .1)
+-- so that what is left to read falls
+pub next-less : (s : List ℕ) (i : ℕ) (r : TermAnswer) → r ≡ readTerm s i → (p e : ℕ) (t : Term) → r ≡ TermAnswer.Is p e t
+    → (m : ℕ) → i ≤ length s → length s - i ≡ m → length s - e < m
+next-less s i r q p e t h m l k = let n = term-next s i r q p e t h in omega (arith, n .0, n .1)
 
 -- `value_part`
 part-none : (w : List ℕ) → part w (length w) (length w) ≡ []
@@ -228,19 +191,17 @@ module _ (s : List ℕ) (i : ℕ) (r e : Bool) (inside : i ≤ length s) (a : Te
     read = sym p ∙ q
 
     check-repeats : x ≡ true → (f : ℕ) → length s < f + i → RecordAnswer.Refused 33 at ≡ checkFrom f s i r e
-    unfolding checkFrom checkAfter
     check-repeats h zero l = absurd (omega arith)
-    check-repeats h (suc f) l = sym (simp (read, sym g ∙ h))
+    check-repeats h (suc f) l = sym (check-twice f s i r e at n t read (sym g ∙ h))
 
     module _ (b : Bool) (hb : b ≡ isRedirect t) (r′ : Bool) (hr : r′ ≡ (r || b)) (c : Bool) (hc : c ≡ isExplanation t) (e′ : Bool) (he : e′ ≡ (e || c)) where
       check-next : x ≡ false → (y : RecordAnswer) → ((f : ℕ) → length s < f + n → y ≡ checkFrom f s n r′ e′)
           → (f : ℕ) → length s < f + i → y ≡ checkFrom f s i r e
-      unfolding checkFrom checkAfter
       check-next h y ih zero l = absurd (omega arith)
       check-next h y ih (suc f) l =
           let k = term-next s i a p at n t q in
           let j : checkFrom f s n r′ e′ ≡ checkFrom f s n (r || isRedirect t) (e || isExplanation t) = simp (hr, hb, he, hc) in
-          ih f (omega (arith, k .0)) ∙ j ∙ sym (simp (read, sym g ∙ h))
+          ih f (omega (arith, k .0)) ∙ j ∙ sym (check-on f s i r e at n t read (sym g ∙ h))
 
 -- part way through the terms: what is answered from here on is answered of all
 pub record Checking (s : List ℕ) (i₀ : ℕ) (i : ℕ) (r e : Bool) : Type 0 where
@@ -281,14 +242,11 @@ module _ (s : List ℕ) where
   record-answered r e = (e, subst (λ (x : RecordAnswer). RecordAnswers s (recordReport x)) (sym e) (record-answers s))
 
   pub record-long : 4096 < length s → RecordAnswer.Refused 30 0 ≡ readRecord s
-  unfolding readRecord
-  record-long h = sym (simp (lt-ltb 4096 (length s) h))
+  record-long h = sym (read-record-long s h)
 
   module _ (short : length s ≤ 4096) (x : Bool) (p : x ≡ hasVersion s) where
     pub record-other : x ≡ false → RecordAnswer.Refused 31 0 ≡ readRecord s
-    unfolding readRecord
-    record-other h = sym (simp (le-ltb 4096 (length s) short, sym p ∙ h))
+    record-other h = sym (read-record-other s short (sym p ∙ h))
 
     pub record-checked : x ≡ true → (r : RecordAnswer) → ((f : ℕ) → length s < f + 6 → r ≡ checkFrom f s 6 false false) → r ≡ readRecord s
-    unfolding readRecord
-    record-checked h r g = g (suc (length s)) (omega arith) ∙ sym (simp (le-ltb 4096 (length s) short, sym p ∙ h))
+    record-checked h r g = g (suc (length s)) (omega arith) ∙ sym (read-record-terms s short (sym p ∙ h))

@@ -1,6 +1,6 @@
 -- Reading a record and then its terms, as one claim: from soundness, completeness and the walk (Records).
 use Prim.Native.Nat.{ℕ, _≤_}
-use mathlib.Core.Path.{_≡_, sym, subst}
+use mathlib.Core.Path.{sym, subst}
 use mathlib.Core.List.{List}
 use lib.ListN.{length}
 use Rattle.records.specs.Readings.{Placed}

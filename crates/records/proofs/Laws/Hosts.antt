@@ -92,7 +92,7 @@ unfolding cutOf
 cut-inside t = run-end-inside (isIn Digit) t (trailingStart (isIn LengthByte) t) (trailing-le (isIn LengthByte) t)
 
 -- the ways out of the lengths, and of both together
-dual-elim {κ} : {A : Type 0} (P : A → Type κ) (x : Dual) (f : ℕ → ℕ → A) (z : A)
+pub dual-elim {κ} : {A : Type 0} (P : A → Type κ) (x : Dual) (f : ℕ → ℕ → A) (z : A)
     → ((n m : ℕ) → x ≡ Dual.Both n m → P (f n m)) → (x ≡ Dual.NoLengths → P z) → P (afterDual x f z)
 dual-elim P (Dual.Both n m) f z g h = g n m refl
 dual-elim P Dual.NoLengths f z g h = h refl

@@ -3,7 +3,7 @@
 use Prim.Native.Nat.{ℕ, _+_}
 use mathlib.Core.Path.{_≡_, refl, sym, ap, subst, _∙_}
 use mathlib.Core.List.{List, [], _∷_, _++_, map}
-use mathlib.Core.Bool.{Bool, true, false, _||_}
+use mathlib.Core.Bool.{true, false}
 use native.Mathlib.Omega.{arith}
 use lib.ListN.{length}
 use lib.Dec.{eqb}
@@ -13,7 +13,7 @@ use Rattle.text.specs.Lists.{all, same, sameWord}
 use Rattle.text.specs.Texts.{bytes}
 use Rattle.text.specs.Runs.{isIn, runEnd}
 use Rattle.text.specs.declared.bytes.Class.the-variants.{NameByte}
-use Rattle.text.proofs.Laws.Tests.{cond-elim, true-false}
+use Rattle.text.proofs.Laws.Tests.{cond-elim, true-false, or-false-left, or-false-right}
 use Rattle.text.proofs.Laws.Classes.{nonzero-inside}
 use Rattle.text.proofs.Laws.Words.{false-same, same-false}
 use Rattle.text.proofs.Laws.Spans.{Span, span-all, span-whole, span-join, span-cut, span-byte, span-word, span-part}
@@ -34,6 +34,28 @@ use Rattle.records.proofs.Laws.Names.{alpha-name, Word, literal-word, r
 use Rattle.records.proofs.Laws.Specs.{solid-spec, solid-string}
 use Rattle.records.proofs.Laws.Mechanisms.{solid-after}
 
+unreserved : (u : List ℕ) → sameWord u (bytes "redirect") ≡ false → sameWord u (bytes "exp") ≡ false → isReserved u ≡ false
+unfolding isReserved sameWord
+unreserved u h k = simp (h, k)
+
+-- the ways out of a modifier with its name up to k
+pub modifier-elim : (k : ℕ) (w : List ℕ) (P : Token → Type 0)
+    → (sameWord (part w 0 k) (bytes "redirect") ≡ true → isMacroString DomainSpec (part w (k + 1) (length w)) ≡ true → P (Token.Is (Term.Redirect (k + 1) (length w))))
+    → (sameWord (part w 0 k) (bytes "exp") ≡ true → isMacroString DomainSpec (part w (k + 1) (length w)) ≡ true → P (Token.Is (Term.Explanation (k + 1) (length w))))
+    → (isAlpha (at w 0) ≡ true → isReserved (part w 0 k) ≡ false → isMacroString ModifierValue (part w (k + 1) (length w)) ≡ true → P (Token.Is (Term.Unknown k (length w))))
+    → P Token.Outside → P (modifierOf k w)
+unfolding modifierOf
+modifier-elim k w P redirects explains others outside =
+    let name = part w 0 k in
+    let value = part w (k + 1) (length w) in
+    cond-elim P (isAlpha (at w 0))
+    (λ a. cond-elim P (sameWord name (bytes "redirect"))
+    (λ h. cond-elim P (isMacroString DomainSpec value) (redirects h) (λ _. outside))
+    (λ h. cond-elim P (sameWord name (bytes "exp"))
+    (λ q. cond-elim P (isMacroString DomainSpec value) (explains q) (λ _. outside))
+    (λ q. cond-elim P (isMacroString ModifierValue value) (others a (unreserved name h q)) (λ _. outside))))
+    (λ _. outside)
+
 -- what is read is a modifier
 pub record ModifierMade (w : List ℕ) (t : Term) : Type 0 where
   pub made : Modifier w (saidOf w t)
@@ -51,10 +73,6 @@ name-of : (u rest : List ℕ) → all isNameByte u ≡ true → isAlpha (at (u +
 name-of [] rest h a = absurd (true-false (isAlpha 61) a equals-no-alpha)
 name-of (b ∷ u) rest h a = letters a (all-rest isNameByte b u h)
 
-unreserved : (u : List ℕ) → sameWord u (bytes "redirect") ≡ false → sameWord u (bytes "exp") ≡ false → isReserved u ≡ false
-unfolding isReserved sameWord
-unreserved u h k = simp (h, k)
-
 -- with its name up to k, where `=` stands
 module _ (w : List ℕ) (k : ℕ) (p : Span w 0 k (part w 0 k)) (names : all isNameByte (part w 0 k) ≡ true) (equals : at w k ≡ 61) where
   whole : w ≡ part w 0 k ++ (61 ∷ part w (k + 1) (length w))
@@ -65,45 +83,24 @@ module _ (w : List ℕ) (k : ℕ) (p : Span w 0 k (part w 0 k)) (names : all isN
   at-whole : {x : Said} → Modifier (part w 0 k ++ (61 ∷ part w (k + 1) (length w))) x → Modifier w x
   at-whole {x} m = subst (λ (u : List ℕ). Modifier u x) (sym whole) m
 
-  redirect-made : sameWord (part w 0 k) (bytes "redirect") ≡ true → isMacroString DomainSpec (part w (k + 1) (length w)) ≡ true
-      → ModifierMade w (Term.Redirect (k + 1) (length w))
-  unfolding saidOf
-  redirect-made h m = record {
-    made = at-whole (Modifier.redirect {w = part w 0 k} (literal-of (bytes "redirect") (part w 0 k) h) (sound DomainSpec (part w (k + 1) (length w)) m));
-    other = tt;
-  }
-
-  explanation-made : sameWord (part w 0 k) (bytes "exp") ≡ true → isMacroString DomainSpec (part w (k + 1) (length w)) ≡ true
-      → ModifierMade w (Term.Explanation (k + 1) (length w))
-  unfolding saidOf
-  explanation-made h m = record {
-    made = at-whole (Modifier.explanation {w = part w 0 k} (literal-of (bytes "exp") (part w 0 k) h) (sound DomainSpec (part w (k + 1) (length w)) m));
-    other = tt;
-  }
-
-  unknown-made : isAlpha (at w 0) ≡ true → isReserved (part w 0 k) ≡ false → isMacroString ModifierValue (part w (k + 1) (length w)) ≡ true
-      → ModifierMade w (Term.Unknown k (length w))
-  unfolding saidOf
-  unknown-made a n m = record {
-    made = at-whole (Modifier.unknown {w = part w 0 k}
-        (name-of (part w 0 k) (part w (k + 1) (length w)) names (ap (λ (u : List ℕ). isAlpha (at u 0)) (sym whole) ∙ a))
-        n (sound ModifierValue (part w (k + 1) (length w)) m));
-    other = n;
-  }
-
   modifier-made : ModifierRight w (modifierOf k w)
-  unfolding modifierOf
-  modifier-made =
-      cond-elim (ModifierRight w) (isAlpha (at w 0))
-      (λ a. cond-elim (ModifierRight w) (sameWord (part w 0 k) (bytes "redirect"))
-      (λ h. cond-elim (ModifierRight w) (isMacroString DomainSpec (part w (k + 1) (length w))) {x = Token.Is (Term.Redirect (k + 1) (length w))} {y = Token.Outside}
-      (λ m. redirect-made h m) (λ _. tt))
-      (λ h. cond-elim (ModifierRight w) (sameWord (part w 0 k) (bytes "exp"))
-      (λ q. cond-elim (ModifierRight w) (isMacroString DomainSpec (part w (k + 1) (length w))) {x = Token.Is (Term.Explanation (k + 1) (length w))} {y = Token.Outside}
-      (λ m. explanation-made q m) (λ _. tt))
-      (λ q. cond-elim (ModifierRight w) (isMacroString ModifierValue (part w (k + 1) (length w))) {x = Token.Is (Term.Unknown k (length w))} {y = Token.Outside}
-      (λ m. unknown-made a (unreserved (part w 0 k) h q) m) (λ _. tt))))
-      (λ _. tt)
+  unfolding saidOf
+  modifier-made = modifier-elim k w (ModifierRight w)
+      (λ h m. record {
+        made = at-whole (Modifier.redirect {w = part w 0 k} (literal-of (bytes "redirect") (part w 0 k) h) (sound DomainSpec (part w (k + 1) (length w)) m));
+        other = tt;
+      })
+      (λ h m. record {
+        made = at-whole (Modifier.explanation {w = part w 0 k} (literal-of (bytes "exp") (part w 0 k) h) (sound DomainSpec (part w (k + 1) (length w)) m));
+        other = tt;
+      })
+      (λ a n m. record {
+        made = at-whole (Modifier.unknown {w = part w 0 k}
+            (name-of (part w 0 k) (part w (k + 1) (length w)) names (ap (λ (u : List ℕ). isAlpha (at u 0)) (sym whole) ∙ a))
+            n (sound ModifierValue (part w (k + 1) (length w)) m));
+        other = n;
+      })
+      tt
 
 name-run : (w : List ℕ) → all isNameByte (part w 0 (runEnd (isIn NameByte) w 0)) ≡ true
 unfolding isIn
@@ -167,21 +164,13 @@ explanation-after {w} {u} {d} {k} {ps} l s r = record {
   says = simp (value-part r);
 }
 
-neither-left : (t u : Bool) → (t || u) ≡ false → t ≡ false
-neither-left true u h = h
-neither-left false u h = refl
-
-neither-right : (t u : Bool) → (t || u) ≡ false → u ≡ false
-neither-right true u h = let z : _≡_ {A = ℕ} 0 1 = cc in absurd (omega arith)
-neither-right false u h = h
-
 no-redirect : (u : List ℕ) → isReserved u ≡ false → sameWord u (bytes "redirect") ≡ false
 unfolding isReserved sameWord
-no-redirect u h = neither-left (same (map lower u) (bytes "redirect")) (same (map lower u) (bytes "exp")) h
+no-redirect u h = or-false-left (same (map lower u) (bytes "redirect")) (same (map lower u) (bytes "exp")) h
 
 no-exp : (u : List ℕ) → isReserved u ≡ false → sameWord u (bytes "exp") ≡ false
 unfolding isReserved sameWord
-no-exp u h = neither-right (same (map lower u) (bytes "redirect")) (same (map lower u) (bytes "exp")) h
+no-exp u h = or-false-right (same (map lower u) (bytes "redirect")) (same (map lower u) (bytes "exp")) h
 
 unknown-after : {w u v : List ℕ} {k : ℕ} {ps : List Piece} → isReserved u ≡ false → MacroString ModifierValue v ps → Named w 0 k u (61 ∷ v)
     → After w k (modifier u v)

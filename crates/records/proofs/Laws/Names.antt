@@ -63,39 +63,7 @@ literal-word {word} {w} k l = record {
   names = lowered-names word w (k .names) (l .lowered);
 }
 
--- the names of mechanisms, and those of the modifiers that are no unknown ones
-pub all-word : Word (bytes "all")
-unfolding all isNameByte isAlphanumeric isAlpha isUpper isDigit within
-all-word = record { letter = refl; names = refl }
-
-pub include-word : Word (bytes "include")
-unfolding all isNameByte isAlphanumeric isAlpha isUpper isDigit within
-include-word = record { letter = refl; names = refl }
-
-pub a-word : Word (bytes "a")
-unfolding all isNameByte isAlphanumeric isAlpha isUpper isDigit within
-a-word = record { letter = refl; names = refl }
-
-pub mx-word : Word (bytes "mx")
-unfolding all isNameByte isAlphanumeric isAlpha isUpper isDigit within
-mx-word = record { letter = refl; names = refl }
-
-pub ptr-word : Word (bytes "ptr")
-unfolding all isNameByte isAlphanumeric isAlpha isUpper isDigit within
-ptr-word = record { letter = refl; names = refl }
-
-pub ip4-word : Word (bytes "ip4")
-unfolding all isNameByte isAlphanumeric isAlpha isUpper isDigit within
-ip4-word = record { letter = refl; names = refl }
-
-pub ip6-word : Word (bytes "ip6")
-unfolding all isNameByte isAlphanumeric isAlpha isUpper isDigit within
-ip6-word = record { letter = refl; names = refl }
-
-pub exists-word : Word (bytes "exists")
-unfolding all isNameByte isAlphanumeric isAlpha isUpper isDigit within
-exists-word = record { letter = refl; names = refl }
-
+-- the names of the known modifiers
 pub redirect-word : Word (bytes "redirect")
 unfolding all isNameByte isAlphanumeric isAlpha isUpper isDigit within
 redirect-word = record { letter = refl; names = refl }
@@ -141,39 +109,42 @@ kind-sound w =
     (λ _. cond-elim (KindRight w) (sameWord w (bytes "mx")) (literal-of (bytes "mx") w)
     (λ _. cond-elim (KindRight w) (sameWord w (bytes "ptr")) (literal-of (bytes "ptr") w) (λ _. later-sound w)))))
 
--- a literal of a mechanism's name is of its kind
-module _ {w : List ℕ} where
-  pub kind-all : Literal (bytes "all") w → kindOf w ≡ Kind.All
-  unfolding kindOf laterKind sameWord same
-  kind-all l = rw (l .lowered)
+-- the name of a mechanism: in either case of its letters it is of the kind
+pub record Known (name : List ℕ) (kind : Kind) : Type 0 where
+  pub word : Word name
+  pub is : (w : List ℕ) → Literal name w → kindOf w ≡ kind
 
-  pub kind-include : Literal (bytes "include") w → kindOf w ≡ Kind.Include
-  unfolding kindOf laterKind sameWord same
-  kind-include l = rw (l .lowered)
+pub all-known : Known (bytes "all") Kind.All
+unfolding kindOf laterKind sameWord same all isNameByte isAlphanumeric isAlpha isUpper isDigit within
+all-known = record { word = record { letter = refl; names = refl }; is = λ w l. rw (l .lowered) }
 
-  pub kind-a : Literal (bytes "a") w → kindOf w ≡ Kind.A
-  unfolding kindOf laterKind sameWord same
-  kind-a l = rw (l .lowered)
+pub include-known : Known (bytes "include") Kind.Include
+unfolding kindOf laterKind sameWord same all isNameByte isAlphanumeric isAlpha isUpper isDigit within
+include-known = record { word = record { letter = refl; names = refl }; is = λ w l. rw (l .lowered) }
 
-  pub kind-mx : Literal (bytes "mx") w → kindOf w ≡ Kind.Mx
-  unfolding kindOf laterKind sameWord same
-  kind-mx l = rw (l .lowered)
+pub a-known : Known (bytes "a") Kind.A
+unfolding kindOf laterKind sameWord same all isNameByte isAlphanumeric isAlpha isUpper isDigit within
+a-known = record { word = record { letter = refl; names = refl }; is = λ w l. rw (l .lowered) }
 
-  pub kind-ptr : Literal (bytes "ptr") w → kindOf w ≡ Kind.Ptr
-  unfolding kindOf laterKind sameWord same
-  kind-ptr l = rw (l .lowered)
+pub mx-known : Known (bytes "mx") Kind.Mx
+unfolding kindOf laterKind sameWord same all isNameByte isAlphanumeric isAlpha isUpper isDigit within
+mx-known = record { word = record { letter = refl; names = refl }; is = λ w l. rw (l .lowered) }
 
-  pub kind-ip4 : Literal (bytes "ip4") w → kindOf w ≡ Kind.Ip4
-  unfolding kindOf laterKind sameWord same
-  kind-ip4 l = rw (l .lowered)
+pub ptr-known : Known (bytes "ptr") Kind.Ptr
+unfolding kindOf laterKind sameWord same all isNameByte isAlphanumeric isAlpha isUpper isDigit within
+ptr-known = record { word = record { letter = refl; names = refl }; is = λ w l. rw (l .lowered) }
 
-  pub kind-ip6 : Literal (bytes "ip6") w → kindOf w ≡ Kind.Ip6
-  unfolding kindOf laterKind sameWord same
-  kind-ip6 l = rw (l .lowered)
+pub ip4-known : Known (bytes "ip4") Kind.Ip4
+unfolding kindOf laterKind sameWord same all isNameByte isAlphanumeric isAlpha isUpper isDigit within
+ip4-known = record { word = record { letter = refl; names = refl }; is = λ w l. rw (l .lowered) }
 
-  pub kind-exists : Literal (bytes "exists") w → kindOf w ≡ Kind.Exists
-  unfolding kindOf laterKind sameWord same
-  kind-exists l = rw (l .lowered)
+pub ip6-known : Known (bytes "ip6") Kind.Ip6
+unfolding kindOf laterKind sameWord same all isNameByte isAlphanumeric isAlpha isUpper isDigit within
+ip6-known = record { word = record { letter = refl; names = refl }; is = λ w l. rw (l .lowered) }
+
+pub exists-known : Known (bytes "exists") Kind.Exists
+unfolding kindOf laterKind sameWord same all isNameByte isAlphanumeric isAlpha isUpper isDigit within
+exists-known = record { word = record { letter = refl; names = refl }; is = λ w l. rw (l .lowered) }
 
 -- a name that begins at i and ends before k, and what stands from there on
 pub record Named (w : List ℕ) (i k : ℕ) (name rest : List ℕ) : Type 0 where
@@ -221,7 +192,11 @@ Unreserved w (Term.Redirect from to) = Unit {0}
 Unreserved w (Term.Explanation from to) = Unit {0}
 Unreserved w (Term.Unknown name to) = isReserved (part w 0 name) ≡ false
 
--- a letter is no qualifier
+-- a letter is no qualifier, and past the end stands none
 pub alpha-unsigned : (b : ℕ) → isAlpha b ≡ true → isQualifier b ≡ false
 unfolding isQualifier isAlpha isUpper within
 alpha-unsigned b h = simp (apart isAlpha b 43 h refl, apart isAlpha b 45 h refl, apart isAlpha b 63 h refl, apart isAlpha b 126 h refl)
+
+pub qualifier-zero : isQualifier 0 ≡ false
+unfolding isQualifier
+qualifier-zero = refl

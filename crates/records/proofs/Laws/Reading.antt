@@ -1,7 +1,7 @@
 -- The ways out of the functions that read one term: a rule for each way, whose premises are what the code knows there. From the definitions of
 -- Reader and the laws of runs.
 use Prim.Native.Nat.{ℕ, _+_, _-_, _≤_, _<_, _^_}
-use mathlib.Core.Path.{_≡_, refl, sym, ap, _∙_}
+use mathlib.Core.Path.{_≡_, sym, ap, _∙_}
 use mathlib.Core.List.{List}
 use mathlib.Core.Bool.{Bool, true, false, cond}
 use native.Mathlib.Omega.{arith}
@@ -17,11 +17,11 @@ use Rattle.text.specs.declared.bytes.Class.the-variants.{NotSlash, Alpha, Digit
 use Rattle.text.proofs.Laws.Classes.{nonzero-inside, class-inside}
 use Rattle.text.proofs.Laws.Runs.{run-end-inside}
 use Rattle.text.proofs.Laws.Spans.{rest-part}
+use Rattle.records.proofs.Laws.Names.{qualifier-zero}
 use Rattle.records.proofs.Laws.Hosts.{cut-inside}
 use Rattle.macros.specs.declared.Form.the-variants.{DomainSpec, ModifierValue}
 use Rattle.macros.specs.Reader.{isMacroString}
-use Rattle.networks.specs.Reader.{readIp4, readLength4, readLength6, readDual}
-use Rattle.networks.specs.Reader6.{readIp6}
+use Rattle.networks.specs.Reader.{readDual}
 use Rattle.networks.specs.declared.Network.{Network}
 use Rattle.networks.specs.declared.Length.{Length}
 use Rattle.networks.specs.declared.Dual.{Dual}
@@ -31,7 +31,7 @@ use Rattle.records.specs.declared.Token.{Token}
 use Rattle.records.specs.declared.terms.Kind.{Kind}
 use Rattle.records.specs.declared.terms.Spec.{Spec}
 use Rattle.records.specs.declared.terms.Hosts.{Hosts}
-use Rattle.records.specs.Reader.{kindOf, specAt, cutOf, hostsCut, hostsAt, ip4Cut, ip4Of, ip6Cut, ip6Of, mechanismBy, mechanismOf, modifierOf, tokenOf}
+use Rattle.records.specs.Reader.{kindOf, specAt, cutOf, hostsCut, hostsAt, networkTerm, networkCut, networkBy, mechanismBy, mechanismOf, modifierOf, tokenOf}
 
 -- what stands before a colon lies inside
 pub colon-room : (w : List ℕ) (k b : ℕ) → b ≡ at w k → b ≡ 58 → length w < 2 ^ 64 → k + 1 < 2 ^ 64
@@ -89,57 +89,29 @@ module _ (w : List ℕ) (k : ℕ) (t : List ℕ) (p : t ≡ part w k (length w))
   unfolding hostsAt
   hosts-found r e = e ∙ ap (λ (i : ℕ). hostsCut w k (k + i)) (q ∙ ap cutOf p)
 
--- `read_ip4_cut`
-module _ (sign from : ℕ) (w : List ℕ) (slash : ℕ) (t : List ℕ) (p : t ≡ part w from slash) (n : Network) (q : n ≡ readIp4 t) where
-  network4 : readIp4 (part w from slash) ≡ n
-  network4 = ap readIp4 (sym p) ∙ sym q
+-- `network_term`
+module _ (sign from to : ℕ) (network : Network) (size : Length) where
+  pub no-network : network ≡ Network.NoNetwork → Token.Outside ≡ networkTerm sign from to network size
+  unfolding networkTerm
+  no-network h = sym (simp h)
 
-  pub ip4-no-network : n ≡ Network.NoNetwork → Token.Outside ≡ ip4Cut sign from w slash
-  unfolding ip4Cut
-  ip4-no-network h = sym (simp (network4 ∙ h))
+  module _ (x : Address) (h : network ≡ Network.Is x) where
+    pub no-length : size ≡ Length.NoLength → Token.Outside ≡ networkTerm sign from to network size
+    unfolding networkTerm
+    no-length e = sym (simp (h, e))
 
-  module _ (x : Address) (h : n ≡ Network.Is x) (u : List ℕ) (e : u ≡ part w slash (length w)) (l : Length) (g : l ≡ readLength4 u) where
-    length4 : readLength4 (part w slash (length w)) ≡ l
-    length4 = ap readLength4 (sym e) ∙ sym g
+    pub network-is : (n : ℕ) → size ≡ Length.Of n → Token.Is (Term.Network sign from to x n) ≡ networkTerm sign from to network size
+    unfolding networkTerm
+    network-is n e = sym (simp (h, e))
 
-    pub ip4-no-length : l ≡ Length.NoLength → Token.Outside ≡ ip4Cut sign from w slash
-    unfolding ip4Cut
-    ip4-no-length f = sym (simp (network4 ∙ h, length4 ∙ f))
-
-    pub ip4-network : (m : ℕ) → l ≡ Length.Of m → Token.Is (Term.Network sign from slash x m) ≡ ip4Cut sign from w slash
-    unfolding ip4Cut
-    ip4-network m f = sym (simp (network4 ∙ h, length4 ∙ f))
-
--- `read_ip6_cut`
-module _ (sign from : ℕ) (w : List ℕ) (slash : ℕ) (t : List ℕ) (p : t ≡ part w from slash) (n : Network) (q : n ≡ readIp6 t) where
-  network6 : readIp6 (part w from slash) ≡ n
-  network6 = ap readIp6 (sym p) ∙ sym q
-
-  pub ip6-no-network : n ≡ Network.NoNetwork → Token.Outside ≡ ip6Cut sign from w slash
-  unfolding ip6Cut
-  ip6-no-network h = sym (simp (network6 ∙ h))
-
-  module _ (x : Address) (h : n ≡ Network.Is x) (u : List ℕ) (e : u ≡ part w slash (length w)) (l : Length) (g : l ≡ readLength6 u) where
-    length6 : readLength6 (part w slash (length w)) ≡ l
-    length6 = ap readLength6 (sym e) ∙ sym g
-
-    pub ip6-no-length : l ≡ Length.NoLength → Token.Outside ≡ ip6Cut sign from w slash
-    unfolding ip6Cut
-    ip6-no-length f = sym (simp (network6 ∙ h, length6 ∙ f))
-
-    pub ip6-network : (m : ℕ) → l ≡ Length.Of m → Token.Is (Term.Network sign from slash x m) ≡ ip6Cut sign from w slash
-    unfolding ip6Cut
-    ip6-network m f = sym (simp (network6 ∙ h, length6 ∙ f))
-
--- `read_ip4_term` and `read_ip6_term`
-module _ (sign k : ℕ) (w : List ℕ) (b : ℕ) (p : b ≡ at w k) (colon : b ≡ 58) (slash : ℕ) (q : slash ≡ runEnd (isIn NotSlash) w (k + 1)) (r : Token) where
-  pub ip4-found : r ≡ ip4Cut sign (k + 1) w slash → r ≡ ip4Of sign k w
-  unfolding ip4Of
-  ip4-found e = e ∙ sym (simp (eq-eqb (at w k) 58 (sym p ∙ colon), q))
-
-  pub ip6-found : r ≡ ip6Cut sign (k + 1) w slash → r ≡ ip6Of sign k w
-  unfolding ip6Of
-  ip6-found e = e ∙ sym (simp (eq-eqb (at w k) 58 (sym p ∙ colon), q))
+-- `read_ip4`, `read_ip6`
+pub network-found : (read : List ℕ → Network) (size : List ℕ → Length) (sign k : ℕ) (w : List ℕ) (b : ℕ) → b ≡ at w k → b ≡ 58
+    → (slash : ℕ) → slash ≡ runEnd (isIn NotSlash) w (k + 1) → (t : List ℕ) → t ≡ part w (k + 1) slash → (x : Network) → x ≡ read t
+    → (u : List ℕ) → u ≡ part w slash (length w) → (n : Length) → n ≡ size u
+    → (r : Token) → r ≡ networkTerm sign (k + 1) slash x n → r ≡ networkBy read size sign k w
+unfolding networkBy networkCut
+network-found read size sign k w b p colon slash q t et x ex u eu n en r e =
+    e ∙ simp (eq-eqb (at w k) 58 (sym p ∙ colon), ex, et, en, eu, q)
 
 -- `read_mechanism_by`
 pub by-kind : (kind x : Kind) (sign k : ℕ) (w : List ℕ) (r : Token) → kind ≡ x → r ≡ mechanismBy x sign k w → r ≡ mechanismBy kind sign k w
@@ -212,12 +184,8 @@ module _ (w : List ℕ) (a : ℕ) (p : a ≡ at w 0) (x : Bool) (q : x ≡ isQua
   signed : isQualifier (at w 0) ≡ x
   signed = ap isQualifier (sym p) ∙ sym q
 
-  none-zero : isQualifier 0 ≡ false
-  unfolding isQualifier
-  none-zero = refl
-
   pub sign-inside : x ≡ true → 1 ≤ length w
-  sign-inside h = class-inside isQualifier none-zero w 0 (signed ∙ h)
+  sign-inside h = class-inside isQualifier qualifier-zero w 0 (signed ∙ h)
 
   pub token-signed : x ≡ true → (r : Token) → r ≡ mechanismOf a 1 w → r ≡ tokenOf w
   unfolding tokenOf

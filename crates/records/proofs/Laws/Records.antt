@@ -1,5 +1,5 @@
 -- Reading a record and then term after term: accepted exactly if produced, with the one reading; refused with the number and place that the
--- productions say.
+-- productions say. From the laws of Walks, of Rests and of the version.
 use Prim.Native.Nat.{ℕ, suc, _+_, _≤_, _<_}
 use mathlib.Core.Path.{_≡_, refl, sym, ap, subst, _∙_}
 use mathlib.Core.Logic.{inl, inr, ⊎-elim}
@@ -31,17 +31,17 @@ use Rattle.records.proofs.Laws.Walks.{Walk, terms-walk, terms-boundary,
 use Rattle.records.proofs.Laws.Rests.{FrontFrom, Rest, rest-answers}
 
 -- the three ways through `readRecord`
-read-long : (s : List ℕ) → 4096 < length s → readRecord s ≡ RecordAnswer.Refused 30 0
+pub read-record-long : (s : List ℕ) → 4096 < length s → readRecord s ≡ RecordAnswer.Refused 30 0
 unfolding readRecord
-read-long s h = simp (lt-ltb 4096 (length s) h)
+read-record-long s h = simp (lt-ltb 4096 (length s) h)
 
-read-other : (s : List ℕ) → length s ≤ 4096 → hasVersion s ≡ false → readRecord s ≡ RecordAnswer.Refused 31 0
+pub read-record-other : (s : List ℕ) → length s ≤ 4096 → hasVersion s ≡ false → readRecord s ≡ RecordAnswer.Refused 31 0
 unfolding readRecord
-read-other s h v = simp (le-ltb 4096 (length s) h, v)
+read-record-other s h v = simp (le-ltb 4096 (length s) h, v)
 
-read-terms : (s : List ℕ) → length s ≤ 4096 → hasVersion s ≡ true → readRecord s ≡ checkFrom (suc (length s)) s 6 false false
+pub read-record-terms : (s : List ℕ) → length s ≤ 4096 → hasVersion s ≡ true → readRecord s ≡ checkFrom (suc (length s)) s 6 false false
 unfolding readRecord
-read-terms s h v = simp (le-ltb 4096 (length s) h, v)
+read-record-terms s h v = simp (le-ltb 4096 (length s) h, v)
 
 -- each name at most once, as the counts from the front on
 once-fits : (ts : List Placed) → Once ts → Fits (count false) (count false) ts
@@ -55,7 +55,7 @@ loop-after : {s : List ℕ} {ts : List Placed} {j : ℕ} → length s ≤ 4096 �
     → Reached s (readRecord s) (count false) (count false) ts j
 loop-after {s} {ts} {j} h v w o =
     let z = check-walk h w (length s) (omega arith) false false (once-fits ts o) in
-    record { fuel = z .fuel; flag = z .flag; mark = z .mark; is = read-terms s h v ∙ z .is; redirects = z .redirects; explanations = z .explanations }
+    record { fuel = z .fuel; flag = z .flag; mark = z .mark; is = read-record-terms s h v ∙ z .is; redirects = z .redirects; explanations = z .explanations }
 
 -- complete: what the grammar produces is accepted, and its terms are read one after the other, then the end
 pub record Accepts (s : List ℕ) (ts : List Placed) : Type 0 where
@@ -126,16 +126,16 @@ module _ (s : List ℕ) (h : length s ≤ 4096) (d : Version s (take 6 s) (drop 
 pub record-answers : (s : List ℕ) → RecordAnswers s (recordReport (readRecord s))
 record-answers s = ⊎-elim
     (λ (h : length s ≤ 4096). by h (hasVersion s) refl)
-    (λ (h : 4096 < length s). subst (λ (a : RecordAnswer). RecordAnswers s (recordReport a)) (sym (read-long s h)) (too-long h))
+    (λ (h : 4096 < length s). subst (λ (a : RecordAnswer). RecordAnswers s (recordReport a)) (sym (read-record-long s h)) (too-long h))
     (le-or-lt (length s) 4096)
   where
     by : length s ≤ 4096 → (t : Bool) → hasVersion s ≡ t → RecordAnswers s (recordReport (readRecord s))
     by h true q =
         let d = version-of s q in
-        subst (λ (a : RecordAnswer). RecordAnswers s (recordReport a)) (sym (read-terms s h q))
+        subst (λ (a : RecordAnswer). RecordAnswers s (recordReport a)) (sym (read-record-terms s h q))
         (rest-record s h d (rest-answers (suc (length s)) s 6 h (version-inside d) (d .ends) (omega arith) false false))
     by h false q =
-        subst (λ (a : RecordAnswer). RecordAnswers s (recordReport a)) (sym (read-other s h q))
+        subst (λ (a : RecordAnswer). RecordAnswers s (recordReport a)) (sym (read-record-other s h q))
         (no-version h (λ v rest d. let t = has-version d in let z : _≡_ {A = ℕ} 0 1 = cc in omega arith))
 
 -- sound: what is accepted, the grammar produces
@@ -149,7 +149,7 @@ record-sound s n e = by (record-answers s) (ap recordReport e)
     by (repeated h f o d m) q = absurd (let z : _≡_ {A = ℕ} 0 1 = cc in omega arith)
     by (produced {ts = ts} h v d) q = (ts, d)
 
--- and the answer is determined: the front of a refused record as the loop walks over it, and the run at the place
+-- the front of a refused record as the loop walks over it, and the run at the place
 record FrontWalked (s : List ℕ) (ts : List Placed) (w : List ℕ) (p : ℕ) : Type 0 where
   last : ℕ
   finish : ℕ
@@ -205,10 +205,11 @@ repeated-is {s} {ts} {w} {p} {x} h f o d n =
     (λ c. n (once-more ts (record { place = p; said = x }) (z .flag) (z .mark) (isRedirect (t .found)) (isExplanation (t .found)) (z .redirects) (z .explanations) (t .redirect) (t .explanation) c)) in
     z .is ∙ check-twice (z .fuel) s (g .last) (z .flag) (z .mark) p (g .finish) (t .found) (t .read) e
 
+-- for the reader: what the productions say of an answer determines it, so `RecordAnswers` is no weaker than the equation with `readRecord`
 pub record-answers-is : (s : List ℕ) (r : RecordReport) → RecordAnswers s r → r ≡ recordReport (readRecord s)
-record-answers-is s r (too-long h) = ap recordReport (sym (read-long s h))
+record-answers-is s r (too-long h) = ap recordReport (sym (read-record-long s h))
 record-answers-is s r (no-version h v) =
-    ap recordReport (sym (read-other s h (test-fails (hasVersion s) (λ q. v (take 6 s) (drop 6 s) (version-of s q)))))
+    ap recordReport (sym (read-record-other s h (test-fails (hasVersion s) (λ q. v (take 6 s) (drop 6 s) (version-of s q)))))
 record-answers-is s r (outside h f o i) = ap recordReport (sym (outside-is h f o i))
 record-answers-is s r (repeated h f o d n) = ap recordReport (sym (repeated-is h f o d n))
 record-answers-is s r (produced h v d) = ap accepted (version-size v) ∙ ap recordReport (sym (record-complete d h .accepted))

@@ -139,40 +139,22 @@ label-ending (b ∷ w) h = ⊎-elim
     by true e k = inl (all-cons isDigit b w e k)
     by false e k = inr (record { front = []; byte = b; digits = w; parts = refl; outside = label-outside b (all-first isToplabelByte b w h) e; inside = k })
 
-dot-outside : isLengthByte 46 ≡ false
-unfolding isLengthByte within
-dot-outside = refl
-
-brace-outside : isLengthByte 125 ≡ false
-unfolding isLengthByte within
-brace-outside = refl
-
-percent-outside : isLengthByte 37 ≡ false
-unfolding isLengthByte within
-percent-outside = refl
-
-underscore-outside : isLengthByte 95 ≡ false
-unfolding isLengthByte within
-underscore-outside = refl
-
-hyphen-outside : isLengthByte 45 ≡ false
-unfolding isLengthByte within
-hyphen-outside = refl
-
 expand-ending : {form : Form} {w : List ℕ} {p : Piece} → MacroExpand form w p → Ending w
+unfolding isLengthByte within
 expand-ending (braces {letter = letter} {digits = digits} {r = r} {delimiters = delimiters} hl hc hr hd) =
     ending-after (37 ∷ 123 ∷ letter ∷ digits) (r ++ (delimiters ++ (125 ∷ [])))
-    (ending-after r (delimiters ++ (125 ∷ [])) (ending-byte delimiters 125 brace-outside))
-expand-ending percent = ending-byte (37 ∷ []) 37 percent-outside
-expand-ending underscore = ending-byte (37 ∷ []) 95 underscore-outside
-expand-ending hyphen = ending-byte (37 ∷ []) 45 hyphen-outside
+    (ending-after r (delimiters ++ (125 ∷ [])) (ending-byte delimiters 125 refl))
+expand-ending percent = ending-byte (37 ∷ []) 37 refl
+expand-ending underscore = ending-byte (37 ∷ []) 95 refl
+expand-ending hyphen = ending-byte (37 ∷ []) 45 refl
 
 end-ending : {w : List ℕ} {ps : List Piece} → DomainEnd w ps → Ending w
+unfolding isLengthByte within
 end-ending (label {w = w} t) = ⊎-elim
-    (λ (k : all isDigit w ≡ true). record { front = []; byte = 46; digits = w; parts = refl; outside = dot-outside; inside = k })
+    (λ (k : all isDigit w ≡ true). record { front = []; byte = 46; digits = w; parts = refl; outside = refl; inside = k })
     (λ (e : Ending w). ending-after (46 ∷ []) w e)
     (label-ending w (toplabel-bytes t))
-end-ending (label-dot {w = w} t) = ending-byte (46 ∷ w) 46 dot-outside
+end-ending (label-dot {w = w} t) = ending-byte (46 ∷ w) 46 refl
 end-ending (DomainEnd.expands m) = expand-ending m
 
 pub spec-ending : {d : List ℕ} {ps : List Piece} → DomainSpecs d ps → Ending d

@@ -51,11 +51,11 @@ view-answers s i h k (View.outside {a = a} {e = e} n q) = place-refused n h k (o
 view-answers s i h k (View.is {a = a} {e = e} {t = t} n q) = place-term n h k (token-sound (part s a e) t q)
 
 -- the two refusals that look at no term
-read-long : (s : List ℕ) (i : ℕ) → 4096 < length s → readTerm s i ≡ TermAnswer.Refused 30 0
+pub read-long : (s : List ℕ) (i : ℕ) → 4096 < length s → readTerm s i ≡ TermAnswer.Refused 30 0
 unfolding readTerm
 read-long s i h = simp (lt-ltb 4096 (length s) h)
 
-read-past : (s : List ℕ) (i : ℕ) → length s ≤ 4096 → length s < i → readTerm s i ≡ TermAnswer.Refused 34 i
+pub read-past : (s : List ℕ) (i : ℕ) → length s ≤ 4096 → length s < i → readTerm s i ≡ TermAnswer.Refused 34 i
 unfolding readTerm
 read-past s i h k = simp (le-ltb 4096 (length s) h, lt-ltb (length s) i k)
 
@@ -68,7 +68,7 @@ term-answers s i = ⊎-elim
     (λ (h : 4096 < length s). subst (λ (x : TermAnswer). TermAnswers s i (termReport s x)) (sym (read-long s i h)) (too-long h))
     (le-or-lt (length s) 4096)
 
--- the answer is determined
+-- for the reader: what the productions say of an answer determines it, so `TermAnswers` is no weaker than the equation with `readTerm`
 pub term-answers-is : (s : List ℕ) (i : ℕ) (r : TermReport) → TermAnswers s i r → r ≡ termReport s (readTerm s i)
 unfolding tokenAnswer
 term-answers-is s i r (too-long h) = simp (read-long s i h)

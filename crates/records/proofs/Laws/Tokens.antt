@@ -1,6 +1,6 @@
 -- One term: a run of non-spaces is read as a term exactly if the productions make it, with exactly what they say. From the laws of mechanisms and
 -- of modifiers.
-use Prim.Native.Nat.{ℕ, _<_}
+use Prim.Native.Nat.{ℕ, _≤_, _<_}
 use mathlib.Core.Path.{_≡_, refl, sym, subst}
 use mathlib.Core.List.{List, [], _∷_}
 use mathlib.Core.Bool.{true, false}
@@ -23,7 +23,7 @@ use Rattle.records.specs.Readings.{Said}
 use Rattle.records.specs.Grammar.{Term as Produced, directive, modifier-term, unsigned, signed, isQualifier}
 use Rattle.records.specs.Numbers.{saidOf}
 use Rattle.records.specs.Reader.{kindOf, laterKind, mechanismBy, mechanismOf, modifierOf, tokenOf, isRedirect, isExplanation}
-use Rattle.records.proofs.Laws.Names.{Unreserved, alpha-unsigned}
+use Rattle.records.proofs.Laws.Names.{Unreserved, alpha-unsigned, qualifier-zero}
 use Rattle.records.proofs.Laws.Specs.{solid-one}
 use Rattle.records.proofs.Laws.Mechanisms.{MechanismRight, mechanism-sound, MechanismRead, mechanism-complete, solid-mechanism}
 use Rattle.records.proofs.Laws.Modifiers.{ModifierRight, modifier-sound, ModifierRead, modifier-complete, solid-modifier, unreserved-redirect, unreserved-exp}
@@ -36,10 +36,6 @@ record TokenMade (w : List ℕ) (t : Term) : Type 0 where
 abbrev TokenRight : List ℕ → Token → Type 0
 TokenRight w (Token.Is t) = TokenMade w t
 TokenRight w Token.Outside = Unit {0}
-
-qualifier-zero : isQualifier 0 ≡ false
-unfolding isQualifier
-qualifier-zero = refl
 
 signed-right : (w : List ℕ) → isQualifier (at w 0) ≡ true → (t : Token) → MechanismRight w 1 (at w 0) t → TokenRight w t
 signed-right [] h (Token.Is t) m = absurd (omega (arith, class-inside isQualifier qualifier-zero [] 0 h))
@@ -58,14 +54,20 @@ modifier-right : (w : List ℕ) (t : Token) → ModifierRight w t → TokenRight
 modifier-right w (Token.Is t) m = record { made = modifier-term (m .made); other = m .other }
 modifier-right w Token.Outside m = tt
 
-token-right : (w : List ℕ) → TokenRight w (tokenOf w)
+-- the ways out of a run of non-spaces
+pub token-elim : (w : List ℕ) (P : Token → Type 0) → (isQualifier (at w 0) ≡ true → 1 ≤ length w → P (mechanismOf (at w 0) 1 w))
+    → (at w (runEnd (isIn NameByte) w 0) ≡ 61 → P (modifierOf (runEnd (isIn NameByte) w 0) w)) → P (mechanismOf 43 0 w) → P (tokenOf w)
 unfolding tokenOf
-token-right w =
-    cond-elim (TokenRight w) (isQualifier (at w 0))
-    (λ h. signed-right w h (mechanismOf (at w 0) 1 w) (mechanism-sound (at w 0) 1 w (let i = class-inside isQualifier qualifier-zero w 0 h in omega arith)))
-    (λ _. cond-elim (TokenRight w) (eqb (at w (runEnd (isIn NameByte) w 0)) 61)
-    (λ e. modifier-right w (modifierOf (runEnd (isIn NameByte) w 0) w) (modifier-sound w (eqb-true (at w (runEnd (isIn NameByte) w 0)) 61 e)))
-    (λ _. unsigned-right w (mechanismOf 43 0 w) (mechanism-sound 43 0 w (omega arith))))
+token-elim w P signs equals plain =
+    cond-elim P (isQualifier (at w 0))
+    (λ h. signs h (let i = class-inside isQualifier qualifier-zero w 0 h in omega arith))
+    (λ _. cond-elim P (eqb (at w (runEnd (isIn NameByte) w 0)) 61) (λ e. equals (eqb-true (at w (runEnd (isIn NameByte) w 0)) 61 e)) (λ _. plain))
+
+token-right : (w : List ℕ) → TokenRight w (tokenOf w)
+token-right w = token-elim w (TokenRight w)
+    (λ h i. signed-right w h (mechanismOf (at w 0) 1 w) (mechanism-sound (at w 0) 1 w i))
+    (λ e. modifier-right w (modifierOf (runEnd (isIn NameByte) w 0) w) (modifier-sound w e))
+    (unsigned-right w (mechanismOf 43 0 w) (mechanism-sound 43 0 w (omega arith)))
 
 token-made : (w : List ℕ) (t : Term) → tokenOf w ≡ Token.Is t → TokenMade w t
 token-made w t e = subst (TokenRight w) e (token-right w)
@@ -125,36 +127,26 @@ pub term-solid : {w : List ℕ} {x : Said} → Produced w x → Solid w
 term-solid {w} d = record { some = some-term w d; no-space = solid-term d }
 
 -- a redirect or an exp is known by its name
-redirect-by : (w : List ℕ) (t : Term) → Unreserved w t → same (saidOf w t .name) (bytes "redirect") ≡ isRedirect t
-unfolding saidOf isRedirect same
-redirect-by w (Term.All sign) u = refl
-redirect-by w (Term.Include sign from to) u = refl
-redirect-by w (Term.A sign from to n m) u = refl
-redirect-by w (Term.Mx sign from to n m) u = refl
-redirect-by w (Term.Ptr sign from to) u = refl
-redirect-by w (Term.Network sign from to (IPv4 v) n) u = refl
-redirect-by w (Term.Network sign from to (IPv6 h l) n) u = refl
-redirect-by w (Term.Exists sign from to) u = refl
-redirect-by w (Term.Redirect from to) u = refl
-redirect-by w (Term.Explanation from to) u = refl
-redirect-by w (Term.Unknown name to) u = unreserved-redirect (part w 0 name) u
+record Told (name : List ℕ) (t : Term) : Type 0 where
+  redirect : same name (bytes "redirect") ≡ isRedirect t
+  explanation : same name (bytes "exp") ≡ isExplanation t
+
+told : (w : List ℕ) (t : Term) → Unreserved w t → Told (saidOf w t .name) t
+unfolding saidOf isRedirect isExplanation same
+told w (Term.All sign) u = record { redirect = refl; explanation = refl }
+told w (Term.Include sign from to) u = record { redirect = refl; explanation = refl }
+told w (Term.A sign from to n m) u = record { redirect = refl; explanation = refl }
+told w (Term.Mx sign from to n m) u = record { redirect = refl; explanation = refl }
+told w (Term.Ptr sign from to) u = record { redirect = refl; explanation = refl }
+told w (Term.Network sign from to (IPv4 v) n) u = record { redirect = refl; explanation = refl }
+told w (Term.Network sign from to (IPv6 h l) n) u = record { redirect = refl; explanation = refl }
+told w (Term.Exists sign from to) u = record { redirect = refl; explanation = refl }
+told w (Term.Redirect from to) u = record { redirect = refl; explanation = refl }
+told w (Term.Explanation from to) u = record { redirect = refl; explanation = refl }
+told w (Term.Unknown name to) u = record { redirect = unreserved-redirect (part w 0 name) u; explanation = unreserved-exp (part w 0 name) u }
 
 pub redirect-name : (w : List ℕ) (t : Term) → tokenOf w ≡ Token.Is t → same (saidOf w t .name) (bytes "redirect") ≡ isRedirect t
-redirect-name w t e = redirect-by w t (token-made w t e .other)
-
-explanation-by : (w : List ℕ) (t : Term) → Unreserved w t → same (saidOf w t .name) (bytes "exp") ≡ isExplanation t
-unfolding saidOf isExplanation same
-explanation-by w (Term.All sign) u = refl
-explanation-by w (Term.Include sign from to) u = refl
-explanation-by w (Term.A sign from to n m) u = refl
-explanation-by w (Term.Mx sign from to n m) u = refl
-explanation-by w (Term.Ptr sign from to) u = refl
-explanation-by w (Term.Network sign from to (IPv4 v) n) u = refl
-explanation-by w (Term.Network sign from to (IPv6 h l) n) u = refl
-explanation-by w (Term.Exists sign from to) u = refl
-explanation-by w (Term.Redirect from to) u = refl
-explanation-by w (Term.Explanation from to) u = refl
-explanation-by w (Term.Unknown name to) u = unreserved-exp (part w 0 name) u
+redirect-name w t e = told w t (token-made w t e .other) .redirect
 
 pub explanation-name : (w : List ℕ) (t : Term) → tokenOf w ≡ Token.Is t → same (saidOf w t .name) (bytes "exp") ≡ isExplanation t
-explanation-name w t e = explanation-by w t (token-made w t e .other)
+explanation-name w t e = told w t (token-made w t e .other) .explanation

@@ -9,7 +9,7 @@ use lib.ListN.{length, drop, length-append}
 use Rattle.text.specs.Bytes.{part, isSpace}
 use Rattle.text.specs.Lists.{all, same}
 use Rattle.text.specs.Texts.{bytes}
-use Rattle.text.proofs.Laws.Tests.{and-left}
+use Rattle.text.proofs.Laws.Tests.{and-left, or-false-both}
 use Rattle.text.proofs.Laws.Spans.{Span, span-cut, span-word}
 use Rattle.text.proofs.Laws.Classes.{space-is}
 use Rattle.records.specs.Readings.{Said, Placed}
@@ -116,10 +116,10 @@ module _ (f : ℕ) (s : List ℕ) (i : ℕ) (r x : Bool) where
     unfolding checkFrom checkAfter
     check-twice h = simp (q, h)
 
-    pub check-next : (r && isRedirect t) ≡ false → (x && isExplanation t) ≡ false
+    pub check-on : ((r && isRedirect t) || (x && isExplanation t)) ≡ false
         → checkFrom (suc f) s i r x ≡ checkFrom f s e (r || isRedirect t) (x || isExplanation t)
     unfolding checkFrom checkAfter
-    check-next h k = simp (q, h, k)
+    check-on h = simp (q, h)
 
 -- where the loop stands after a walk
 pub record Reached (s : List ℕ) (answer : RecordAnswer) (m n : ℕ) (ts : List Placed) (j : ℕ) : Type 0 where
@@ -166,5 +166,5 @@ check-walk {s} {i} {j} h (next {a = a} {e = e} {x = y} {ts = ts} n d g) (suc f) 
     let sr = flag-sum r (isRedirect (o .found)) fr in
     let sx = flag-sum x (isExplanation (o .found)) fx in
     let fits : Fits (count (r || isRedirect (o .found))) (count (x || isExplanation (o .found))) ts = record { redirects = omega (arith, c .redirects); explanations = omega (arith, c .explanations) } in
-    reached-before t (check-next (suc f) s i r x a e (o .found) (o .read) fr fx) (omega arith) (omega arith)
+    reached-before t (check-on (suc f) s i r x a e (o .found) (o .read) (or-false-both _ _ fr fx)) (omega arith) (omega arith)
     (check-walk h g f (omega arith) (r || isRedirect (o .found)) (x || isExplanation (o .found)) fits)

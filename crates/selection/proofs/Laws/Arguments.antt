@@ -3,29 +3,26 @@
 use Prim.Native.Nat.{ℕ, _+_, _-_, _≤_, _<_}
 use mathlib.Core.Path.{_≡_, refl, sym, subst, _∙_}
 use mathlib.Core.List.{List}
-use mathlib.Core.Bool.{false}
 use native.Mathlib.Omega.{arith}
-use lib.Dec.{ltb, eqb}
+use lib.Dec.{ltb}
 use lib.ListN.{length}
-use borrow.Author.Tests.{ltb-false, eqb-true}
-use Rattle.text.specs.Bytes.{at, part, isAlpha}
-use Rattle.text.specs.Lists.{sameWord}
-use Rattle.text.specs.Texts.{bytes}
+use borrow.Author.Tests.{ltb-false}
+use Rattle.text.specs.Bytes.{at, part}
 use Rattle.text.specs.Runs.{isIn, runEnd}
 use Rattle.text.specs.declared.bytes.Class.the-variants.{Space, NameByte}
 use Rattle.text.proofs.Laws.Tests.{cond-elim}
-use Rattle.text.proofs.Laws.Classes.{nonzero-inside, class-inside}
+use Rattle.text.proofs.Laws.Classes.{nonzero-inside}
 use Rattle.table.proofs.Laws.Places.{part-inside}
-use Rattle.macros.specs.declared.Form.the-variants.{DomainSpec, ModifierValue}
-use Rattle.macros.specs.Reader.{isMacroString}
 use Rattle.records.specs.Readings.{present, Said}
-use Rattle.records.specs.Grammar.{Mechanism, isQualifier}
+use Rattle.records.specs.Grammar.{Mechanism}
 use Rattle.records.specs.Numbers.{saidOf}
 use Rattle.records.specs.Reader.{mechanismOf, modifierOf, tokenOf, termFrom, readTerm}
 use Rattle.records.specs.declared.Term.{Term}
 use Rattle.records.specs.declared.Token.{Token}
 use Rattle.records.specs.declared.TermAnswer.{TermAnswer}
 use Rattle.records.proofs.Laws.Mechanisms.{MechanismRight, mechanism-sound}
+use Rattle.records.proofs.Laws.Modifiers.{modifier-elim}
+use Rattle.records.proofs.Laws.Tokens.{token-elim}
 use Rattle.records.proofs.Laws.NextRuns.{View, only-spaces, outside, is, term-view, run-forward}
 
 -- a term that was read: it stands after the place, up to its next place, and was a token of the text there
@@ -102,34 +99,13 @@ mechanism-ends w i sign (Token.Is (Term.Unknown name to)) m = tt
 mechanism-ends w i sign Token.Outside m = tt
 
 modifier-ends : (w : List ℕ) (k : ℕ) → k < length w → EndsRight w (modifierOf k w)
-unfolding modifierOf
-modifier-ends w k h =
-    let value = part w (k + 1) (length w) in
-    cond-elim (EndsRight w) (isAlpha (at w 0))
-    (λ _. cond-elim (EndsRight w) (sameWord (part w 0 k) (bytes "redirect"))
-    (λ _. cond-elim (EndsRight w) (isMacroString DomainSpec value) {x = Token.Is (Term.Redirect (k + 1) (length w))} {y = Token.Outside}
-    (λ _. (omega arith, refl)) (λ _. tt))
-    (λ _. cond-elim (EndsRight w) (sameWord (part w 0 k) (bytes "exp"))
-    (λ _. cond-elim (EndsRight w) (isMacroString DomainSpec value) {x = Token.Is (Term.Explanation (k + 1) (length w))} {y = Token.Outside}
-    (λ _. (omega arith, refl)) (λ _. tt))
-    (λ _. cond-elim (EndsRight w) (isMacroString ModifierValue value) {x = Token.Is (Term.Unknown k (length w))} {y = Token.Outside}
-    (λ _. tt) (λ _. tt))))
-    (λ _. tt)
-
-no-qualifier : isQualifier 0 ≡ false
-unfolding isQualifier
-no-qualifier = refl
+modifier-ends w k h = modifier-elim k w (EndsRight w) (λ _ _. (omega arith, refl)) (λ _ _. (omega arith, refl)) (λ _ _ _. tt) tt
 
 token-ends : (w : List ℕ) → EndsRight w (tokenOf w)
-unfolding tokenOf
-token-ends w =
-    cond-elim (EndsRight w) (isQualifier (at w 0))
-    (λ h. mechanism-ends w 1 (at w 0) (mechanismOf (at w 0) 1 w)
-    (mechanism-sound (at w 0) 1 w (let i = class-inside isQualifier no-qualifier w 0 h in omega arith)))
-    (λ _. cond-elim (EndsRight w) (eqb (at w (runEnd (isIn NameByte) w 0)) 61)
-    (λ e. let q = eqb-true (at w (runEnd (isIn NameByte) w 0)) 61 e in
-    modifier-ends w (runEnd (isIn NameByte) w 0) (nonzero-inside w (runEnd (isIn NameByte) w 0) (λ z. omega (arith, q, z))))
-    (λ _. mechanism-ends w 0 43 (mechanismOf 43 0 w) (mechanism-sound 43 0 w (omega arith))))
+token-ends w = token-elim w (EndsRight w)
+    (λ _ i. mechanism-ends w 1 (at w 0) (mechanismOf (at w 0) 1 w) (mechanism-sound (at w 0) 1 w i))
+    (λ q. modifier-ends w (runEnd (isIn NameByte) w 0) (nonzero-inside w (runEnd (isIn NameByte) w 0) (λ z. omega (arith, q, z))))
+    (mechanism-ends w 0 43 (mechanismOf 43 0 w) (mechanism-sound 43 0 w (omega arith)))
 
 -- where such an argument stands in the record
 pub record Argument (s : List ℕ) (p e from to : ℕ) : Type 0 where

@@ -1,5 +1,5 @@
 -- `records::terms::read_a` meets its contract. From the laws of Steps.
-use Rattle.records.specs.Reader.{aOf}
+use Rattle.records.specs.Reader.{withHosts}
 use Rattle.records.proofs.Laws.Steps.{steps}
 use borrow.Author.Needs.{needs}
 use Rattle.records.proofs.terms.read_a.Statement.{statement}
@@ -15,11 +15,11 @@ enum-told : tie.Need-enum-told
 enum-told c = search needs
 
 returns : tie.Need-returns
-unfolding aOf
+unfolding withHosts
 returns c = search steps depth 12
 
 returns-2 : tie.Need-returns-2
-unfolding aOf
+unfolding withHosts
 returns-2 c = search steps depth 12
 
 pub read-a-spec : {M : Type 1} → statement M

@@ -1,5 +1,5 @@
 -- `records::terms::read_exists` meets its contract. From the laws of Steps.
-use Rattle.records.specs.Reader.{existsOf}
+use Rattle.records.specs.Reader.{withSpec}
 use Rattle.records.proofs.Laws.Steps.{steps}
 use borrow.Author.Needs.{needs}
 use Rattle.records.proofs.terms.read_exists.Statement.{statement}
@@ -18,15 +18,15 @@ enum-told-2 : tie.Need-enum-told-2
 enum-told-2 c = search needs
 
 returns : tie.Need-returns
-unfolding existsOf
+unfolding withSpec
 returns c = search steps depth 12
 
 returns-2 : tie.Need-returns-2
-unfolding existsOf
+unfolding withSpec
 returns-2 c = search steps depth 12
 
 returns-3 : tie.Need-returns-3
-unfolding existsOf
+unfolding withSpec
 returns-3 c = search steps depth 12
 
 pub read-exists-spec : {M : Type 1} → statement M

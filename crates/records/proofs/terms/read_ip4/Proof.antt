@@ -1,16 +1,13 @@
--- `records::terms::read_ip4_term` meets its contract. From the laws of Reading, Steps.
-use Rattle.records.proofs.Laws.Reading.{colon-room, ip4-found}
-use Rattle.records.specs.Reader.{ip4Of}
+-- `records::terms::read_ip4` meets its contract. From the laws of Reading, Steps.
+use Rattle.records.proofs.Laws.Reading.{colon-room, network-found}
+use Rattle.records.specs.Reader.{networkBy}
 use Rattle.records.proofs.Laws.Steps.{steps}
 use borrow.Author.Needs.{needs}
-use Rattle.records.proofs.terms.read_ip4_term.Statement.{statement}
-use Rattle.records.proofs.terms.read_ip4_term.Tie as tie
+use Rattle.records.proofs.terms.read_ip4.Statement.{statement}
+use Rattle.records.proofs.terms.read_ip4.Tie as tie
 
 peek-requires : tie.Need-peek-requires
 peek-requires c κs = search needs
-
-add-read-ip4-cut : tie.Need-add-read-ip4-cut
-add-read-ip4-cut c = search colon-room
 
 add-run-end : tie.Need-add-run-end
 add-run-end c = search colon-room
@@ -18,24 +15,47 @@ add-run-end c = search colon-room
 run-end-requires : tie.Need-run-end-requires
 run-end-requires c κs = search needs
 
-read-ip4-cut-requires : tie.Need-read-ip4-cut-requires
-read-ip4-cut-requires c κs = search needs
+add-part : tie.Need-add-part
+add-part c = search colon-room
+
+part-requires : tie.Need-part-requires
+part-requires c κs = search needs
+
+read-ip4-requires : tie.Need-read-ip4-requires
+read-ip4-requires c κs = search needs
+
+part-requires-2 : tie.Need-part-requires-2
+part-requires-2 c κs = search needs
+
+read-length4-requires : tie.Need-read-length4-requires
+read-length4-requires c κs = search needs
+
+add-network-term : tie.Need-add-network-term
+add-network-term c = search colon-room
+
+network-term-requires : tie.Need-network-term-requires
+network-term-requires c κs = search needs
 
 returns : tie.Need-returns
-returns c = search ip4-found
+returns c = search network-found
 
 returns-2 : tie.Need-returns-2
-unfolding ip4Of
+unfolding networkBy
 returns-2 c = search steps depth 12
 
-pub read-ip4-term-spec : {M : Type 1} → statement M
-read-ip4-term-spec =
+pub read-ip4-spec : {M : Type 1} → statement M
+read-ip4-spec =
     tie.close
     (tie.spec
     peek-requires
-    add-read-ip4-cut
     add-run-end
     run-end-requires
-    read-ip4-cut-requires
+    add-part
+    part-requires
+    read-ip4-requires
+    part-requires-2
+    read-length4-requires
+    add-network-term
+    network-term-requires
     returns
     returns-2)

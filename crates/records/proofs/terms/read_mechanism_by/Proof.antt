@@ -38,14 +38,14 @@ read-ptr-requires c κs = search needs
 enum-told-6 : tie.Need-enum-told-6
 enum-told-6 c = search needs
 
-read-ip4-term-requires : tie.Need-read-ip4-term-requires
-read-ip4-term-requires c κs = search needs
+read-ip4-requires : tie.Need-read-ip4-requires
+read-ip4-requires c κs = search needs
 
 enum-told-7 : tie.Need-enum-told-7
 enum-told-7 c = search needs
 
-read-ip6-term-requires : tie.Need-read-ip6-term-requires
-read-ip6-term-requires c κs = search needs
+read-ip6-requires : tie.Need-read-ip6-requires
+read-ip6-requires c κs = search needs
 
 enum-told-8 : tie.Need-enum-told-8
 enum-told-8 c = search needs
@@ -107,9 +107,9 @@ read-mechanism-by-spec =
     enum-told-5
     read-ptr-requires
     enum-told-6
-    read-ip4-term-requires
+    read-ip4-requires
     enum-told-7
-    read-ip6-term-requires
+    read-ip6-requires
     enum-told-8
     read-exists-requires
     enum-told-9
