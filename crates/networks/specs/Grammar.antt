@@ -1,5 +1,5 @@
--- Networks and prefix lengths as productions: RFC 7208 appendix A and RFC 4291 section 2.2, with 01's amendments. Each relates bytes to what they
--- write. Nothing of a reader is imported.
+-- Networks and prefix lengths as productions: RFC 7208's collected ABNF (its section 12) and RFC 4291 section 2.2, with 01's amendments. Each relates
+-- bytes to what they write. Nothing of a reader is imported.
 use Prim.Native.Nat.{ℕ, _+_, _-_, _*_, _≤_}
 use mathlib.Core.Path.{_≡_}
 use mathlib.Core.List.{List, [], _∷_, _++_}

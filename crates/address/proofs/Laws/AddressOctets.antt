@@ -57,7 +57,7 @@ module _ (s : List ℕ) (h : (i : ℕ) → getD s i 0 < 256) where
   pub octets-from : (a : Address) → fromOctets s ≡ Is a → octets a ≡ s
   octets-from a e = subst (OctetsOf s) e from-right
 
--- an address in range is the only one of its octets: this tells a reader that "an address is its octets" is no loss
+-- an address in range is the only one of its octets: this tells a reader that nothing is lost where an address is taken as its octets
 pub octets-one : (a b : Address) → InRange a → InRange b → octets a ≡ octets b → a ≡ b
 unfolding octets
 octets-one (IPv4 v) (IPv4 w) p q e = ap IPv4 (octets-injective 4 v w p q e)

@@ -1,8 +1,8 @@
 -- What the choice tells of the names validated so far, and that one more name keeps it so. From the definitions of Choosing and of p.
 use Prim.Native.Nat.{ℕ}
-use mathlib.Core.Path.{_≡_, refl, _∙_}
+use mathlib.Core.Path.{_≡_, refl, sym, ap, _∙_}
 use mathlib.Core.List.{List, [], _∷_, _++_}
-use mathlib.Core.Bool.{Bool, true, false, cond, _||_}
+use mathlib.Core.Bool.{Bool, true, false, cond, _||_, or-assoc, or-false}
 use Rattle.text.specs.Bytes.{part}
 use Rattle.text.specs.Lists.{same}
 use Rattle.text.specs.Texts.{bytes}
@@ -29,16 +29,8 @@ Picks d t Nobody found = found ≡ []
 module _ (d n : List ℕ) where
   holds-more : (ns : List (List ℕ)) → holdsName d (ns ++ (n ∷ [])) ≡ (holdsName d ns || same n d)
   unfolding holdsName
-  holds-more [] = by (same n d)
-    where
-      by : (t : Bool) → (t || false) ≡ (false || t)
-      by true = refl
-      by false = refl
-  holds-more (m ∷ ns) = by (same m d) (holds-more ns)
-    where
-      by : (t : Bool) → holdsName d (ns ++ (n ∷ [])) ≡ (holdsName d ns || same n d) → (t || holdsName d (ns ++ (n ∷ []))) ≡ ((t || holdsName d ns) || same n d)
-      by true ih = refl
-      by false ih = ih
+  holds-more [] = or-false (same n d)
+  holds-more (m ∷ ns) = ap (λ (t : Bool). same m d || t) (holds-more ns) ∙ sym (or-assoc (same m d) (holdsName d ns) (same n d))
 
   below-more : (ns : List (List ℕ)) (other : List ℕ) → firstBelow d (ns ++ (n ∷ [])) other ≡ firstBelow d ns (cond (atOrBelow n d) n other)
   unfolding firstBelow
