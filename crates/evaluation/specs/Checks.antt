@@ -11,6 +11,7 @@ use Rattle.meaning.specs.declared.Stepped.{Stepped}
 use Rattle.meaning.specs.declared.Span.{Span}
 use Rattle.meaning.specs.declared.Checked.{Checked}
 
+-- a result without an explanation, and a question without an entry
 abbrev pub endedOf : ℕ → Counts → Checked
 endedOf v c = record { ending = Ending.Result v; counts = c; failing = FailingPlace.Nowhere }
 

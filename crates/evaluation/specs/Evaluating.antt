@@ -43,6 +43,8 @@ afterTable TooLong x = refused 24
 afterTable (Malformed p) x = refused-at 25 p
 afterTable (Repeated p) x = refused-at 26 p
 
+-- 20 "sender not 1 to 320 bytes of 32 to 126"; 21 "HELO or receiver over 255 bytes, or a byte outside 33 to 126"; 22 "domain .. over 255 bytes"; 23; then the
+-- table's; then the evaluation
 unfoldable pub evaluated : Address → (domain sender helo receiver : List ℕ) → ℕ → (table name text : List ℕ) → Outcome
 evaluated client domain sender helo receiver seconds table name text =
     cond (isSender sender)

@@ -16,7 +16,8 @@ pub record Report : Type 0 where
   pub lookups : ℕ
   pub voids : ℕ
 
--- "evaluation done: both counts"; "7 wanting: kind; counts so far"; "25, 26: its place in the table"; "Refusals report counts of 0."
+-- 0 to 6 "evaluation done": "both counts"; "7 wanting": "kind", "counts so far"; 25: "its place in the table"; 26: "place of the second"; "Refusals report
+-- counts of 0."
 abbrev pub reported : Answer → Report
 reported (Answer.Decided value c n) = record { number = value; kind-or-place = absent; lookups = c .lookups; voids = c .voids }
 reported (Answer.Wanting kind n c) = record { number = 7; kind-or-place = present kind; lookups = c .lookups; voids = c .voids }
@@ -43,7 +44,7 @@ reportOf (refused-at number place) = record { number = number; kind-or-place = p
 reportOf (settles (settled v)) = record { number = v .value; kind-or-place = absent; lookups = v .counts .lookups; voids = v .counts .voids }
 reportOf (settles (wanting kind n c)) = record { number = 7; kind-or-place = present kind; lookups = c .lookups; voids = c .voids }
 
--- "name in the name buffer"; "a buffer that is written keeps all bytes after the written length"
+-- 7: "name in the name buffer"; "A buffer that is written keeps all bytes after the written length."; 20 to 26: "nothing written"
 unfoldable pub nameAfter : Outcome → List ℕ → List ℕ
 nameAfter (refused number) before = before
 nameAfter (refused-at number place) before = before
