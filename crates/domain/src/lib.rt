@@ -1,6 +1,7 @@
 // Domain names.
+ghost use Prim.Native.Nat.{_≤_};
+ghost use lib.ListN.{length, drop};
 ghost use mathlib.Core.Path.{_≡_};
-ghost use mathlib.Core.Bool.{true};
 ghost use Rattle.text.specs.Lists.{same, all};
 ghost use Rattle.domain.specs.Names.{labels, isLabel, isName, isTableName, labelCount, atOrBelow};
 ghost use Rattle.domain.specs.Normal.{withoutDot, lowered, normal, nameAnswer, nameBuffer};
@@ -49,12 +50,32 @@ pub fn is_name(s: &[u8]) -> bool
     labels_fit(s)
 }
 
-// Whether s is a name as it stands in the table: no A to Z.
+// Whether s is a name as it stands in the table: no A to Z. Label by label, each from `at` on.
 pub fn is_table_name(s: &[u8]) -> bool
     ensures { λ r. ⌜ r ≡ isTableName (now (s .entry)) ⌝ }
 {
-    if is_name(s) {
-        return words::every(s, Class::NotUpper);
+    if s.len() == 0 {
+        return false;
+    }
+    if 253 < s.len() {
+        return false;
+    }
+    let mut at = 0;
+    while at < s.len() {
+        let end = bytes::run_end(s, at, Class::TableLabelByte);
+        if end == at {
+            return false;
+        }
+        if 63 < end - at {
+            return false;
+        }
+        if end == s.len() {
+            return true;
+        }
+        if s[end] != 46 {
+            return false;
+        }
+        at = end + 1;
     }
     false
 }
@@ -133,16 +154,25 @@ pub fn at_or_below(name: &[u8], target: &[u8]) -> bool
     false
 }
 
+// Where the shortened name begins in s, from a place on: recursive on the place after the next dot.
+fn shorten_from(s: &[u8], at: usize) -> usize
+    requires { ⌜ at ≤ length (now s) ⌝ }
+    ensures { λ r. ⌜ (r ≤ length (now (s .entry))) × (drop r (now (s .entry)) ≡ shortened (drop at (now (s .entry)))) ⌝ }
+{
+    if s.len() - at <= 253 {
+        return at;
+    }
+    let dot = bytes::run_end(s, at, Class::NotDot);
+    if dot < s.len() {
+        return shorten_from(s, dot + 1);
+    }
+    at
+}
+
 // An over-long name shortened: labels leave from the left, each with its dot, while it is over 253 bytes and a dot remains.
 pub fn shorten(s: &[u8]) -> &[u8]
     ensures { λ r. ⌜ now r ≡ shortened (now (s .entry)) ⌝ }
 {
-    if s.len() <= 253 {
-        return s;
-    }
-    let dot = bytes::run_end(s, 0, Class::NotDot);
-    if dot < s.len() {
-        return shorten(&s[dot + 1..]);
-    }
-    s
+    let at = shorten_from(s, 0);
+    &s[at..]
 }

@@ -4,5 +4,7 @@ pub mod Beginning
 pub mod Deciding
 -- Walking: the terms of a record, one after the other.
 pub mod Walking
+-- Leading: the leading terms of a record that need no lookup.
+pub mod Leading
 -- Facts: a wanted name is a name as the table has it; only a fail has a text; the counts' bounds.
 pub mod Facts

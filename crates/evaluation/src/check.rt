@@ -5,6 +5,7 @@ ghost use lib.ListN.{length};
 ghost use Rattle.domain.specs.Normal.{name};
 ghost use Rattle.records.specs.Numbers.{saidOf};
 ghost use Rattle.records.specs.Reader.{readRecord};
+ghost use Rattle.records.specs.Opening.{Passing};
 ghost use Rattle.meaning.specs.Tree.{run};
 ghost use Rattle.meaning.specs.Tables.{tableIn};
 ghost use Rattle.meaning.specs.Evaluation.{begunCheck, includeStep, termStep, modifierOf, noMatch, tryTerms, termsOf, readOutcome, check};
@@ -22,9 +23,10 @@ use meaning::Span;
 use meaning::Stepped;
 use meaning::Target;
 use mechanisms::Tried;
-use records::RecordAnswer;
 use records::Term;
 use records::TermAnswer;
+use records::opening;
+use records::opening::Opening;
 use selection::modifiers;
 use selection::modifiers::Modifier;
 use text::bytes;
@@ -170,7 +172,7 @@ pub fn check_domain(
     }
 }
 
-// The record that a check selected: the whole record is read before any term is tried.
+// The record that a check selected: it is read whole; only then does a leading term decide it, or are the terms tried that need a lookup.
 fn evaluate_record(
     client: Address,
     sender: &[u8],
@@ -187,9 +189,10 @@ fn evaluate_record(
     ensures { λ r. ⌜ ((n : ℕ) → 10 ≤ n + counts .lookups →
         SaysCheck (now (table .entry)) (run (tableIn (now (table .entry))) (readOutcome (mailOf client (now (sender .entry)) (now (helo .entry)) (now (receiver .entry)) seconds) (check n (mailOf client (now (sender .entry)) (now (helo .entry)) (now (receiver .entry)) seconds)) (spanOf (now (table .entry)) domain) (spanOf (now (table .entry)) text) (readRecord (spanOf (now (table .entry)) text)) counts)) r (now (out .entry)) (now (out .exit))) ⌝ }
 {
-    match records::read_record(bytes::part(table, text.from, text.to)) {
-        RecordAnswer::Refused { number: _, at: _ } => ended(6, counts),
-        RecordAnswer::Accepted(first) => try_terms(
+    match opening::open_record(bytes::part(table, text.from, text.to), client) {
+        Opening::Refused { number: _, at: _ } => ended(6, counts),
+        Opening::Matched { sign } => sign_result(sign, domain, text, 6, counts),
+        Opening::Open { at } => try_terms(
             client,
             sender,
             helo,
@@ -198,14 +201,15 @@ fn evaluate_record(
             table,
             domain,
             text,
-            first,
+            6,
+            at,
             counts,
             out,
         ),
     }
 }
 
-// The terms of a record from a place on, from left to right.
+// The terms of a record from `first` on, from left to right; those up to `start` are known to pass.
 fn try_terms(
     client: Address,
     sender: &[u8],
@@ -216,15 +220,16 @@ fn try_terms(
     domain: Span,
     text: Span,
     first: usize,
+    start: usize,
     counts: Counts,
     out: &mut [u8],
 ) -> Checked
-    requires { ⌜ (length (now sender) ≤ 320) × (length (spanOf (now table) domain) ≤ 253) × (counts .lookups ≤ 10) × (counts .voids ≤ 2) ⌝ }
+    requires { ⌜ (length (now sender) ≤ 320) × (length (spanOf (now table) domain) ≤ 253) × (counts .lookups ≤ 10) × (counts .voids ≤ 2) × Passing client (spanOf (now table) text) first start ⌝ }
     ensures { λ r. ⌜ ((n : ℕ) → 10 ≤ n + counts .lookups →
         SaysCheck (now (table .entry)) (run (tableIn (now (table .entry))) (tryTerms (mailOf client (now (sender .entry)) (now (helo .entry)) (now (receiver .entry)) seconds) (check n (mailOf client (now (sender .entry)) (now (helo .entry)) (now (receiver .entry)) seconds)) (spanOf (now (table .entry)) domain) (termsOf (spanOf (now (table .entry)) text) first) (termsOf (spanOf (now (table .entry)) text) first) counts)) r (now (out .entry)) (now (out .exit))) ⌝ }
 {
     let s = bytes::part(table, text.from, text.to);
-    let mut at = first;
+    let mut at = start;
     let mut so_far = counts;
     while at <= s.len() {
         let TermAnswer::Is {

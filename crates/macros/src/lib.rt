@@ -20,6 +20,7 @@ use address::Address;
 use domain::Name;
 use pieces::Found;
 use text::bytes;
+use text::bytes::Class;
 
 pub mod emit;
 pub mod endings;
@@ -51,7 +52,17 @@ fn or_p(before: bool, letter: u8) -> bool
     bytes::to_lower(letter) == 112
 }
 
-// One walk over the pieces of a text.
+fn summed(whole: bool, expands: bool, asks: bool) -> Summary
+    ensures { λ r. ⌜ r ≡ record { whole = whole; expands = expands; asks = asks } ⌝ }
+{
+    Summary {
+        whole,
+        expands,
+        asks,
+    }
+}
+
+// One walk over the pieces of a text; bytes that stand for themselves are passed in runs.
 fn scan(form: Form, text: &[u8]) -> Summary
     ensures { λ r. ⌜ r ≡ scanOf form (now (text .entry)) ⌝ }
 {
@@ -59,42 +70,36 @@ fn scan(form: Form, text: &[u8]) -> Summary
     let mut expands = false;
     let mut uses_p = false;
     while at < text.len() {
-        match pieces::read_piece(form, &text[at..]) {
-            Found::Literal(_) => {
-                at += 1;
-                expands = false;
-            }
-            Found::Escape(_) => {
-                at += 2;
-                expands = true;
-            }
-            Found::Expand(m) => {
-                let to = m.to;
-                at += to + 1;
-                expands = true;
-                uses_p = or_p(uses_p, m.letter);
-            }
-            Found::End => {
-                return Summary {
-                    whole: true,
-                    expands,
-                    asks: uses_p,
-                };
-            }
-            Found::Bad => {
-                return Summary {
-                    whole: false,
-                    expands,
-                    asks: uses_p,
-                };
+        let plain = bytes::run_end(text, at, Class::MacroLiteral);
+        if at < plain {
+            at = plain;
+            expands = false;
+        } else {
+            match pieces::read_piece(form, &text[at..]) {
+                Found::Literal(_) => {
+                    at += 1;
+                    expands = false;
+                }
+                Found::Escape(_) => {
+                    at += 2;
+                    expands = true;
+                }
+                Found::Expand(m) => {
+                    let to = m.to;
+                    at += to + 1;
+                    expands = true;
+                    uses_p = or_p(uses_p, m.letter);
+                }
+                Found::End => {
+                    return summed(true, expands, uses_p);
+                }
+                Found::Bad => {
+                    return summed(false, expands, uses_p);
+                }
             }
         }
     }
-    Summary {
-        whole: true,
-        expands,
-        asks: uses_p,
-    }
+    summed(true, expands, uses_p)
 }
 
 // Whether a text is a macro string of the form.

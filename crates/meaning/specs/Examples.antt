@@ -31,7 +31,7 @@ use Rattle.networks.specs.Reader.{octetAt, dotOctetAt, readIp4, slashNumber, re
 use Rattle.networks.specs.Reader6.{firstColon, isDoubleColon, doubleColon, readH16, tailOf, lastOf, lastPart as networks-reader6-of-lastPart, push, rowOf, readRow, readSide, addressOf, filled, fullOf, shortOf, readIp6, firstOf, readAddress, octetPairs, networkOf}
 use Rattle.records.specs.Grammar.{isQualifier, isReserved, countOf}
 use Rattle.records.specs.Numbers.{saidOf, argumentOf}
-use Rattle.records.specs.Reader.{laterKind, kindOf, specAt, allOf, withSpec, ptrOf, cutOf, hostsCut, hostsAt, withHosts, networkTerm, networkCut, networkBy, mechanismBy, mechanismOf, modifierOf as records-reader-of-modifierOf, tokenOf, tokenAnswer, termFrom, readTerm, isRedirect, isExplanation, checkAfter, endedOf, checkFrom, hasVersion, readRecord}
+use Rattle.records.specs.Reader.{laterKind, kindOf, specAt, allOf, withSpec, ptrOf, cutOf, hostsCut, hostsAt, withHosts, networkTerm, networkCut, networkBy, mechanismBy, mechanismOf, modifierOf as records-reader-of-modifierOf, tokenOf, tokenAnswer, termFrom, readTerm, isRedirect, isExplanation, checkAfter, checkFrom, hasVersion, readRecord}
 use Rattle.meaning.specs.Evaluation.{Verdict, includeMatch, checkTarget, begunCheck, includeOf, includeStep, bytesOr, numberOr, lengthFor, networkStep, mechanismStep, termStep, signResult, modifierOf, failingAt, signed, noneIsPermerror, redirectOf, noMatch, afterStep, tryTerms, termsAfter, termsFrom, termsOf, readOutcome, versioned, selection, textReply, textLookup, spfItems, spfReply, recordLookup, afterLookup, checkName, check, evaluation, shown, givesShown, explained, explainReply, explainName, explanation, verdict}
 use Rattle.meaning.specs.Mechanisms.{Mail, addressKind, itemMatches, anyMatches, width, includesClient, withValid, validated, namesOf, holdsName, firstBelow, firstOr, chosen, givesChosen, pReply, pValue, expansion, givesExpansion, expanded, givesName, target, targetOr, counting, withName, naming, named, orVoid, aReply, askA, aStep, existsReply, askExists, existsStep, insertHost, byPreference, hostReply, askHosts, mxItems, mxReply, askMx, mxStep, nameReply, askNames, ptrReply, askPtr, ptrStep}
 use Rattle.meaning.specs.Tables.{replyBy, replyOf, tableIn}
@@ -107,7 +107,7 @@ pub record Cases : Type 0 where
       ≡ settled (record { value = 3; counts = record { lookups = 0; voids = 0 }; text = bytes "192.0.2.129 at 7" })
 
 pub cases : Cases
-unfolding zone answer within isSpace isNotSpace isNotSlash isUpper isNotUpper isAlpha isDigit isLengthByte isAlphanumeric isHexDigit isVisible isPrintable isLabelByte isNameByte isToplabelByte isMacroLiteral isDelimiter lower decimalFrom decimal isDecimal readDecimal pushed hasNoLeadingZero readNumber same sameWord contains all rightmost grow split isIn text-runs-of-run runEnd trailingStart overwritten bitsOf bits agree matchesAt octetsOf octets valueFrom address-octets-of-valueOf fromOctets mappedPrefix clientOctets asClient labels isLabel isName isTableName labelCount atOrBelow withoutDot lowered normal shorterLabels shortened digit numeral inDecimal inHex nibbles groups octetTexts nibbleTexts dotted readable family reversedName partsOf notation-rows-of-textOf ordered place separatorBefore joinBy separated row isListed reversedIf kept isUnreserved hexDigit escapedByte escaped transformed macros-expansion-of-lastPart senderDomain written localPart receiverName lettersOf macros-expansion-of-valueOf laterValue escapeText pieceText macroText macros-expansion-of-textOf isSender isHost isShort isLetter isCount fitted outcome questionName isLiteral isEscape isReverse closedAt delimitersAt reversalAt digitsAt bracesOf pieceOf macroOf piecesAfter piecesFrom pieces endsInMacro isToplabel lastLabel endsInLabel endsRight isMacroString isP anyP scanOf usesP hexValue hexFrom groupsFrom octetAt dotOctetAt readIp4 slashNumber readLength readLength4 readLength6 frontEnd secondLength readDual firstColon isDoubleColon doubleColon readH16 tailOf lastOf networks-reader6-of-lastPart push rowOf readRow readSide addressOf filled fullOf shortOf readIp6 firstOf readAddress octetPairs networkOf isQualifier isReserved countOf saidOf argumentOf laterKind kindOf specAt allOf withSpec ptrOf cutOf hostsCut hostsAt withHosts networkTerm networkCut networkBy mechanismBy mechanismOf records-reader-of-modifierOf tokenOf tokenAnswer termFrom readTerm isRedirect isExplanation checkAfter endedOf checkFrom hasVersion readRecord includeMatch checkTarget begunCheck includeOf includeStep bytesOr numberOr lengthFor networkStep mechanismStep termStep signResult modifierOf failingAt signed noneIsPermerror redirectOf noMatch afterStep tryTerms termsAfter termsFrom termsOf readOutcome versioned selection textReply textLookup spfItems spfReply recordLookup afterLookup checkName check evaluation shown givesShown explained explainReply explainName explanation verdict addressKind itemMatches anyMatches width includesClient withValid validated namesOf holdsName firstBelow firstOr chosen givesChosen pReply pValue expansion givesExpansion expanded givesName target targetOr counting withName naming named orVoid aReply askA aStep existsReply askExists existsStep insertHost byPreference hostReply askHosts mxItems mxReply askMx mxStep nameReply askNames ptrReply askPtr ptrStep replyBy replyOf tableIn bind then answered run
+unfolding zone answer within isSpace isNotSpace isNotSlash isUpper isNotUpper isAlpha isDigit isLengthByte isAlphanumeric isHexDigit isVisible isPrintable isLabelByte isNameByte isToplabelByte isMacroLiteral isDelimiter lower decimalFrom decimal isDecimal readDecimal pushed hasNoLeadingZero readNumber same sameWord contains all rightmost grow split isIn text-runs-of-run runEnd trailingStart overwritten bitsOf bits agree matchesAt octetsOf octets valueFrom address-octets-of-valueOf fromOctets mappedPrefix clientOctets asClient labels isLabel isName isTableName labelCount atOrBelow withoutDot lowered normal shorterLabels shortened digit numeral inDecimal inHex nibbles groups octetTexts nibbleTexts dotted readable family reversedName partsOf notation-rows-of-textOf ordered place separatorBefore joinBy separated row isListed reversedIf kept isUnreserved hexDigit escapedByte escaped transformed macros-expansion-of-lastPart senderDomain written localPart receiverName lettersOf macros-expansion-of-valueOf laterValue escapeText pieceText macroText macros-expansion-of-textOf isSender isHost isShort isLetter isCount fitted outcome questionName isLiteral isEscape isReverse closedAt delimitersAt reversalAt digitsAt bracesOf pieceOf macroOf piecesAfter piecesFrom pieces endsInMacro isToplabel lastLabel endsInLabel endsRight isMacroString isP anyP scanOf usesP hexValue hexFrom groupsFrom octetAt dotOctetAt readIp4 slashNumber readLength readLength4 readLength6 frontEnd secondLength readDual firstColon isDoubleColon doubleColon readH16 tailOf lastOf networks-reader6-of-lastPart push rowOf readRow readSide addressOf filled fullOf shortOf readIp6 firstOf readAddress octetPairs networkOf isQualifier isReserved countOf saidOf argumentOf laterKind kindOf specAt allOf withSpec ptrOf cutOf hostsCut hostsAt withHosts networkTerm networkCut networkBy mechanismBy mechanismOf records-reader-of-modifierOf tokenOf tokenAnswer termFrom readTerm isRedirect isExplanation checkAfter checkFrom hasVersion readRecord includeMatch checkTarget begunCheck includeOf includeStep bytesOr numberOr lengthFor networkStep mechanismStep termStep signResult modifierOf failingAt signed noneIsPermerror redirectOf noMatch afterStep tryTerms termsAfter termsFrom termsOf readOutcome versioned selection textReply textLookup spfItems spfReply recordLookup afterLookup checkName check evaluation shown givesShown explained explainReply explainName explanation verdict addressKind itemMatches anyMatches width includesClient withValid validated namesOf holdsName firstBelow firstOr chosen givesChosen pReply pValue expansion givesExpansion expanded givesName target targetOr counting withName naming named orVoid aReply askA aStep existsReply askExists existsStep insertHost byPreference hostReply askHosts mxItems mxReply askMx mxStep nameReply askNames ptrReply askPtr ptrStep replyBy replyOf tableIn bind then answered run
 cases = record {
   first-question = refl;
   plain-fail = refl;

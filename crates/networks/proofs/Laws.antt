@@ -2,6 +2,10 @@
 pub mod Numbers
 -- Readings: what was read, and what is made of it.
 pub mod Readings
+-- Octets: an octet read digit by digit.
+pub mod Octets
+-- Fronts: four octets from a place on, against an ip4-network that begins there.
+pub mod Fronts
 -- Ip4: an ip4-network's text is exactly what is read as one.
 pub mod Ip4
 -- Lengths: the same of the texts of prefix lengths.

@@ -10,6 +10,7 @@ use Rattle.text.specs.Runs.{isIn, runEnd}
 use Rattle.text.specs.declared.bytes.Class.the-variants.{Digit}
 use Rattle.networks.specs.declared.Network.{Network}
 use Rattle.networks.specs.declared.Network.the-variants.{Is, NoNetwork}
+use Rattle.networks.specs.declared.Front.{Front}
 use Rattle.networks.specs.declared.Length.{Length}
 use Rattle.networks.specs.declared.Length.the-variants.{Of, NoLength}
 use Rattle.networks.specs.declared.Dual.{Dual}
@@ -41,6 +42,13 @@ octetAt s i = onNumber (readNumber 255 (part s i (runEnd (isIn Digit) s i))) (λ
 -- "." qnum
 unfoldable pub dotOctetAt : List ℕ → ℕ → Octet
 dotOctetAt s i = cond (eqb (at s i) 46) (octetAt s (i + 1)) NoOctet
+
+-- four octets joined by dots from a place on: the number that they write, with the place after them
+unfoldable pub frontAt : List ℕ → ℕ → Front
+frontAt s from =
+    onOctet (octetAt s from) (λ a i. onOctet (dotOctetAt s i) (λ b j. onOctet (dotOctetAt s j) (λ c k. onOctet (dotOctetAt s k) (λ d l.
+    Front.Ends (valueOf (a ∷ b ∷ c ∷ d ∷ [])) l)
+    Front.NoFront) Front.NoFront) Front.NoFront) Front.NoFront
 
 -- the whole text as an ip4-network
 unfoldable pub readIp4 : List ℕ → Network

@@ -4,6 +4,7 @@ mod ip6;
 mod lengths;
 
 use address::Address;
+pub use ip4::read_front;
 pub use ip4::read_ip4;
 pub use ip6::read_address;
 pub use ip6::read_ip6;
@@ -15,6 +16,12 @@ pub use lengths::read_length6;
 pub enum Network {
     Is(Address),
     NoNetwork,
+}
+
+// The number that four octets at a place write, with the place after them, or that none stand there.
+pub enum Front {
+    Ends { value: u32, end: usize },
+    NoFront,
 }
 
 // A prefix length, or that a text is none.

@@ -30,7 +30,11 @@ pub mod Records
 pub mod Steps
 -- Reading: the ways out of the functions that read one term.
 pub mod Reading
+-- Fronts: the ways out of the function that reads an `ip4`, octets first.
+pub mod Fronts
 -- Checking: the ways out of the functions on the whole record.
 pub mod Checking
+-- Openings: the ways out of the functions that read a record for a client.
+pub mod Openings
 -- Claim: reading a record and then its terms, as one claim.
 pub mod Claim

@@ -161,6 +161,13 @@ modifierOf k w =
     (cond (isMacroString ModifierValue (part w (k + 1) (length w))) (Token.Is (Term.Unknown k (length w))) Token.Outside)))
     Token.Outside
 
+-- the sign of a term, and where its name begins, by its first byte
+unfoldable pub signBy : ℕ → ℕ
+signBy b = cond (isQualifier b) b 43
+
+unfoldable pub nameBy : ℕ → ℕ
+nameBy b = cond (isQualifier b) 1 0
+
 -- a run of non-spaces as a term
 unfoldable pub tokenOf : List ℕ → Token
 tokenOf w =
@@ -214,12 +221,6 @@ checkAfter r e TermAnswer.End rest = RecordAnswer.Accepted 6
 checkAfter r e (TermAnswer.Refused number p) rest = RecordAnswer.Refused number p
 checkAfter r e (TermAnswer.Is p next t) rest =
     cond ((r && isRedirect t) || (e && isExplanation t)) (RecordAnswer.Refused 33 p) (rest next (r || isRedirect t) (e || isExplanation t))
-
--- what a record is answered where no term is left to read
-unfoldable pub endedOf : TermAnswer → RecordAnswer
-endedOf TermAnswer.End = RecordAnswer.Accepted 6
-endedOf (TermAnswer.Refused number p) = RecordAnswer.Refused number p
-endedOf (TermAnswer.Is p next t) = RecordAnswer.Accepted 6
 
 unfoldable pub checkFrom : ℕ → List ℕ → ℕ → Bool → Bool → RecordAnswer
 checkFrom zero s i r e = RecordAnswer.Refused 32 i

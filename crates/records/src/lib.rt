@@ -1,18 +1,20 @@
 // Records and their terms.
 ghost use mathlib.Core.Path.{_≡_};
-ghost use mathlib.Core.Bool.{false, _&&_, _||_};
-ghost use Prim.Native.Nat.{ℕ, _+_, _≤_, _<_};
+ghost use Prim.Native.Nat.{_+_, _≤_};
 ghost use lib.ListN.{length};
 ghost use Rattle.text.specs.Bytes.{part};
 ghost use Rattle.records.specs.Numbers.{recordReport, termReport, argumentOf};
 ghost use Rattle.records.specs.Answers.{RecordAnswers, TermAnswers};
-ghost use Rattle.records.specs.Reader.{hasVersion, isRedirect, isExplanation, termFrom, readTerm, endedOf, checkFrom, readRecord};
+ghost use Rattle.records.specs.Reader.{hasVersion, termFrom, readTerm, readRecord};
+ghost use Rattle.records.specs.Opening.{answerOf};
 use address::Address;
+use opening::Opening;
 use terms::read_token;
 use text::bytes;
 use text::bytes::Class;
 use text::words;
 
+pub mod opening;
 pub mod terms;
 
 // A term. `from` and `to` are places in the term's own text: where its argument stands, and equal where `a`, `mx` or `ptr` has none. An unknown
@@ -99,7 +101,7 @@ fn term_from(s: &[u8], at: usize) -> TermAnswer
         return TermAnswer::End;
     }
     let next = bytes::run_end(s, at, Class::NotSpace);
-    let Token::Is(term) = read_token(bytes::part(s, at, next)) else {
+    let Token::Is(term) = read_token(&s[at..next]) else {
         return TermAnswer::Refused { number: 32, at };
     };
     TermAnswer::Is { at, next, term }
@@ -179,110 +181,22 @@ pub fn has_version(s: &[u8]) -> bool
     false
 }
 
-fn is_redirect(term: Term) -> bool
-    ensures { λ r. ⌜ r ≡ isRedirect term ⌝ }
+// The answer of a record that was read for a client.
+fn answer_of(opening: Opening) -> RecordAnswer
+    ensures { λ r. ⌜ r ≡ answerOf opening ⌝ }
 {
-    let Term::Redirect { from: _, to: _ } = term else {
-        return false;
-    };
-    true
-}
-
-fn is_explanation(term: Term) -> bool
-    ensures { λ r. ⌜ r ≡ isExplanation term ⌝ }
-{
-    let Term::Explanation { from: _, to: _ } = term else {
-        return false;
-    };
-    true
-}
-
-// Whether two tests hold.
-fn both(a: bool, b: bool) -> bool
-    ensures { λ r. ⌜ r ≡ (a && b) ⌝ }
-{
-    if a {
-        return b;
-    }
-    false
-}
-
-// Whether one of two tests holds.
-fn either(a: bool, b: bool) -> bool
-    ensures { λ r. ⌜ r ≡ (a || b) ⌝ }
-{
-    if a {
-        return true;
-    }
-    b
-}
-
-// Whether a term is a second redirect or a second exp, by what has stood before it.
-fn repeats(redirect: bool, explanation: bool, term: Term) -> bool
-    ensures { λ r. ⌜ r ≡ ((redirect && isRedirect term) || (explanation && isExplanation term)) ⌝ }
-{
-    if both(redirect, is_redirect(term)) {
-        return true;
-    }
-    both(explanation, is_explanation(term))
-}
-
-// What a record is answered where no term is left to read.
-fn ended(answer: TermAnswer) -> RecordAnswer
-    ensures { λ r. ⌜ r ≡ endedOf answer ⌝ }
-{
-    match answer {
-        TermAnswer::Refused { number, at } => RecordAnswer::Refused { number, at },
-        TermAnswer::End => RecordAnswer::Accepted(6),
-        TermAnswer::Is {
-            at: _,
-            next: _,
-            term: _,
-        } => RecordAnswer::Accepted(6),
+    match opening {
+        Opening::Matched { sign: _ } => RecordAnswer::Accepted(6),
+        Opening::Open { at: _ } => RecordAnswer::Accepted(6),
+        Opening::Refused { number, at } => RecordAnswer::Refused { number, at },
     }
 }
 
-// The terms of a record, from a place on: the earlier of 32 and 33, or accepted.
-fn check_terms(s: &[u8], first: usize) -> RecordAnswer
-    requires { ⌜ first ≤ length (now s) ⌝ }
-    ensures { λ r. ⌜ ((f : ℕ) → length (now (s .entry)) < f + first → r ≡ checkFrom f (now (s .entry)) first false false) ⌝ }
-{
-    let mut at = first;
-    let mut redirect = false;
-    let mut explanation = false;
-    while at <= s.len() {
-        let answer = read_term(s, at);
-        let TermAnswer::Is {
-            at: place,
-            next,
-            term,
-        } = answer
-        else {
-            return ended(answer);
-        };
-        if repeats(redirect, explanation, term) {
-            return RecordAnswer::Refused {
-                number: 33,
-                at: place,
-            };
-        }
-        redirect = either(redirect, is_redirect(term));
-        explanation = either(explanation, is_explanation(term));
-        at = next;
-    }
-    RecordAnswer::Accepted(6)
-}
-
-// Reads a record: 30, 31, then the earlier of 32 and 33 with its place, or accepted with the place just after the version.
+// Reads a record: 30, 31, then the earlier of 32 and 33 with its place, or accepted with the place just after the version. The answer is the same
+// for every client.
 pub fn read_record(s: &[u8]) -> RecordAnswer
     ensures { λ r. ⌜ r ≡ readRecord (now (s .entry)) ⌝ }
     ensures { λ r. ⌜ RecordAnswers (now (s .entry)) (recordReport r) ⌝ }
 {
-    if 4096 < s.len() {
-        return RecordAnswer::Refused { number: 30, at: 0 };
-    }
-    if has_version(s) {
-        return check_terms(s, 6);
-    }
-    RecordAnswer::Refused { number: 31, at: 0 }
+    answer_of(opening::open_record(s, Address::IPv4(0)))
 }

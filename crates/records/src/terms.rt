@@ -1,13 +1,17 @@
 // One term of a record: a run of non-spaces.
 ghost use mathlib.Core.Path.{_≡_};
 ghost use Prim.Native.Nat.{_≤_, _<_};
+ghost use mathlib.Core.Bool.{_&&_};
+ghost use lib.Dec.{eqb};
 ghost use lib.ListN.{length};
 ghost use Rattle.records.specs.Grammar.{isQualifier};
-ghost use Rattle.records.specs.Reader.{laterKind, kindOf, specAt, allOf, includeOf, existsOf, ptrOf, cutOf, hostsCut, hostsAt, aOf, mxOf, networkTerm, ip4Of, ip6Of, mechanismBy, mechanismOf, modifierOf, tokenOf};
+ghost use Rattle.records.specs.Reader.{laterKind, kindOf, specAt, allOf, includeOf, existsOf, ptrOf, cutOf, hostsCut, hostsAt, aOf, mxOf, networkTerm, ip4Of, ip6Of, mechanismBy, signBy, nameBy, modifierOf, tokenOf};
 use crate::Term;
 use crate::Token;
+use address::Address;
 use macros::Form;
 use networks::Dual;
+use networks::Front;
 use networks::Length;
 use networks::Network;
 use text::bytes;
@@ -101,14 +105,16 @@ fn kind_of(name: &[u8]) -> Kind
 
 // [ ":" domain-spec ] from a place up to another.
 fn read_spec(w: &[u8], k: usize, to: usize) -> Spec
+    requires { ⌜ (k ≤ to) × (to ≤ length (now w)) ⌝ }
     ensures { λ r. ⌜ r ≡ specAt (now (w .entry)) k to ⌝ }
 {
     if k == to {
         return Spec::Absent;
     }
     if bytes::peek(w, k) == 58 {
-        if macros::read_macro_string(Form::DomainSpec, bytes::part(w, k + 1, to)) {
-            return Spec::From(k + 1);
+        let from = k + 1;
+        if macros::read_macro_string(Form::DomainSpec, &w[from..to]) {
+            return Spec::From(from);
         }
         return Spec::Bad;
     }
@@ -126,6 +132,7 @@ fn read_all(sign: u8, k: usize, w: &[u8]) -> Token
 }
 
 fn read_include(sign: u8, k: usize, w: &[u8]) -> Token
+    requires { ⌜ k ≤ length (now w) ⌝ }
     ensures { λ r. ⌜ r ≡ includeOf sign k (now (w .entry)) ⌝ }
 {
     let to = w.len();
@@ -137,6 +144,7 @@ fn read_include(sign: u8, k: usize, w: &[u8]) -> Token
 }
 
 fn read_exists(sign: u8, k: usize, w: &[u8]) -> Token
+    requires { ⌜ k ≤ length (now w) ⌝ }
     ensures { λ r. ⌜ r ≡ existsOf sign k (now (w .entry)) ⌝ }
 {
     let to = w.len();
@@ -148,6 +156,7 @@ fn read_exists(sign: u8, k: usize, w: &[u8]) -> Token
 }
 
 fn read_ptr(sign: u8, k: usize, w: &[u8]) -> Token
+    requires { ⌜ k ≤ length (now w) ⌝ }
     ensures { λ r. ⌜ r ≡ ptrOf sign k (now (w .entry)) ⌝ }
 {
     let to = w.len();
@@ -167,9 +176,10 @@ fn lengths_start(t: &[u8]) -> usize
 
 // [ ":" domain-spec ] up to the cut, and the lengths from there on.
 fn read_hosts_cut(w: &[u8], k: usize, cut: usize) -> Hosts
+    requires { ⌜ (k ≤ cut) × (cut ≤ length (now w)) ⌝ }
     ensures { λ r. ⌜ r ≡ hostsCut (now (w .entry)) k cut ⌝ }
 {
-    let Dual::Both(four, six) = networks::read_dual(bytes::part(w, cut, w.len())) else {
+    let Dual::Both(four, six) = networks::read_dual(&w[cut..]) else {
         return Hosts::Bad;
     };
     match read_spec(w, k, cut) {
@@ -194,7 +204,7 @@ fn read_hosts(w: &[u8], k: usize) -> Hosts
     requires { ⌜ k ≤ length (now w) ⌝ }
     ensures { λ r. ⌜ r ≡ hostsAt (now (w .entry)) k ⌝ }
 {
-    let cut = k + lengths_start(bytes::part(w, k, w.len()));
+    let cut = k + lengths_start(&w[k..]);
     read_hosts_cut(w, k, cut)
 }
 
@@ -261,27 +271,31 @@ fn network_term(sign: u8, from: usize, to: usize, network: Network, size: Length
     })
 }
 
-// A network up to the first slash, and its length from there on.
+// A network as far as its octets go, and its length from there on.
 fn read_ip4(sign: u8, k: usize, w: &[u8]) -> Token
     ensures { λ r. ⌜ r ≡ ip4Of sign k (now (w .entry)) ⌝ }
 {
     if bytes::peek(w, k) == 58 {
-        let slash = bytes::run_end(w, k + 1, Class::NotSlash);
-        let network = networks::read_ip4(bytes::part(w, k + 1, slash));
-        let length = networks::read_length4(bytes::part(w, slash, w.len()));
-        return network_term(sign, k + 1, slash, network, length);
+        let from = k + 1;
+        let Front::Ends { value, end } = networks::read_front(w, from) else {
+            return Token::Outside;
+        };
+        let length = networks::read_length4(&w[end..]);
+        return network_term(sign, from, end, Network::Is(Address::IPv4(value)), length);
     }
     Token::Outside
 }
 
+// A network up to the first slash, and its length from there on.
 fn read_ip6(sign: u8, k: usize, w: &[u8]) -> Token
     ensures { λ r. ⌜ r ≡ ip6Of sign k (now (w .entry)) ⌝ }
 {
     if bytes::peek(w, k) == 58 {
-        let slash = bytes::run_end(w, k + 1, Class::NotSlash);
-        let network = networks::read_ip6(bytes::part(w, k + 1, slash));
-        let length = networks::read_length6(bytes::part(w, slash, w.len()));
-        return network_term(sign, k + 1, slash, network, length);
+        let from = k + 1;
+        let slash = bytes::run_end(w, from, Class::NotSlash);
+        let network = networks::read_ip6(&w[from..slash]);
+        let length = networks::read_length6(&w[slash..]);
+        return network_term(sign, from, slash, network, length);
     }
     Token::Outside
 }
@@ -302,15 +316,6 @@ fn read_mechanism_by(kind: Kind, sign: u8, k: usize, w: &[u8]) -> Token
         Kind::Exists => read_exists(sign, k, w),
         Kind::NoKind => Token::Outside,
     }
-}
-
-// A mechanism whose name begins at i.
-fn read_mechanism(sign: u8, i: usize, w: &[u8]) -> Token
-    requires { ⌜ i ≤ length (now w) ⌝ }
-    ensures { λ r. ⌜ r ≡ mechanismOf sign i (now (w .entry)) ⌝ }
-{
-    let k = bytes::run_end(w, i, Class::NameByte);
-    read_mechanism_by(kind_of(bytes::part(w, i, k)), sign, k, w)
 }
 
 // A modifier, with its name up to k, where `=` stands.
@@ -342,17 +347,45 @@ fn read_modifier(k: usize, w: &[u8]) -> Token
     Token::Outside
 }
 
+// The sign of a term, by its first byte.
+fn sign_by(first: u8) -> u8
+    ensures { λ r. ⌜ r ≡ signBy first ⌝ }
+{
+    if is_qualifier(first) {
+        return first;
+    }
+    43
+}
+
+// Where the name of a term begins, by its first byte.
+fn name_by(first: u8) -> usize
+    ensures { λ r. ⌜ r ≡ nameBy first ⌝ }
+{
+    if is_qualifier(first) {
+        return 1;
+    }
+    0
+}
+
+// Whether a term is a modifier, by where its name begins and the byte after its name.
+fn is_modifier(i: usize, b: u8) -> bool
+    ensures { λ r. ⌜ r ≡ (eqb i 0 && eqb b 61) ⌝ }
+{
+    if i == 0 {
+        return b == 61;
+    }
+    false
+}
+
 // A run of non-spaces as a term.
 pub fn read_token(w: &[u8]) -> Token
     ensures { λ r. ⌜ r ≡ tokenOf (now (w .entry)) ⌝ }
 {
     let first = bytes::peek(w, 0);
-    if is_qualifier(first) {
-        return read_mechanism(first, 1, w);
-    }
-    let k = bytes::run_end(w, 0, Class::NameByte);
-    if bytes::peek(w, k) == 61 {
+    let i = name_by(first);
+    let k = bytes::run_end(w, i, Class::NameByte);
+    if is_modifier(i, bytes::peek(w, k)) {
         return read_modifier(k, w);
     }
-    read_mechanism(43, 0, w)
+    read_mechanism_by(kind_of(&w[i..k]), sign_by(first), k, w)
 }

@@ -6,3 +6,5 @@ pub mod Lookups
 pub mod Arguments
 -- Modifiers: the redirect and the exp of a record, term after term.
 pub mod Modifiers
+-- Equals: no modifier where no `=` stands.
+pub mod Equals

@@ -10,6 +10,10 @@ pub mod Entries
 pub mod Finding
 -- Checks: the check against the productions.
 pub mod Checks
+-- Marks: the marks of pairs, as the code reads and sets them.
+pub mod Marks
+-- Covering: the marks against the entries before a place.
+pub mod Covering
 -- Rules: one for each way out of the functions on the whole table.
 pub mod Rules
 -- Places: an entry's name and its items' bytes as parts of the table.

@@ -9,3 +9,5 @@ pub mod Answers
 pub mod Lookup
 -- Reader: the entries and items of a table, read as the code reads them; the laws tie it to the productions.
 pub mod Reader
+-- Marks: the bits that are set for the pairs that a check has met.
+pub mod Marks

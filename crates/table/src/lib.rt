@@ -1,15 +1,17 @@
 // The answer table: its check, and lookup in it.
 ghost use mathlib.Core.Path.{_≡_};
-ghost use Prim.Native.Nat.{_≤_};
+ghost use Prim.Native.Nat.{_≤_, _<_};
 ghost use lib.ListN.{length};
 ghost use Rattle.table.specs.Numbers.{reported};
 ghost use Rattle.table.specs.Answers.{TableAnswers};
 ghost use Rattle.table.specs.Lookup.{lookup, Finds};
+ghost use Rattle.table.specs.Marks.{Covered, CoveredAfter};
 ghost use Rattle.table.specs.Reader.{entriesOf, findAt, foundItems, stepAt, checkTable};
 use entries::Header;
 
 pub mod entries;
 pub mod items;
+mod marks;
 
 // What a check of a table answers.
 pub enum TableAnswer {
@@ -90,10 +92,11 @@ pub fn found_items(table: &[u8], found: Found) -> &[u8]
     &table[..0]
 }
 
-// The entry at a place in the check.
-fn step_at(table: &[u8], at: usize) -> Step
-    requires { ⌜ at ≤ length (now table) ⌝ }
+// The entry at a place in the check. The marks are of the entries before it, and then of it too.
+fn step_at(table: &[u8], at: usize, marks: &mut [u64]) -> Step
+    requires { ⌜ (at ≤ length (now table)) × Covered (now table) at (now marks) ⌝ }
     ensures { λ r. ⌜ r ≡ stepAt (now (table .entry)) at ⌝ }
+    ensures { λ r. ⌜ CoveredAfter (now (table .entry)) r (now (marks .exit)) ⌝ }
 {
     let rest = &table[at..];
     let h = entries::read_header(rest);
@@ -107,7 +110,11 @@ fn step_at(table: &[u8], at: usize) -> Step
         return Step::Malformed;
     };
     if entries::is_well(rest, h) {
-        let Found::Missing = find(&table[..at], kind, entries::name_of(rest, n)) else {
+        let name = entries::name_of(rest, n);
+        if marks::is_new(512 < table.len(), marks, kind, name) {
+            return Step::Next(at + size);
+        }
+        let Found::Missing = find(&table[..at], kind, name) else {
             return Step::Repeated;
         };
         return Step::Next(at + size);
@@ -115,21 +122,18 @@ fn step_at(table: &[u8], at: usize) -> Step
     Step::Malformed
 }
 
-// Checks a table: 24, then the earlier of 25 and 26 with its place, or accepted.
-pub fn check_table(table: &[u8]) -> TableAnswer
+// The entries of a table, one after the other: the earlier of 25 and 26 with its place, or accepted. Marks are made in a table of over 512 bytes.
+fn check_entries(table: &[u8], marks: &mut [u64]) -> TableAnswer
+    requires { ⌜ (length (now table) ≤ 65535) × (512 < length (now table) → length (now marks) ≡ 256) ⌝ }
     ensures { λ r. ⌜ r ≡ checkTable (now (table .entry)) ⌝ }
-    ensures { λ r. ⌜ TableAnswers (now (table .entry)) (reported r) ⌝ }
 {
-    if 65535 < table.len() {
-        return TableAnswer::TooLong;
-    }
     let mut at = 0;
     let mut count = 0;
     while at < table.len() {
         if count == 512 {
             return TableAnswer::Malformed(at);
         }
-        match step_at(table, at) {
+        match step_at(table, at, marks) {
             Step::Next(next) => {
                 at = next;
                 count += 1;
@@ -143,4 +147,20 @@ pub fn check_table(table: &[u8]) -> TableAnswer
         }
     }
     TableAnswer::Accepted(count)
+}
+
+// Checks a table: 24, then the earlier of 25 and 26 with its place, or accepted.
+pub fn check_table(table: &[u8]) -> TableAnswer
+    ensures { λ r. ⌜ r ≡ checkTable (now (table .entry)) ⌝ }
+    ensures { λ r. ⌜ TableAnswers (now (table .entry)) (reported r) ⌝ }
+{
+    if 65535 < table.len() {
+        return TableAnswer::TooLong;
+    }
+    if 512 < table.len() {
+        let mut marks = [0u64; 256];
+        return check_entries(table, &mut marks);
+    }
+    let mut none = [0u64; 1];
+    check_entries(table, &mut none)
 }

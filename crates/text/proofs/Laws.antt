@@ -4,6 +4,8 @@ pub mod Orders
 pub mod Tests
 -- Classes: bytes of a class as numbers; a class by its own test; two tests that agree at all 256 bytes.
 pub mod Classes
+-- Sets: a set that holds a class.
+pub mod Sets
 -- Words: equality of lists.
 pub mod Words
 -- Parts: tests of every element, the last element, and the right-most elements.

@@ -7,6 +7,8 @@ pub mod Texts
 pub mod Lists
 -- Runs: the longest run of a class.
 pub mod Runs
+-- Sets: bytes as sets, and a set that holds a class.
+pub mod Sets
 -- Decimal: numbers in decimal.
 pub mod Decimal
 -- Writing: bytes written into a lent buffer.

@@ -4,9 +4,9 @@ use mathlib.Core.List.{List, [], _∷_}
 use mathlib.Core.Bool.{Bool, cond}
 use lib.ListN.{drop}
 use Rattle.text.specs.Lists.{all}
-use Rattle.text.specs.Bytes.{isSpace, isNotSpace, isNotDot, isNotColon, isNotSlash, isUpper, isNotUpper, isAlpha, isDigit, isLengthByte, isAlphanumeric, isHexDigit, isVisible, isPrintable, isLabelByte, isNameByte, isToplabelByte, isMacroLiteral, isDelimiter}
+use Rattle.text.specs.Bytes.{isSpace, isNotSpace, isNotDot, isNotColon, isNotSlash, isUpper, isNotUpper, isAlpha, isDigit, isLengthByte, isAlphanumeric, isHexDigit, isVisible, isPrintable, isLabelByte, isTableLabelByte, isNameByte, isToplabelByte, isMacroLiteral, isDelimiter}
 use Rattle.text.specs.declared.bytes.Class.{Class}
-use Rattle.text.specs.declared.bytes.Class.the-variants.{Space, NotSpace, NotDot, NotColon, NotSlash, Upper, NotUpper, Alpha, Digit, LengthByte, Alphanumeric, HexDigit, Visible, Printable, LabelByte, NameByte, ToplabelByte, MacroLiteral, Delimiter}
+use Rattle.text.specs.declared.bytes.Class.the-variants.{Space, NotSpace, NotDot, NotColon, NotSlash, Upper, NotUpper, Alpha, Digit, LengthByte, Alphanumeric, HexDigit, Visible, Printable, LabelByte, TableLabelByte, NameByte, ToplabelByte, MacroLiteral, Delimiter}
 
 -- the test of a class
 unfoldable pub isIn : Class → ℕ → Bool
@@ -25,6 +25,7 @@ isIn HexDigit b = isHexDigit b
 isIn Visible b = isVisible b
 isIn Printable b = isPrintable b
 isIn LabelByte b = isLabelByte b
+isIn TableLabelByte b = isTableLabelByte b
 isIn NameByte b = isNameByte b
 isIn ToplabelByte b = isToplabelByte b
 isIn MacroLiteral b = isMacroLiteral b

@@ -1,9 +1,9 @@
--- `domain::labels_fit` meets its contract. From the laws of labels: what the run of label bytes at the front says of the first label. It ends
--- since what follows the first dot is shorter.
+-- `domain::labels_fit` meets its contract. From the law of labels by runs of label bytes. It ends since what follows the first dot is shorter.
 use native.Mathlib.Omega.{arith}
 use borrow.Author.Needs.{needs}
 use lib.ListN.{length, length-take, length-drop}
-use Rattle.domain.proofs.Laws.Labels.{fit-empty, fit-long, fit-last, fit-other, fit-rest, fit-inside}
+use Rattle.text.proofs.Laws.Tests.{ways}
+use Rattle.domain.proofs.Laws.Labels.{fit-step, fit-inside}
 use Prim.Native.Nat.{ℕ, _<_}
 use borrow.Fn.Kinds.{In}
 use borrow.Fn.PlainCycle.{Measures, is, falls, and}
@@ -39,7 +39,7 @@ labels-fit-returns : (t : ℕ) → labels-fit-lts.Need-returns (
   labels-fit-below t,
   labels-fit.Post,
 ) (labels-fit-at t) labels-fit.Post
-labels-fit-returns t c = search fit-empty
+labels-fit-returns t c = search (fit-step, ways)
 
 labels-fit-returns-2 : (t : ℕ) → labels-fit-lts.Need-returns-2 (
   run-end-reads.Asked,
@@ -47,7 +47,7 @@ labels-fit-returns-2 : (t : ℕ) → labels-fit-lts.Need-returns-2 (
   labels-fit-below t,
   labels-fit.Post,
 ) (labels-fit-at t) labels-fit.Post
-labels-fit-returns-2 t c = search fit-long
+labels-fit-returns-2 t c = search (fit-step, ways)
 
 labels-fit-returns-3 : (t : ℕ) → labels-fit-lts.Need-returns-3 (
   run-end-reads.Asked,
@@ -55,7 +55,7 @@ labels-fit-returns-3 : (t : ℕ) → labels-fit-lts.Need-returns-3 (
   labels-fit-below t,
   labels-fit.Post,
 ) (labels-fit-at t) labels-fit.Post
-labels-fit-returns-3 t c = search fit-last
+labels-fit-returns-3 t c = search (fit-step, ways)
 
 labels-fit-shared-slice-read-if4 : (t : ℕ) → labels-fit-lts.Need-shared-slice-read-if4 (
   run-end-reads.Asked,
@@ -71,7 +71,7 @@ labels-fit-returns-4 : (t : ℕ) → labels-fit-lts.Need-returns-4 (
   labels-fit-below t,
   labels-fit.Post,
 ) (labels-fit-at t) labels-fit.Post
-labels-fit-returns-4 t c = search fit-other
+labels-fit-returns-4 t c = search (fit-step, ways)
 
 labels-fit-add-labels-fit : (t : ℕ) → labels-fit-lts.Need-add-labels-fit (
   run-end-reads.Asked,
@@ -119,7 +119,7 @@ labels-fit-returns-5 : (t : ℕ) → labels-fit-lts.Need-returns-5 (
   labels-fit-below t,
   labels-fit.Post,
 ) (labels-fit-at t) labels-fit.Post
-labels-fit-returns-5 t c = search fit-rest
+labels-fit-returns-5 t c = search (fit-step, ways)
 
 pub +labels-fit-spec : {M : Type 1} → statement M
 +labels-fit-spec = close μ-labels-fit λ t. labels-fit-lts.spec (

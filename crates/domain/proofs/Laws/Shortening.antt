@@ -5,10 +5,8 @@ use mathlib.Core.Path.{_≡_, refl, sym, ap, _∙_}
 use mathlib.Core.Logic.{_⊎_, ⊎-elim, inl, inr}
 use mathlib.Core.List.{List, [], _∷_, _++_, append-assoc, append-nil}
 use native.Mathlib.Omega.{arith}
-use native.Mathlib.Numerals.{add-one}
-use native.Mathlib.Nat.{zero-add}
 use lib.ListN.{length, take, drop, length-drop}
-use lib.Seq.{split-at}
+use lib.Seq.{split-at, drop-drop}
 use borrow.Author.Tests.{le-leb, lt-leb}
 use Rattle.text.specs.Bytes.{isDot}
 use Rattle.text.specs.Lists.{separatorBefore, joinBy, join}
@@ -93,19 +91,34 @@ shortened-fits = shortened-by-steps (λ s t. (length t ≤ 253) ⊎ (length (lab
     (λ s h. inr (ap length h))
     (λ s x rest t d l p. p)
 
--- `shorten`
-module _ (s : List ℕ) where
-  pub shorten-same : length s ≤ 253 → s ≡ shortened s
-  shorten-same h = sym (shortened-same s h)
+-- `shorten_from`: what is left of the name that begins at i
+module _ (s : List ℕ) (i : ℕ) where
+  pub shorten-same : length s - i ≤ 253 → drop i s ≡ shortened (drop i s)
+  shorten-same h = sym (shortened-same (drop i s) (rw length-drop h))
 
-  module _ (e : ℕ) (r : e ≡ runEnd (isIn NotDot) s 0) where
-    at-front : e ≡ front isDot s
+  -- e is where its first dot stands, or its end
+  module _ (e : ℕ) (r : e ≡ runEnd (isIn NotDot) s i) where
+    at-front : e ≡ i + front isDot (drop i s)
     unfolding runEnd isIn
-    at-front = r ∙ zero-add (front isDot s)
+    at-front = r
 
-    pub shorten-last : length s ≤ e → s ≡ shortened s
-    shorten-last h = sym (shortened-last s (rw (sym at-front) h))
+    pub shorten-on : i ≤ e
+    shorten-on = omega (arith, at-front)
 
-    pub shorten-less : 253 < length s → e < length s → (t : List ℕ) → t ≡ shortened (take (length s - (e + 1)) (drop (e + 1) s)) → t ≡ shortened s
-    shorten-less h k t p =
-        p ∙ rw (rest-part, add-one, at-front) (sym (shortened-less s h (rw (sym at-front) k)))
+    pub shorten-last : length s ≤ e → drop i s ≡ shortened (drop i s)
+    shorten-last h = sym (shortened-last (drop i s) (omega (arith, at-front, length-drop i s)))
+
+    module _ (k : e < length s) where
+      after-dot : drop (e + 1) s ≡ drop (suc (front isDot (drop i s))) (drop i s)
+      after-dot =
+          let q : e + 1 ≡ i + suc (front isDot (drop i s)) = omega (arith, at-front) in
+          ap (λ (m : ℕ). drop m s) q ∙ sym (drop-drop (suc (front isDot (drop i s))) i s)
+
+      pub shorten-less : 253 < length s - i → (t : List ℕ) → t ≡ shortened (drop (e + 1) s) → t ≡ shortened (drop i s)
+      shorten-less h t p =
+          let n = length-drop i s in
+          p ∙ ap shortened after-dot ∙ sym (shortened-less (drop i s) (omega arith) (omega (arith, at-front)))
+
+-- `shorten`
+pub shorten-part : (s : List ℕ) (i : ℕ) → drop i s ≡ shortened s → take (length s - i) (drop i s) ≡ shortened s
+shorten-part s i h = rest-part s i ∙ h

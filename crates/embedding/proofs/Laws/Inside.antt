@@ -6,7 +6,7 @@ use mathlib.Core.List.{List}
 use native.Mathlib.Omega.{arith}
 use native.Mathlib.Nat.{sub-self}
 use lib.Dec.{eqb}
-use lib.ListN.{length, length-drop}
+use lib.ListN.{length}
 use borrow.Author.Tests.{eqb-true, eqb-false}
 use Rattle.text.specs.Bytes.{at, part}
 use Rattle.text.specs.Runs.{isIn, runEnd}
@@ -14,7 +14,6 @@ use Rattle.text.specs.declared.bytes.Class.the-variants.{NameByte, NotSlash}
 use Rattle.text.proofs.Laws.Tests.{cond-elim}
 use Rattle.text.proofs.Laws.Runs.{run-end-from, run-end-inside}
 use Rattle.text.proofs.Laws.Classes.{nonzero-inside}
-use Rattle.text.proofs.Laws.Spans.{rest-part}
 use Rattle.table.proofs.Laws.Places.{part-inside}
 use Rattle.address.specs.declared.Address.{Address}
 use Rattle.address.specs.declared.Address.the-variants.{IPv4, IPv6}
@@ -33,7 +32,7 @@ use Rattle.records.specs.declared.Term.{Term}
 use Rattle.records.specs.declared.Token.{Token}
 use Rattle.records.specs.declared.TermAnswer.{TermAnswer}
 use Rattle.records.proofs.Laws.Specs.{spec-elim}
-use Rattle.records.proofs.Laws.Hosts.{cut-inside, dual-elim, hosts-elim}
+use Rattle.records.proofs.Laws.Hosts.{cut-after, dual-elim, hosts-elim}
 use Rattle.records.proofs.Laws.Networks.{network-elim, length-elim}
 use Rattle.records.proofs.Laws.Modifiers.{modifier-elim}
 use Rattle.records.proofs.Laws.Tokens.{token-elim}
@@ -79,8 +78,7 @@ cut-within w k cut h l =
 hosts-within : (w : List ℕ) (k : ℕ) → k ≤ length w → HostsWithin w (hostsAt w k)
 unfolding hostsAt
 hosts-within w k h =
-    cut-within w k (k + cutOf (part w k (length w))) (omega arith)
-    (omega (arith, cut-inside (part w k (length w)), ap length (rest-part w k), length-drop k w))
+    cut-within w k (k + cutOf (part w k (length w))) (omega arith) (cut-after w k h)
 
 hosts-at : (w : List ℕ) (k : ℕ) → k ≤ length w → {x : Hosts} → hostsAt w k ≡ x → HostsWithin w x
 hosts-at w k h e = subst (HostsWithin w) e (hosts-within w k h)

@@ -16,7 +16,6 @@ use Rattle.address.specs.declared.Address.{Address}
 use Rattle.records.specs.Readings.{Optional, absent, present}
 use Rattle.records.specs.Reader.{readRecord}
 use Rattle.records.specs.Numbers.{saidOf}
-use Rattle.records.specs.declared.RecordAnswer.{RecordAnswer}
 use Rattle.records.specs.declared.Term.{Term}
 use Rattle.meaning.specs.declared.Counts.{Counts}
 use Rattle.meaning.specs.declared.Ending.{Ending}
@@ -40,7 +39,7 @@ use Rattle.mechanisms.specs.Terms.{TriedIs}
 use Rattle.evaluation.specs.Checks.{endedOf, wantingOf, signOf, signedOf, redirectedBy, redirectedOf, includedNow, includedBy, includedOf}
 
 -- a result without an explanation, and a question without an entry
-says-ended : (t : List ℕ) (u : Table) (v : ℕ) (c : Counts) (o : Checked) (b : List ℕ) → o ≡ endedOf v c → SaysCheck t (run u (ended v c)) o b b
+pub says-ended : (t : List ℕ) (u : Table) (v : ℕ) (c : Counts) (o : Checked) (b : List ℕ) → o ≡ endedOf v c → SaysCheck t (run u (ended v c)) o b b
 unfolding run CheckedIs failingOf wantedBuffer
 says-ended t u v c o b e = rw e (record { checked = (refl, refl, refl); buffer = refl })
 
@@ -139,21 +138,6 @@ module _ (t : List ℕ) (mail : Mail) (d : List ℕ) (c : Counts) (o : Checked) 
 pub place-small : (c : Counts) (d t : List ℕ) (x : Settled Selection) (r : Selected) (b a : List ℕ) → SaysSelection c d t x r b a → length d ≤ 253
     → (place text : Span) → r ≡ Selected.One place text → length (spanOf t place) ≤ 253
 place-small c d t x r b a s h place text q = rw (lookup-one c d t x r b a s place text q .1) h
-
--- evaluate_record
-module _ (t : List ℕ) (mail : Mail) (d s : List ℕ) (c : Counts) (o : Checked) (b : List ℕ) (u : List ℕ) (f : u ≡ s) (r : RecordAnswer) (p : r ≡ readRecord u) where
-  pub record-refused : (number at : ℕ) → r ≡ RecordAnswer.Refused number at → o ≡ endedOf 6 c → (n : ℕ) → 10 ≤ n + c .lookups
-      → SaysCheck t (run (tableIn t) (readOutcome mail (check n mail) d s (readRecord s) c)) o b b
-  unfolding readOutcome
-  record-refused number at q e n k = rw (← f, ← p, q) (says-ended t (tableIn t) 6 c o b e)
-
-  pub record-tried : (first : ℕ) → r ≡ RecordAnswer.Accepted first → (z : List ℕ)
-      → ((n : ℕ) → 10 ≤ n + c .lookups → SaysCheck t (run (tableIn t) (tryTerms mail (check n mail) d (termsOf s first) (termsOf s first) c)) o b z)
-      → (n : ℕ) → 10 ≤ n + c .lookups → SaysCheck t (run (tableIn t) (readOutcome mail (check n mail) d s (readRecord s) c)) o b z
-  unfolding readOutcome
-  record-tried first q z g n k =
-      let e : readRecord s ≡ RecordAnswer.Accepted first = ap readRecord (sym f) ∙ sym p ∙ q in
-      rw e (g n k)
 
 -- the parts of include and redirect
 module _ (o : Checked) (v : ℕ) (e : o .ending ≡ Ending.Result v) where

@@ -1,24 +1,25 @@
 -- The ways out of the functions that read macro strings, and the walk over the pieces of a text: a rule for each way. From the definitions of
 -- Reader, the laws of Pieces, and for the productions Completeness.
-use Prim.Native.Nat.{ℕ, _+_, _-_, _≤_, _<_, _^_}
+use Prim.Native.Nat.{ℕ, zero, suc, _+_, _-_, _≤_, _<_, _^_}
 use mathlib.Core.Path.{_≡_, refl, sym, ap, _∙_}
 use mathlib.Core.List.{List, [], _∷_}
 use mathlib.Core.Logic.{_↔_}
 use mathlib.Core.Bool.{Bool, true, false, cond, _||_, or-assoc, or-false}
 use native.Mathlib.Omega.{arith}
-use lib.ListN.{length, take, drop, length-drop}
-use lib.Seq.{drop-drop}
+use lib.ListN.{length, getD, take, drop, length-drop}
+use lib.Seq.{drop-cons, drop-drop}
 use lib.Dec.{leb, eqb}
 use borrow.Author.Tests.{eq-eqb, ne-eqb, le-leb, leb-false}
-use Rattle.text.specs.Bytes.{at, part, lower, isDigit}
+use Rattle.text.specs.Bytes.{at, part, lower, within, isDigit, isMacroLiteral}
 use Rattle.text.specs.Texts.{bytes}
 use Rattle.text.specs.Decimal.{decimal, isDecimal, readDecimal}
 use Rattle.text.specs.Lists.{all, contains}
 use Rattle.text.specs.Runs.{isIn, runEnd}
-use Rattle.text.specs.declared.bytes.Class.the-variants.{Digit, Delimiter}
+use Rattle.text.specs.declared.bytes.Class.the-variants.{Digit, MacroLiteral, Delimiter}
 use Rattle.text.specs.declared.decimal.Number.{Number}
 use Rattle.text.specs.declared.decimal.Number.the-variants.{Value, Refused}
 use Rattle.text.proofs.Laws.Classes.{class-tests}
+use Rattle.text.proofs.Laws.Runs.{run-end-next, run-end-here, run-end-out, run-end-inside}
 use Rattle.macros.specs.Grammar.{Macro, Piece, literal, escape, expand, Produces, isLetter, isCount}
 use Rattle.macros.specs.Reader.{isLiteral, isEscape, isReverse, closedAt, delimitersAt, reversalAt, digitsAt, bracesOf, pieceOf, macroOf, Pieces, push, pieces, endsInMacro, endsInLabel, endsRight, isMacroString, isP, anyP, scanOf, usesP}
 use Rattle.macros.specs.declared.Form.{Form}
@@ -197,6 +198,17 @@ unfolding endsInMacro
 ends-none [] = refl
 ends-none (q ∷ ps) = refl
 
+-- a byte that stands for itself in every form isn't the percent sign
+plain-literal : (form : Form) (b : ℕ) → isIn MacroLiteral b ≡ true → isLiteral form b ≡ true
+unfolding isLiteral isIn
+plain-literal DomainSpec b h = h
+plain-literal ModifierValue b h = h
+plain-literal Explanation b h = simp h
+
+plain-not-percent : (b : ℕ) → isIn MacroLiteral b ≡ true → eqb b 37 ≡ false
+unfolding isIn isMacroLiteral within
+plain-not-percent b h = ne-eqb b 37 (λ e. let k : isMacroLiteral 37 ≡ true = ap (isIn MacroLiteral) (sym e) ∙ h in let z : _≡_ {A = ℕ} 0 1 = cc in omega arith)
+
 -- the loop of `scan`: what the pieces passed and those from `at` on tell together is what all pieces tell
 pub record Scanned (form : Form) (text : List ℕ) (at : ℕ) (expands asks : Bool) : Type 0 where
   pub within : at ≤ length text
@@ -223,25 +235,34 @@ module _ (form : Form) (text : List ℕ) (at : ℕ) (expands asks : Bool) (inv :
       }
 
   -- the pieces told at the end or at the first that is none
-  told : (w : Bool) → pieces form (drop at text) ≡ record { list = []; whole = w } → record { whole = w; expands = expands; asks = asks } ≡ scanOf form text
+  told : (w : Bool) → pieces form (drop at text) ≡ record { list = []; whole = w } → (x : Summary) → x ≡ record { whole = w; expands = expands; asks = asks } → x ≡ scanOf form text
   unfolding scanOf anyP
-  told w e =
+  told w e x q =
       let h : pieces form text .whole ≡ w = sym (inv .whole) ∙ ap (λ (x : Pieces). x .whole) e in
       let m : endsInMacro (pieces form text .list) ≡ expands = sym (inv .ending) ∙ ap (λ (x : Pieces). endsAfter expands (x .list)) e in
       let a : anyP (pieces form text .list) ≡ asks = sym (inv .asking) ∙ ap (λ (x : Pieces). asks || anyP (x .list)) e ∙ or-false asks in
-      rw (h, m, a)
+      q ∙ rw (h, m, a)
 
-  pub scan-out : length text ≤ at → record { whole = true; expands = expands; asks = asks } ≡ scanOf form text
+  pub scan-out : length text ≤ at → (x : Summary) → x ≡ record { whole = true; expands = expands; asks = asks } → x ≡ scanOf form text
   scan-out h = told true (pieces-none form (drop at text) (simp length-drop (omega arith)))
+
+  -- a byte that stands for itself
+  scan-plain : at < length text → isIn MacroLiteral (getD text at 0) ≡ true → Scanned form text (at + 1) false asks
+  unfolding isP pieceOf
+  scan-plain h l =
+      let b = getD text at 0 in
+      let c : drop at text ≡ b ∷ drop (suc at) text = drop-cons text at 0 h in
+      let f : pieceOf form (b ∷ drop (suc at) text) ≡ Found.Literal b = simp (ne-eqb (suc (length (drop (suc at) text))) 0 (λ z. omega arith), plain-not-percent b l, plain-literal form b l) in
+      step 1 (literal b) false asks (ends-literal b) (sym (or-false asks)) (omega arith) (pieces-literal form (drop at text) b (rw c f))
 
   module _ (here : at < length text) (r : Found) (p : r ≡ pieceOf form (take (length text - at) (drop at text))) where
     found : {x : Found} → r ≡ x → pieceOf form (drop at text) ≡ x
     found q = found-at form text at r p q
 
-    pub scan-end : r ≡ Found.End → record { whole = true; expands = expands; asks = asks } ≡ scanOf form text
+    pub scan-end : r ≡ Found.End → (x : Summary) → x ≡ record { whole = true; expands = expands; asks = asks } → x ≡ scanOf form text
     scan-end q = told true (pieces-end form (drop at text) (found q))
 
-    pub scan-bad : r ≡ Found.Bad → record { whole = false; expands = expands; asks = asks } ≡ scanOf form text
+    pub scan-bad : r ≡ Found.Bad → (x : Summary) → x ≡ record { whole = false; expands = expands; asks = asks } → x ≡ scanOf form text
     scan-bad q = told false (pieces-bad form (drop at text) (found q))
 
     module _ (b : ℕ) where
@@ -267,6 +288,29 @@ module _ (form : Form) (text : List ℕ) (at : ℕ) (expands asks : Bool) (inv :
 
       pub expand-room : length text < 2 ^ 64 → at + (m .to + 1) < 2 ^ 64
       expand-room h = let w = expand-within form text at r p m q in omega arith
+
+-- bytes that stand for themselves, up to the end of their run
+plain-run : (form : Form) (text : List ℕ) (asks : Bool) (n i : ℕ) → n + i ≡ length text → Scanned form text i false asks → Scanned form text (runEnd (isIn MacroLiteral) text i) false asks
+plain-run form text asks zero i h inv = rw (run-end-out (isIn MacroLiteral) text i (omega arith)) inv
+plain-run form text asks (suc n) i h inv = by (isIn MacroLiteral (getD text i 0)) refl (λ e. plain-run form text asks n (i + 1) (omega arith) (scan-plain form text i false asks inv (omega arith) e))
+  where
+    by : (x : Bool) → isIn MacroLiteral (getD text i 0) ≡ x → (isIn MacroLiteral (getD text i 0) ≡ true → Scanned form text (runEnd (isIn MacroLiteral) text (i + 1)) false asks)
+        → Scanned form text (runEnd (isIn MacroLiteral) text i) false asks
+    by true e rest = rw (← run-end-next (isIn MacroLiteral) text i (omega arith) e) (rest e)
+    by false e rest = rw (run-end-here (isIn MacroLiteral) text i (omega arith) e) inv
+
+module _ (form : Form) (text : List ℕ) (i : ℕ) (expands asks : Bool) (inv : Scanned form text i expands asks) (e : ℕ) (p : e ≡ runEnd (isIn MacroLiteral) text i) where
+  pub scan-run : i < length text → i < e → Scanned form text e false asks
+  scan-run h l = by (isIn MacroLiteral (getD text i 0)) refl
+    where
+      by : (x : Bool) → isIn MacroLiteral (getD text i 0) ≡ x → Scanned form text e false asks
+      by true q =
+          let n = run-end-next (isIn MacroLiteral) text i h q in
+          rw (p, ← n) (plain-run form text asks (length text - (i + 1)) (i + 1) (omega arith) (scan-plain form text i expands asks inv h q))
+      by false q = absurd (let z = run-end-here (isIn MacroLiteral) text i h q in omega (arith, p))
+
+  pub run-room : e ≤ length text
+  run-room = rw p (run-end-inside (isIn MacroLiteral) text i (inv .within))
 
 -- `read_macro_string`
 module _ (form : Form) (text : List ℕ) (told : Summary) (p : told ≡ scanOf form text) where

@@ -1,5 +1,5 @@
 -- An ip4-network's text is exactly what is read as one. From the laws of Numbers, Spans and Runs.
-use Prim.Native.Nat.{ℕ, _+_, _≤_, _<_}
+use Prim.Native.Nat.{ℕ, _+_, _≤_}
 use mathlib.Core.Path.{_≡_, refl, sym, subst, _∙_}
 use mathlib.Core.List.{List, [], _∷_, _++_}
 use mathlib.Core.Bool.{true, false}
@@ -11,8 +11,6 @@ use Rattle.text.specs.Bytes.{at, part, isDigit, within}
 use Rattle.text.specs.Lists.{all}
 use Rattle.text.specs.Decimal.{readNumber}
 use Rattle.text.specs.Runs.{isIn, runEnd}
-use Rattle.text.specs.declared.decimal.Number.{Number}
-use Rattle.text.specs.declared.decimal.Number.the-variants.{Value, Refused}
 use Rattle.text.specs.declared.bytes.Class.the-variants.{Digit}
 use Rattle.text.proofs.Laws.Tests.{cond-elim}
 use Rattle.text.proofs.Laws.Classes.{past-end, class-tests}
@@ -167,16 +165,3 @@ ip4-complete s a (network n) = ip4-octets n
 -- the answer of `read_ip4`
 pub ip4-answer : (s : List ℕ) (r : Network) → r ≡ readIp4 s → (r ≡ readIp4 s) × NetworkAnswer (Network4 s) r
 ip4-answer s r e = (e, subst (NetworkAnswer (Network4 s)) (sym e) (network-answer (Network4 s) (readIp4 s) (ip4-sound s) (ip4-complete s)))
-
--- the ways out of `read_octet`: e is the end of the run, and r what its digits were read as
-module _ (s : List ℕ) (i e : ℕ) (w : List ℕ) (r : Number) (end : e ≡ runEnd (isIn Digit) s i) (word : w ≡ part s i e) (read : r ≡ readNumber 255 w) where
-  pub octet-none : r ≡ Refused → NoOctet ≡ octetAt s i
-  unfolding octetAt
-  octet-none q = simp (← end, ← word, ← read, q)
-
-  pub octet-some : (o : ℕ) → r ≡ Value o → Ends o e ≡ octetAt s i
-  unfolding octetAt
-  octet-some o q = simp (← end, ← word, ← read, q)
-
-  pub octet-fits : (o : ℕ) → r ≡ Value o → o < 256
-  octet-fits o q = let h = number-limit (number-made 255 w o (sym read ∙ q)) in omega arith

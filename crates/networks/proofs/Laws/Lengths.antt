@@ -67,6 +67,10 @@ module _ (limit : ℕ) where
   unfolding readLength
   length-cons b w = simp (ne-eqb (suc (length w)) 0 (omega arith))
 
+  length-other : (b : ℕ) (w : List ℕ) → (b ≡ 47 → ⊥) → readLength limit (b ∷ w) ≡ NoLength
+  unfolding slashNumber
+  length-other b w h = length-cons b w ∙ simp (ne-eqb b 47 h)
+
   length-right : (s : List ℕ) → LengthRight s (readLength limit s)
   unfolding readLength
   length-right [] = absent
@@ -88,6 +92,11 @@ length4-sound s n e = length-made 32 s n e
 pub length4-complete : (s : List ℕ) (n : ℕ) → Length4 s n → readLength4 s ≡ Of n
 unfolding readLength4
 length4-complete s n l = length-read 32 l
+
+-- what begins with another byte than a slash is no length
+pub length4-other : (b : ℕ) (w : List ℕ) → (b ≡ 47 → ⊥) → readLength4 (b ∷ w) ≡ NoLength
+unfolding readLength4
+length4-other b w h = length-other 32 b w h
 
 pub length6-sound : (s : List ℕ) (n : ℕ) → readLength6 s ≡ Of n → Length6 s n
 unfolding readLength6

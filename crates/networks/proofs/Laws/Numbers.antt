@@ -3,7 +3,7 @@
 use Prim.Native.Nat.{ℕ, suc, _+_, _-_, _*_, _≤_, _<_}
 use mathlib.Core.Path.{_≡_, refl, sym, ap, subst, _∙_}
 use mathlib.Core.List.{List, [], _∷_}
-use mathlib.Core.Bool.{Bool, true, false, not, _&&_}
+use mathlib.Core.Bool.{Bool, true, false, cond, not, _&&_}
 use native.Mathlib.Omega.{arith}
 use lib.ListN.{length}
 use lib.Dec.{leb, eqb}
@@ -61,11 +61,20 @@ module _ {limit : ℕ} where
   number-limit nought = omega arith
   number-limit (number ha hw le) = le
 
--- what is read of digits
-read-digits : (limit : ℕ) (s : List ℕ) → hasNoLeadingZero s ≡ true → 0 < length s → all isDigit s ≡ true → decimal s ≤ limit
+-- what is read of digits, and that nothing is of a number above the limit
+pub read-digits : (limit : ℕ) (s : List ℕ) → hasNoLeadingZero s ≡ true → 0 < length s → all isDigit s ≡ true → decimal s ≤ limit
     → readNumber limit s ≡ Value (decimal s)
 unfolding readNumber readDecimal isDecimal
 read-digits limit s z l d h = simp (z, le-leb 1 (length s) l, d, le-leb (decimal s) limit h)
+
+pub number-over : (limit : ℕ) (w : List ℕ) → limit < decimal w → readNumber limit w ≡ Refused
+unfolding readNumber readDecimal isDecimal
+number-over limit w h = rw (lt-leb (decimal w) limit h) (by (hasNoLeadingZero w) (leb 1 (length w) && all isDigit w))
+  where
+    by : (t u : Bool) → cond t (cond (u && false) (Value (decimal w)) Refused) Refused ≡ Refused
+    by true true = refl
+    by true false = refl
+    by false u = refl
 
 no-leading-zero : (a : ℕ) (w : List ℕ) → within 49 57 a ≡ true → hasNoLeadingZero (a ∷ w) ≡ true
 unfolding hasNoLeadingZero

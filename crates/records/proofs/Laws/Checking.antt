@@ -16,7 +16,6 @@ use Rattle.text.specs.Lists.{sameWord}
 use Rattle.text.specs.Texts.{bytes}
 use Rattle.text.specs.Runs.{isIn, runEnd}
 use Rattle.text.specs.declared.bytes.Class.the-variants.{Space, NotSpace}
-use Rattle.text.proofs.Laws.Runs.{run-end-inside}
 use Rattle.text.proofs.Laws.Spans.{part-past}
 use Rattle.records.specs.Readings.{Placed}
 use Rattle.records.specs.declared.Term.{Term}
@@ -25,7 +24,7 @@ use Rattle.records.specs.declared.TermAnswer.{TermAnswer}
 use Rattle.records.specs.declared.RecordAnswer.{RecordAnswer}
 use Rattle.records.specs.Numbers.{argumentOf, TermReport, term, termReport, recordReport}
 use Rattle.records.specs.Answers.{TermAnswers, RecordAnswers}
-use Rattle.records.specs.Reader.{tokenOf, tokenAnswer, termFrom, readTerm, isRedirect, isExplanation, endedOf, checkAfter, checkFrom, hasVersion, readRecord}
+use Rattle.records.specs.Reader.{tokenOf, tokenAnswer, termFrom, readTerm, isRedirect, isExplanation, checkAfter, checkFrom, hasVersion, readRecord}
 use Rattle.records.proofs.Term as term-type
 use Rattle.records.proofs.TermAnswer as answer-type
 use Rattle.records.proofs.Laws.Terms.{read-long, read-past, term-answers}
@@ -38,10 +37,10 @@ pub from-end : (s : List ℕ) (p : ℕ) → p ≡ length s → TermAnswer.End �
 unfolding termFrom
 from-end s p h = sym (simp (eq-eqb p (length s) h))
 
-module _ (s : List ℕ) (p : ℕ) (some : p ≡ length s → ⊥) (e : ℕ) (q : e ≡ runEnd (isIn NotSpace) s p) (w : List ℕ) (g : w ≡ part s p e) (x : Token) (h : x ≡ tokenOf w) where
+module _ (s : List ℕ) (p : ℕ) (some : p ≡ length s → ⊥) (e : ℕ) (q : e ≡ runEnd (isIn NotSpace) s p) (x : Token) (h : x ≡ tokenOf (part s p e)) where
   from : termFrom s p ≡ tokenAnswer p e x
   unfolding termFrom
-  from = simp (ne-eqb p (length s) some, h, g, q)
+  from = simp (ne-eqb p (length s) some, h, q)
 
   pub from-bad : x ≡ Token.Outside → TermAnswer.Refused 32 p ≡ termFrom s p
   unfolding tokenAnswer
@@ -66,9 +65,6 @@ module _ (s : List ℕ) (i : ℕ) where
     pub term-found : i ≤ length s → (p : ℕ) → p ≡ runEnd (isIn Space) s i → (r : TermAnswer) → r ≡ termFrom s p → r ≡ readTerm s i
     unfolding readTerm
     term-found h p q r e = e ∙ sym (simp (le-ltb 4096 (length s) short, le-ltb (length s) i h, q))
-
-  pub space-inside : i ≤ length s → (p : ℕ) → p ≡ runEnd (isIn Space) s i → p ≤ length s
-  space-inside h p q = let l = run-end-inside (isIn Space) s i h in omega (arith, q)
 
 -- the next place of a term lies further on and inside
 term-next : (s : List ℕ) (i : ℕ) (r : TermAnswer) → r ≡ readTerm s i → (p e : ℕ) (t : Term) → r ≡ TermAnswer.Is p e t → (i < e) × (e ≤ length s)
@@ -168,23 +164,12 @@ module _ (r e : Bool) (t : Term) (a : Bool) (p : a ≡ isRedirect t) (x : Bool) 
   pub repeats-explanation : x ≡ false → (b : Bool) → b ≡ isExplanation t → (y : Bool) → y ≡ (e && b) → y ≡ ((r && isRedirect t) || (e && isExplanation t))
   repeats-explanation h b f y g = g ∙ ap (λ (z : Bool). e && z) f ∙ sym (simp (ap (λ (b : Bool). r && b) (sym p) ∙ sym q ∙ h))
 
--- `ended`
-pub ended-by : (a x : TermAnswer) (r : RecordAnswer) → a ≡ x → r ≡ endedOf x → r ≡ endedOf a
-ended-by a x r e h = h ∙ ap endedOf (sym e)
-
 -- `check_terms`
-ended-after : (r e : Bool) (rest : ℕ → Bool → Bool → RecordAnswer) (a : TermAnswer) → OneOf (1 ∷ 2 ∷ []) (tagOf (declared answer-type.enum) a) → endedOf a ≡ checkAfter r e a rest
-unfolding endedOf checkAfter
-ended-after r e rest (TermAnswer.Is p n t) h = absurd (miss (1 ∷ 2 ∷ []) 0 tt h)
-ended-after r e rest TermAnswer.End h = refl
-ended-after r e rest (TermAnswer.Refused n p) h = refl
-
 module _ (s : List ℕ) (i : ℕ) (r e : Bool) (inside : i ≤ length s) (a : TermAnswer) (p : a ≡ readTerm s i) where
-  check-ended : OneOf (1 ∷ 2 ∷ []) (tagOf (declared answer-type.enum) a) → (x : RecordAnswer) → x ≡ endedOf a
-      → (f : ℕ) → length s < f + i → x ≡ checkFrom f s i r e
+  check-ended : (x : RecordAnswer) → ((rest : ℕ → Bool → Bool → RecordAnswer) → x ≡ checkAfter r e a rest) → (f : ℕ) → length s < f + i → x ≡ checkFrom f s i r e
   unfolding checkFrom
-  check-ended h x g zero l = absurd (omega arith)
-  check-ended h x g (suc f) l = g ∙ ended-after r e (checkFrom f s) a h ∙ ap (λ (y : TermAnswer). checkAfter r e y (checkFrom f s)) p
+  check-ended x g zero l = absurd (omega arith)
+  check-ended x g (suc f) l = g (checkFrom f s) ∙ ap (λ (y : TermAnswer). checkAfter r e y (checkFrom f s)) p
 
   module _ (at n : ℕ) (t : Term) (q : a ≡ TermAnswer.Is at n t) (x : Bool) (g : x ≡ ((r && isRedirect t) || (e && isExplanation t))) where
     read : readTerm s i ≡ TermAnswer.Is at n t
@@ -217,9 +202,9 @@ module _ (s : List ℕ) (i₀ i : ℕ) (r e : Bool) (w : Checking s i₀ i r e) 
   checking-past h = absurd (omega (arith, w .inside))
 
   module _ (a : TermAnswer) (p : a ≡ readTerm s i) where
-    pub checking-ended : OneOf (1 ∷ 2 ∷ []) (tagOf (declared answer-type.enum) a) → (x : RecordAnswer) → x ≡ endedOf a
+    pub checking-ended : (x : RecordAnswer) → ((rest : ℕ → Bool → Bool → RecordAnswer) → x ≡ checkAfter r e a rest)
         → (f : ℕ) → length s < f + i₀ → x ≡ checkFrom f s i₀ false false
-    checking-ended h x g = w .rest x (check-ended s i r e (w .inside) a p h x g)
+    checking-ended x g = w .rest x (check-ended s i r e (w .inside) a p x g)
 
     module _ (at n : ℕ) (t : Term) (q : a ≡ TermAnswer.Is at n t) where
       pub checking-less : length s + 1 - n < length s + 1 - i

@@ -91,6 +91,9 @@ pub cut-inside : (t : List ℕ) → cutOf t ≤ length t
 unfolding cutOf
 cut-inside t = run-end-inside (isIn Digit) t (trailingStart (isIn LengthByte) t) (trailing-le (isIn LengthByte) t)
 
+pub cut-after : (w : List ℕ) (k : ℕ) → k ≤ length w → k + cutOf (part w k (length w)) ≤ length w
+cut-after w k h = omega (arith, cut-inside (part w k (length w)), ap length (rest-part w k), length-drop k w)
+
 -- the ways out of the lengths, and of both together
 pub dual-elim {κ} : {A : Type 0} (P : A → Type κ) (x : Dual) (f : ℕ → ℕ → A) (z : A)
     → ((n m : ℕ) → x ≡ Dual.Both n m → P (f n m)) → (x ≡ Dual.NoLengths → P z) → P (afterDual x f z)
@@ -136,9 +139,7 @@ module _ (w : List ℕ) (k cut : ℕ) (after : k ≤ cut) (inside : cut ≤ leng
 
 pub hosts-sound : (w : List ℕ) (k : ℕ) → k ≤ length w → HostsRight w k (hostsAt w k)
 unfolding hostsAt
-hosts-sound w k h =
-    hosts-cut-sound w k (k + cutOf (part w k (length w))) (omega arith)
-    (omega (arith, cut-inside (part w k (length w)), ap length (rest-part w k), length-drop k w))
+hosts-sound w k h = hosts-cut-sound w k (k + cutOf (part w k (length w))) (omega arith) (cut-after w k h)
 
 pub hosts-right : (w : List ℕ) (k : ℕ) → k ≤ length w → {x : Hosts} → hostsAt w k ≡ x → HostsRight w k x
 hosts-right w k h e = subst (HostsRight w k) e (hosts-sound w k h)

@@ -149,7 +149,7 @@ pub record NetworkRead (token : Token) (sign : ℕ) (w t : List ℕ) (x : Addres
   pub read : token ≡ Token.Is (Term.Network sign from to x n)
   pub says : part w from to ≡ t
 
-slash-stops : isIn NotSlash 47 ≡ false
+pub slash-stops : isIn NotSlash 47 ≡ false
 unfolding isIn isNotSlash
 slash-stops = refl
 

@@ -1,13 +1,14 @@
 -- The ways out of the functions that read one term: a rule for each way, whose premises are what the code knows there. From the definitions of
 -- Reader and the laws of runs.
-use Prim.Native.Nat.{ℕ, _+_, _-_, _≤_, _<_, _^_}
-use mathlib.Core.Path.{_≡_, sym, ap, _∙_}
+use Prim.Native.Nat.{ℕ, _+_, _≤_, _<_, _^_}
+use mathlib.Core.Path.{_≡_, refl, sym, ap, _∙_}
 use mathlib.Core.List.{List}
-use mathlib.Core.Bool.{Bool, true, false, cond}
+use mathlib.Core.Bool.{Bool, true, false, cond, _&&_}
 use native.Mathlib.Omega.{arith}
-use lib.ListN.{length, length-drop}
+use lib.ListN.{length}
 use lib.Dec.{eqb}
-use borrow.Author.Tests.{eq-eqb, ne-eqb}
+use borrow.Author.Tests.{eq-eqb, ne-eqb, eqb-true}
+use Rattle.text.proofs.Laws.Tests.{and-left, and-right}
 use Rattle.address.specs.declared.Address.{Address}
 use Rattle.text.specs.Bytes.{at, part, isAlpha}
 use Rattle.text.specs.Lists.{sameWord}
@@ -15,10 +16,9 @@ use Rattle.text.specs.Texts.{bytes}
 use Rattle.text.specs.Runs.{isIn, runEnd, trailingStart}
 use Rattle.text.specs.declared.bytes.Class.the-variants.{NotSlash, Alpha, Digit, LengthByte, NameByte}
 use Rattle.text.proofs.Laws.Classes.{nonzero-inside, class-inside}
-use Rattle.text.proofs.Laws.Runs.{run-end-inside}
-use Rattle.text.proofs.Laws.Spans.{rest-part}
+use Rattle.text.proofs.Laws.Runs.{run-end-from, run-end-inside}
 use Rattle.records.proofs.Laws.Names.{qualifier-zero}
-use Rattle.records.proofs.Laws.Hosts.{cut-inside}
+use Rattle.records.proofs.Laws.Hosts.{cut-after}
 use Rattle.macros.specs.declared.Form.the-variants.{DomainSpec, ModifierValue}
 use Rattle.macros.specs.Reader.{isMacroString}
 use Rattle.networks.specs.Reader.{readDual}
@@ -31,18 +31,22 @@ use Rattle.records.specs.declared.Token.{Token}
 use Rattle.records.specs.declared.terms.Kind.{Kind}
 use Rattle.records.specs.declared.terms.Spec.{Spec}
 use Rattle.records.specs.declared.terms.Hosts.{Hosts}
-use Rattle.records.specs.Reader.{kindOf, specAt, cutOf, hostsCut, hostsAt, networkTerm, networkCut, networkBy, mechanismBy, mechanismOf, modifierOf, tokenOf}
+use Rattle.records.specs.Reader.{kindOf, specAt, cutOf, hostsCut, hostsAt, networkTerm, networkCut, networkBy, mechanismBy, mechanismOf, modifierOf, signBy, nameBy, tokenOf}
 
--- what stands before a colon lies inside
-pub colon-room : (w : List ℕ) (k b : ℕ) → b ≡ at w k → b ≡ 58 → length w < 2 ^ 64 → k + 1 < 2 ^ 64
-colon-room w k b p q h = let i = nonzero-inside w k (omega arith) in omega arith
+-- the end of a run that the code has found
+module _ (p : ℕ → Bool) (w : List ℕ) (i e : ℕ) (q : e ≡ runEnd p w i) where
+  pub end-after : i ≤ e
+  end-after = omega (arith, run-end-from p w i, q)
+
+  pub end-inside : i ≤ length w → e ≤ length w
+  end-inside h = omega (arith, run-end-inside p w i h, q)
 
 -- `read_spec`
 module _ (w : List ℕ) (k to : ℕ) (some : k ≡ to → ⊥) (b : ℕ) (p : b ≡ at w k) (colon : b ≡ 58) where
-  module _ (t : List ℕ) (q : t ≡ part w (k + 1) to) (m : Bool) (e : m ≡ isMacroString DomainSpec t) where
+  module _ (m : Bool) (e : m ≡ isMacroString DomainSpec (part w (k + 1) to)) where
     spec : specAt w k to ≡ cond m (Spec.From (k + 1)) Spec.Bad
     unfolding specAt
-    spec = simp (ne-eqb k to some, eq-eqb (at w k) 58 (sym p ∙ colon), ap (isMacroString DomainSpec) (sym q) ∙ sym e)
+    spec = simp (ne-eqb k to some, eq-eqb (at w k) 58 (sym p ∙ colon), sym e)
 
     pub spec-from : m ≡ true → Spec.From (k + 1) ≡ specAt w k to
     spec-from h = sym (spec ∙ simp h)
@@ -56,38 +60,35 @@ unfolding cutOf
 cut-found t i r p q = q ∙ ap (runEnd (isIn Digit) t) p
 
 -- `read_hosts_cut`
-module _ (w : List ℕ) (k cut : ℕ) (t : List ℕ) (p : t ≡ part w cut (length w)) (d : Dual) (q : d ≡ readDual t) where
-  lengths : readDual (part w cut (length w)) ≡ d
-  lengths = ap readDual (sym p) ∙ sym q
-
+module _ (w : List ℕ) (k cut : ℕ) (d : Dual) (q : d ≡ readDual (part w cut (length w))) where
   pub hosts-no-lengths : d ≡ Dual.NoLengths → Hosts.Bad ≡ hostsCut w k cut
   unfolding hostsCut
-  hosts-no-lengths h = sym (simp (lengths ∙ h))
+  hosts-no-lengths h = sym (simp (sym q ∙ h))
 
   module _ (n m : ℕ) (h : d ≡ Dual.Both n m) (s : Spec) (e : s ≡ specAt w k cut) where
     pub hosts-from : (from : ℕ) → s ≡ Spec.From from → Hosts.Of from cut n m ≡ hostsCut w k cut
     unfolding hostsCut
-    hosts-from from g = sym (simp (lengths ∙ h, sym e ∙ g))
+    hosts-from from g = sym (simp (sym q ∙ h, sym e ∙ g))
 
     pub hosts-absent : s ≡ Spec.Absent → Hosts.Of cut cut n m ≡ hostsCut w k cut
     unfolding hostsCut
-    hosts-absent g = sym (simp (lengths ∙ h, sym e ∙ g))
+    hosts-absent g = sym (simp (sym q ∙ h, sym e ∙ g))
 
     pub hosts-bad : s ≡ Spec.Bad → Hosts.Bad ≡ hostsCut w k cut
     unfolding hostsCut
-    hosts-bad g = sym (simp (lengths ∙ h, sym e ∙ g))
+    hosts-bad g = sym (simp (sym q ∙ h, sym e ∙ g))
 
 -- `read_hosts`
-module _ (w : List ℕ) (k : ℕ) (t : List ℕ) (p : t ≡ part w k (length w)) (n : ℕ) (q : n ≡ cutOf t) where
+module _ (w : List ℕ) (k n : ℕ) (q : n ≡ cutOf (part w k (length w))) where
+  pub hosts-inside : k ≤ length w → k + n ≤ length w
+  hosts-inside h = omega (arith, cut-after w k h, q)
+
   pub hosts-room : k ≤ length w → length w < 2 ^ 64 → k + n < 2 ^ 64
-  hosts-room h g =
-      let l : length t ≡ length w - k = ap length (p ∙ rest-part w k) ∙ length-drop k w in
-      let c = cut-inside t in
-      omega (arith, q)
+  hosts-room h g = omega (arith, hosts-inside h)
 
   pub hosts-found : (r : Hosts) → r ≡ hostsCut w k (k + n) → r ≡ hostsAt w k
   unfolding hostsAt
-  hosts-found r e = e ∙ ap (λ (i : ℕ). hostsCut w k (k + i)) (q ∙ ap cutOf p)
+  hosts-found r e = e ∙ ap (λ (i : ℕ). hostsCut w k (k + i)) q
 
 -- `network_term`
 module _ (sign from to : ℕ) (network : Network) (size : Length) where
@@ -104,28 +105,27 @@ module _ (sign from to : ℕ) (network : Network) (size : Length) where
     unfolding networkTerm
     network-is n e = sym (simp (h, e))
 
--- `read_ip4`, `read_ip6`
+-- `read_ip4`, `read_ip6`: after a colon lies inside, and so does the first slash from there on
+module _ (w : List ℕ) (k b : ℕ) (p : b ≡ at w k) (colon : b ≡ 58) where
+  pub after-colon : k + 1 ≤ length w
+  after-colon = omega (arith, nonzero-inside w k (omega arith))
+
+  pub colon-room : length w < 2 ^ 64 → k + 1 < 2 ^ 64
+  colon-room h = omega (arith, after-colon)
+
+  pub slash-inside : (slash : ℕ) → slash ≡ runEnd (isIn NotSlash) w (k + 1) → slash ≤ length w
+  slash-inside slash q = end-inside (isIn NotSlash) w (k + 1) slash q after-colon
+
 pub network-found : (read : List ℕ → Network) (size : List ℕ → Length) (sign k : ℕ) (w : List ℕ) (b : ℕ) → b ≡ at w k → b ≡ 58
-    → (slash : ℕ) → slash ≡ runEnd (isIn NotSlash) w (k + 1) → (t : List ℕ) → t ≡ part w (k + 1) slash → (x : Network) → x ≡ read t
-    → (u : List ℕ) → u ≡ part w slash (length w) → (n : Length) → n ≡ size u
+    → (slash : ℕ) → slash ≡ runEnd (isIn NotSlash) w (k + 1) → (x : Network) → x ≡ read (part w (k + 1) slash)
+    → (n : Length) → n ≡ size (part w slash (length w))
     → (r : Token) → r ≡ networkTerm sign (k + 1) slash x n → r ≡ networkBy read size sign k w
 unfolding networkBy networkCut
-network-found read size sign k w b p colon slash q t et x ex u eu n en r e =
-    e ∙ simp (eq-eqb (at w k) 58 (sym p ∙ colon), ex, et, en, eu, q)
+network-found read size sign k w b p colon slash q x ex n en r e = e ∙ simp (eq-eqb (at w k) 58 (sym p ∙ colon), ex, en, q)
 
 -- `read_mechanism_by`
 pub by-kind : (kind x : Kind) (sign k : ℕ) (w : List ℕ) (r : Token) → kind ≡ x → r ≡ mechanismBy x sign k w → r ≡ mechanismBy kind sign k w
 by-kind kind x sign k w r e h = h ∙ ap (λ (y : Kind). mechanismBy y sign k w) (sym e)
-
--- `read_mechanism`
-module _ (i : ℕ) (w : List ℕ) (k : ℕ) (p : k ≡ runEnd (isIn NameByte) w i) where
-  pub name-inside : i ≤ length w → k ≤ length w
-  name-inside h = let l = run-end-inside (isIn NameByte) w i h in omega (arith, p)
-
-  pub mechanism-found : (sign : ℕ) (name : List ℕ) → name ≡ part w i k → (kind : Kind) → kind ≡ kindOf name
-      → (r : Token) → r ≡ mechanismBy kind sign k w → r ≡ mechanismOf sign i w
-  unfolding mechanismOf
-  mechanism-found sign name q kind e r h = h ∙ simp (e, q, p)
 
 -- `read_modifier`
 module _ (k : ℕ) (w : List ℕ) (b : ℕ) (p : b ≡ at w 0) (a : Bool) (q : a ≡ isIn Alpha b) where
@@ -179,28 +179,65 @@ module _ (k : ℕ) (w : List ℕ) (b : ℕ) (p : b ≡ at w 0) (a : Bool) (q : a
           unfolding modifierOf
           modifier-no-value c d = sym (simp (alpha ∙ h, redirect ∙ f, exp ∙ c, value ∙ d))
 
+-- `is_modifier`
+pub and-eq : (m n : ℕ) (u z : Bool) → m ≡ n → z ≡ u → z ≡ (eqb m n && u)
+and-eq m n u z p h = h ∙ ap (λ (b : Bool). b && u) (sym (eq-eqb m n p))
+
+pub and-ne : (m n : ℕ) (u : Bool) → (m ≡ n → ⊥) → false ≡ (eqb m n && u)
+and-ne m n u p = ap (λ (b : Bool). b && u) (sym (ne-eqb m n p))
+
 -- `read_token`
-module _ (w : List ℕ) (a : ℕ) (p : a ≡ at w 0) (x : Bool) (q : x ≡ isQualifier a) where
-  signed : isQualifier (at w 0) ≡ x
-  signed = ap isQualifier (sym p) ∙ sym q
+module _ (w : List ℕ) (a : ℕ) (p : a ≡ at w 0) (i : ℕ) (ei : i ≡ nameBy a) where
+  start : (t : Bool) → isQualifier (at w 0) ≡ t → i ≡ cond t 1 0
+  unfolding nameBy
+  start t e = ei ∙ ap (λ (z : Bool). cond z 1 0) (ap isQualifier p ∙ e)
 
-  pub sign-inside : x ≡ true → 1 ≤ length w
-  sign-inside h = class-inside isQualifier qualifier-zero w 0 (signed ∙ h)
+  start-inside : i ≤ length w
+  start-inside = by (isQualifier (at w 0)) refl
+    where
+      by : (t : Bool) → isQualifier (at w 0) ≡ t → i ≤ length w
+      by true e = let f : i ≡ 1 = start true e in let l = class-inside isQualifier qualifier-zero w 0 e in omega arith
+      by false e = let f : i ≡ 0 = start false e in omega arith
 
-  pub token-signed : x ≡ true → (r : Token) → r ≡ mechanismOf a 1 w → r ≡ tokenOf w
-  unfolding tokenOf
-  token-signed h r e = e ∙ sym (simp (signed ∙ h, p))
+  module _ (k : ℕ) (ek : k ≡ runEnd (isIn NameByte) w i) where
+    pub name-inside : k ≤ length w
+    name-inside = end-inside (isIn NameByte) w i k ek start-inside
 
-  module _ (h : x ≡ false) (k : ℕ) (e : k ≡ runEnd (isIn NameByte) w 0) (b : ℕ) (g : b ≡ at w k) where
-    after : tokenOf w ≡ cond (eqb b 61) (modifierOf k w) (mechanismOf 43 0 w)
-    unfolding tokenOf
-    after = simp (signed ∙ h, g, e)
+    module _ (b : ℕ) (g : b ≡ at w k) (x : Bool) (q : x ≡ (eqb i 0 && eqb b 61)) where
+      pub equals-inside : x ≡ true → k < length w
+      equals-inside h = let f = eqb-true b 61 (and-right (eqb i 0) (eqb b 61) (sym q ∙ h)) in nonzero-inside w k (omega arith)
 
-    pub token-modifier : b ≡ 61 → (r : Token) → r ≡ modifierOf k w → r ≡ tokenOf w
-    token-modifier f r c = c ∙ sym (after ∙ simp (eq-eqb b 61 f))
+      pub token-modifier : x ≡ true → (r : Token) → r ≡ modifierOf k w → r ≡ tokenOf w
+      unfolding tokenOf
+      token-modifier h r c = by (isQualifier (at w 0)) refl
+        where
+          zero : i ≡ 0
+          zero = eqb-true i 0 (and-left (eqb i 0) (eqb b 61) (sym q ∙ h))
 
-    pub token-unsigned : (b ≡ 61 → ⊥) → (r : Token) → r ≡ mechanismOf 43 0 w → r ≡ tokenOf w
-    token-unsigned f r c = c ∙ sym (after ∙ simp (ne-eqb b 61 f))
+          by : (t : Bool) → isQualifier (at w 0) ≡ t → r ≡ tokenOf w
+          by true e = let f : i ≡ 1 = start true e in absurd (omega (arith, zero))
+          by false e =
+              let n : k ≡ runEnd (isIn NameByte) w 0 = ek ∙ ap (runEnd (isIn NameByte) w) zero in
+              let d = and-right (eqb i 0) (eqb b 61) (sym q ∙ h) in
+              c ∙ sym (simp (e, sym n, sym g, d))
 
-pub equals-inside : (w : List ℕ) (k b : ℕ) → b ≡ at w k → b ≡ 61 → k < length w
-equals-inside w k b p q = nonzero-inside w k (omega arith)
+      pub token-mechanism : x ≡ false → (kind : Kind) → kind ≡ kindOf (part w i k) → (sign : ℕ) → sign ≡ signBy a
+          → (r : Token) → r ≡ mechanismBy kind sign k w → r ≡ tokenOf w
+      unfolding tokenOf mechanismOf signBy
+      token-mechanism h kind et sign es r c = by (isQualifier (at w 0)) refl
+        where
+          by : (t : Bool) → isQualifier (at w 0) ≡ t → r ≡ tokenOf w
+          by true e =
+              let n : k ≡ runEnd (isIn NameByte) w 1 = ek ∙ ap (runEnd (isIn NameByte) w) (start true e) in
+              let m : kind ≡ kindOf (part w 1 k) = et ∙ ap (λ (j : ℕ). kindOf (part w j k)) (start true e) in
+              let s : sign ≡ at w 0 = es ∙ simp (p, e) in
+              let t : tokenOf w ≡ mechanismOf (at w 0) 1 w = simp e in
+              let u : mechanismOf (at w 0) 1 w ≡ mechanismBy kind sign k w = simp (sym n, sym m, sym s) in
+              c ∙ sym (t ∙ u)
+          by false e =
+              let z : i ≡ 0 = start false e in
+              let n : k ≡ runEnd (isIn NameByte) w 0 = ek ∙ ap (runEnd (isIn NameByte) w) z in
+              let m : kind ≡ kindOf (part w 0 k) = et ∙ ap (λ (j : ℕ). kindOf (part w j k)) z in
+              let s : sign ≡ 43 = es ∙ simp (p, e) in
+              let d : eqb b 61 ≡ false = ap (λ (t : Bool). t && eqb b 61) (sym (eq-eqb i 0 z)) ∙ sym q ∙ h in
+              c ∙ sym (simp (e, sym n, sym g, d, sym m, sym s))

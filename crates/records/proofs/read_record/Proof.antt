@@ -1,24 +1,22 @@
--- `records::read_record` meets its contract. From the laws of Checking.
-use Rattle.records.proofs.Laws.Checking.{record-checked, record-long, record-other, version-read, record-answered}
+-- `records::read_record` meets its contract. From what reading the record for any client answers.
+use Rattle.records.proofs.Laws.Checking.{record-answered}
+use Rattle.records.proofs.Laws.Openings.{read-by}
 use borrow.Author.Needs.{needs}
 use Rattle.records.proofs.read_record.Statement.{statement}
 use Rattle.records.proofs.read_record.Tie as tie
+use Rattle.records.proofs.read_record.Reads as reads
+use Rattle.records.proofs.read_record.Lts as lts
+use Rattle.records.proofs.answer_of.Reads as answer-of-reads
+use Rattle.records.proofs.opening.open_record.Reads as open-record-reads
+
+open-record-requires : tie.Need-open-record-requires
+open-record-requires c κs = search needs
+
+answer-of-requires : tie.Need-answer-of-requires
+answer-of-requires c κs = search needs
 
 returns : tie.Need-returns
-returns c = record-answered _ _ (search record-long)
-
-has-version-requires : tie.Need-has-version-requires
-has-version-requires c κs = search needs
-
-check-terms-requires : tie.Need-check-terms-requires
-check-terms-requires c κs = search version-read
-
-returns-2 : tie.Need-returns-2
-returns-2 c = record-answered _ _ (search record-checked)
-
-returns-3 : tie.Need-returns-3
-returns-3 c = record-answered _ _ (search record-other)
+returns c = record-answered _ _ (search read-by)
 
 pub read-record-spec : {M : Type 1} → statement M
-read-record-spec =
-    tie.close (tie.spec returns has-version-requires check-terms-requires returns-2 returns-3)
+read-record-spec = tie.close (tie.spec open-record-requires answer-of-requires returns)

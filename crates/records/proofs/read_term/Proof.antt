@@ -1,5 +1,6 @@
--- `records::read_term` meets its contract. From the laws of Checking.
-use Rattle.records.proofs.Laws.Checking.{space-inside, term-found, term-long, term-past, term-answered}
+-- `records::read_term` meets its contract. From the laws of Checking and Reading.
+use Rattle.records.proofs.Laws.Reading.{end-inside}
+use Rattle.records.proofs.Laws.Checking.{term-found, term-long, term-past, term-answered}
 use borrow.Author.Needs.{needs}
 use Rattle.records.proofs.read_term.Statement.{statement}
 use Rattle.records.proofs.read_term.Tie as tie
@@ -14,7 +15,7 @@ run-end-requires : tie.Need-run-end-requires
 run-end-requires c κs = search needs
 
 term-from-requires : tie.Need-term-from-requires
-term-from-requires c κs = search space-inside
+term-from-requires c κs = search end-inside
 
 returns-3 : tie.Need-returns-3
 returns-3 c = term-answered _ _ _ (search term-found)

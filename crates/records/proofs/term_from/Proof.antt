@@ -1,4 +1,5 @@
--- `records::term_from` meets its contract. From the laws of Checking.
+-- `records::term_from` meets its contract. From the laws of Checking and Reading.
+use Rattle.records.proofs.Laws.Reading.{end-after, end-inside}
 use Rattle.records.proofs.Laws.Checking.{from-end, from-bad, from-term}
 use native.Mathlib.Omega.{arith}
 use denote.Ref.{now}
@@ -12,8 +13,14 @@ returns c = let a = c .before .before .args in from-end (now (a .s)) (a .at) (om
 run-end-requires : tie.Need-run-end-requires
 run-end-requires c κs = search needs
 
-part-requires : tie.Need-part-requires
-part-requires c κs = search needs
+sub-read-token : tie.Need-sub-read-token
+sub-read-token c = search end-after
+
+part-read-token-start : tie.Need-part-read-token-start
+part-read-token-start c = search end-after
+
+part-read-token-end : tie.Need-part-read-token-end
+part-read-token-end c = search end-inside
 
 read-token-requires : tie.Need-read-token-requires
 read-token-requires c κs = search needs
@@ -36,7 +43,9 @@ term-from-spec =
     (tie.spec
     returns
     run-end-requires
-    part-requires
+    sub-read-token
+    part-read-token-start
+    part-read-token-end
     read-token-requires
     enum-known-term
     enum-told

@@ -67,10 +67,19 @@ signed (Mechanism.ip4 l n d) = refl
 signed (Mechanism.ip6 l n d) = refl
 signed (Mechanism.exists l d) = refl
 
--- the argument of a redirect or an exp ends where the term ends
+-- an `=` within a text
+abbrev pub Equals : List ℕ → Type 0
+Equals w = (k : ℕ) × (k < length w) × (at w k ≡ 61)
+
+-- the argument of a redirect or an exp ends where the term ends, and an `=` stands in the term
+pub record Ended (w : List ℕ) (from to : ℕ) : Type 0 where
+  pub order : from ≤ to
+  pub last : to ≡ length w
+  pub equals : Equals w
+
 abbrev pub Ends : List ℕ → Term → Type 0
-Ends w (Term.Redirect from to) = (from ≤ to) × (to ≡ length w)
-Ends w (Term.Explanation from to) = (from ≤ to) × (to ≡ length w)
+Ends w (Term.Redirect from to) = Ended w from to
+Ends w (Term.Explanation from to) = Ended w from to
 Ends w (Term.All sign) = Unit {0}
 Ends w (Term.Include sign from to) = Unit {0}
 Ends w (Term.A sign from to n m) = Unit {0}
@@ -80,7 +89,7 @@ Ends w (Term.Network sign from to x n) = Unit {0}
 Ends w (Term.Exists sign from to) = Unit {0}
 Ends w (Term.Unknown name to) = Unit {0}
 
-abbrev EndsRight : List ℕ → Token → Type 0
+abbrev pub EndsRight : List ℕ → Token → Type 0
 EndsRight w (Token.Is t) = Ends w t
 EndsRight w Token.Outside = Unit {0}
 
@@ -98,13 +107,15 @@ mechanism-ends w i sign (Token.Is (Term.Exists s from to)) m = tt
 mechanism-ends w i sign (Token.Is (Term.Unknown name to)) m = tt
 mechanism-ends w i sign Token.Outside m = tt
 
-modifier-ends : (w : List ℕ) (k : ℕ) → k < length w → EndsRight w (modifierOf k w)
-modifier-ends w k h = modifier-elim k w (EndsRight w) (λ _ _. (omega arith, refl)) (λ _ _. (omega arith, refl)) (λ _ _ _. tt) tt
+modifier-ends : (w : List ℕ) (k : ℕ) → k < length w → at w k ≡ 61 → EndsRight w (modifierOf k w)
+modifier-ends w k h e =
+    let f : Ended w (k + 1) (length w) = record { order = omega arith; last = refl; equals = (k, h, e) } in
+    modifier-elim k w (EndsRight w) (λ _ _. f) (λ _ _. f) (λ _ _ _. tt) tt
 
-token-ends : (w : List ℕ) → EndsRight w (tokenOf w)
+pub token-ends : (w : List ℕ) → EndsRight w (tokenOf w)
 token-ends w = token-elim w (EndsRight w)
     (λ _ i. mechanism-ends w 1 (at w 0) (mechanismOf (at w 0) 1 w) (mechanism-sound (at w 0) 1 w i))
-    (λ q. modifier-ends w (runEnd (isIn NameByte) w 0) (nonzero-inside w (runEnd (isIn NameByte) w 0) (λ z. omega (arith, q, z))))
+    (λ q. modifier-ends w (runEnd (isIn NameByte) w 0) (nonzero-inside w (runEnd (isIn NameByte) w 0) (λ z. omega (arith, q, z))) q)
     (mechanism-ends w 0 43 (mechanismOf 43 0 w) (mechanism-sound 43 0 w (omega arith)))
 
 -- where such an argument stands in the record
@@ -113,13 +124,13 @@ pub record Argument (s : List ℕ) (p e from to : ℕ) : Type 0 where
   pub inside : p + to ≤ length s
   pub text : part s (p + from) (p + to) ≡ part (part s p e) from to
 
-argument-of : (s : List ℕ) (i p e : ℕ) (t : Term) → Stands s i p e t → (from to : ℕ) → (from ≤ to) × (to ≡ length (part s p e)) → Argument s p e from to
+argument-of : (s : List ℕ) (i p e : ℕ) (t : Term) → Stands s i p e t → (from to : ℕ) → Ended (part s p e) from to → Argument s p e from to
 argument-of s i p e t k from to n =
-    let l : to ≡ e - p = n .1 ∙ k .size in
+    let l : to ≡ e - p = n .last ∙ k .size in
     record {
-      order = n .0;
+      order = n .order;
       inside = omega (arith, l, k .some, k .inside);
-      text = sym (part-inside s p e from to (omega (arith, n .1)));
+      text = sym (part-inside s p e from to (omega (arith, n .last)));
     }
 
 module _ (s : List ℕ) (i p e from to : ℕ) where

@@ -10,7 +10,7 @@ use lib.Seq.{drop-append-seam}
 use lib.Dec.{eqb}
 use borrow.Author.Tests.{eqb-true, eq-eqb, not-true}
 use Rattle.text.specs.Lists.{same}
-use Rattle.text.proofs.Laws.Tests.{and-left, and-right, and-both, or-false-left, or-false-right, or-false-both}
+use Rattle.text.proofs.Laws.Tests.{and-left, and-right, and-both, or-elim, or-false-left, or-false-right, or-false-both, true-false}
 use Rattle.text.proofs.Laws.Words.{same-true, true-same}
 use Rattle.table.specs.Layout.{Entry, Encodes, Entries, none, more, isPair, holds, distinct}
 use Rattle.table.specs.Reader.{headerOf, entryOf, entriesAfter, entriesFrom, entriesOf}
@@ -62,6 +62,22 @@ holds-append kind name [] fs = refl
 holds-append kind name (e ∷ es) fs =
     ap (λ (b : Bool). isPair kind name e || b) (holds-append kind name es fs) ∙ sym (or-assoc (isPair kind name e) (holds kind name es) (holds kind name fs))
 
+-- a pair among entries and one more
+pub holds-snoc : {P : Type 0} (kind : ℕ) (name : List ℕ) (es : List Entry) (e : Entry) → holds kind name (es ++ (e ∷ [])) ≡ true
+    → (holds kind name es ≡ true → P) → (isPair kind name e ≡ true → P) → P
+unfolding holds
+holds-snoc kind name es e h f g =
+    or-elim (holds kind name es) (isPair kind name e || false) (sym (holds-append kind name es (e ∷ [])) ∙ h) f
+    (λ l. or-elim (isPair kind name e) false l g (λ n. absurd (true-false false n refl)))
+
+-- an entry is of one pair only
+pub pair-is : (kind : ℕ) (name : List ℕ) (e : Entry) → isPair kind name e ≡ true → (e .kind ≡ kind) × (e .name ≡ name)
+unfolding isPair
+pair-is kind name e h =
+    let k = eqb (e .kind) kind in
+    let n = same (e .name) name in
+    (eqb-true (e .kind) kind (and-left k n h), same-true (e .name) name (and-right k n h))
+
 -- two entries of different pairs, either way round
 pub pair-apart : (d e : Entry) → isPair (d .kind) (d .name) e ≡ false → isPair (e .kind) (e .name) d ≡ false
 unfolding isPair
@@ -70,9 +86,8 @@ pair-apart d e h = by (isPair (e .kind) (e .name) d) refl
     by : (t : Bool) → isPair (e .kind) (e .name) d ≡ t → t ≡ false
     by false q = refl
     by true q =
-        let k = eqb-true (d .kind) (e .kind) (and-left (eqb (d .kind) (e .kind)) (same (d .name) (e .name)) q) in
-        let n = same-true (d .name) (e .name) (and-right (eqb (d .kind) (e .kind)) (same (d .name) (e .name)) q) in
-        let y = and-both (eqb (e .kind) (d .kind)) (same (e .name) (d .name)) (eq-eqb (e .kind) (d .kind) (sym k)) (true-same (e .name) (d .name) (sym n)) in
+        let p = pair-is (e .kind) (e .name) d q in
+        let y = and-both (eqb (e .kind) (d .kind)) (same (e .name) (d .name)) (eq-eqb (e .kind) (d .kind) (sym (p .0))) (true-same (e .name) (d .name) (sym (p .1))) in
         sym y ∙ h
 
 -- a list without a repeated pair, and one more whose pair isn't in it

@@ -1,30 +1,32 @@
 -- One rule for each way out of `find`, `found_items`, `step_at` and `check_table`: its premises are what the code knows there. From the
--- definitions of the reader, header-facts (Encoding), `finds` and `table-answers`.
+-- definitions of the reader, header-facts (Encoding), `finds`, `table-answers` and what the marks say (Covering).
 use Prim.Native.Nat.{ℕ, zero, suc, _+_, _-_, _*_, _^_, _≤_, _<_}
 use mathlib.Core.Path.{_≡_, refl, sym, ap, _∙_}
 use mathlib.Core.List.{List, []}
 use mathlib.Core.Bool.{Bool, true, false, cond, _&&_}
 use native.Mathlib.Omega.{arith}
 use lib.ListN.{length, take, drop, length-drop, drop-of-length-le}
-use lib.Dec.{eqb}
+use lib.Dec.{ltb, eqb}
 use mir.Syntax.{w64}
 use mir.Val.{Fits}
-use borrow.Author.Tests.{le-leb, lt-leb, le-ltb, lt-ltb}
+use borrow.Author.Tests.{ltb-true, le-leb, lt-leb, le-ltb, lt-ltb}
 use Rattle.text.specs.Lists.{same}
 use Rattle.text.proofs.Laws.Spans.{rest-part}
 use Rattle.table.specs.Numbers.{reported}
 use Rattle.table.specs.Answers.{TableAnswers}
 use Rattle.table.specs.Lookup.{lookup, Finds}
-use Rattle.table.specs.Reader.{headerOf, isWell, nameOf, entriesOf, findAfter, findFrom, findAt, isFound, foundItems, stepAfter, stepAt, checkFrom, checkTable}
+use Rattle.table.specs.Marks.{NotesPair, Covered}
+use Rattle.table.specs.Reader.{headerOf, isWell, nameOf, entryOf, entriesOf, findAfter, findFrom, findAt, isFound, foundItems, stepAfter, stepAt, checkFrom, checkTable}
 use Rattle.table.specs.declared.entries.Header.{Header}
 use Rattle.table.specs.declared.entries.Header.the-variants.{Whole, Broken}
 use Rattle.table.specs.declared.Found.{Found}
 use Rattle.table.specs.declared.Step.{Step}
 use Rattle.table.specs.declared.TableAnswer.{TableAnswer}
 use Rattle.table.specs.declared.TableAnswer.the-variants.{Accepted, TooLong, Malformed, Repeated}
-use Rattle.table.proofs.Laws.Encoding.{header-facts}
+use Rattle.table.proofs.Laws.Encoding.{header-facts, well-sound}
 use Rattle.table.proofs.Laws.Finding.{finds}
 use Rattle.table.proofs.Laws.Checks.{table-answers, check-end, check-full, check-next, check-bad, check-again, step-next}
+use Rattle.table.proofs.Laws.Covering.{covered-missing, covered-next}
 
 -- `find`: what it answers is what looking up says
 pub find-right : (t : List ℕ) (kind : ℕ) (name : List ℕ) (r : Found) → r ≡ findAt t kind name → Finds t (lookup kind name (entriesOf t)) r
@@ -132,10 +134,11 @@ module _ (t : List ℕ) (i : ℕ) (h : Header) (p : h ≡ headerOf (take (length
   step-broken q = step-at Broken q
 
   module _ (kind status n size : ℕ) (q : h ≡ Whole kind status n size) where
+    whole-at : headerOf (drop i t) ≡ Whole kind status n size
+    whole-at = sym (p ∙ ap headerOf (rest-part t i)) ∙ q
+
     pub step-inside : i ≤ length t → i + size ≤ length t
-    step-inside l =
-        let f = header-facts (drop i t) kind status n size (sym (p ∙ ap headerOf (rest-part t i)) ∙ q) in
-        omega (arith, f .1, length-drop i t)
+    step-inside l = omega (arith, header-facts (drop i t) kind status n size whole-at .1, length-drop i t)
 
     pub step-fits : i ≤ length t → length t * 1 < 2 ^ 63 → Fits w64 (i + size)
     step-fits l k = record { fits = omega (arith, step-inside l) }
@@ -148,18 +151,31 @@ module _ (t : List ℕ) (i : ℕ) (h : Header) (p : h ≡ headerOf (take (length
       unfolding stepAfter
       step-ill b = rw (well-at ∙ b) at (step-at (Whole kind status n size) q)
 
-      module _ (b : m ≡ true) (name : List ℕ) (e : name ≡ nameOf (take (length t - i) (drop i t)) n) (x : Found) (f : x ≡ findAt (take i t) kind name) where
-        found-at : cond (isFound x) Step.Repeated (Step.Next (i + size)) ≡ stepAt t i
-        unfolding stepAfter
-        found-at = rw (f, e, rest-part t i) (rw (well-at ∙ b) at (step-at (Whole kind status n size) q))
+      module _ (b : m ≡ true) (name : List ℕ) (e : name ≡ nameOf (take (length t - i) (drop i t)) n) where
+        module _ (x : Found) (f : x ≡ findAt (take i t) kind name) where
+          found-at : cond (isFound x) Step.Repeated (Step.Next (i + size)) ≡ stepAt t i
+          unfolding stepAfter
+          found-at = rw (f, e, rest-part t i) (rw (well-at ∙ b) at (step-at (Whole kind status n size) q))
 
-        pub step-repeated : (s a z : ℕ) → x ≡ Found.Entry s a z → Step.Repeated ≡ stepAt t i
-        unfolding isFound
-        step-repeated s a z r = rw r at found-at
+          pub step-repeated : (s a z : ℕ) → x ≡ Found.Entry s a z → Step.Repeated ≡ stepAt t i
+          unfolding isFound
+          step-repeated s a z r = rw r at found-at
 
-        pub step-fresh : x ≡ Found.Missing → Step.Next (i + size) ≡ stepAt t i
-        unfolding isFound
-        step-fresh r = rw r at found-at
+          pub step-fresh : x ≡ Found.Missing → Step.Next (i + size) ≡ stepAt t i
+          unfolding isFound
+          step-fresh r = rw r at found-at
+
+        module _ (marks : List ℕ) (c : Covered t i marks) (new : Bool) (after : List ℕ) (g : NotesPair (ltb 512 (length t)) marks kind name new after) where
+          pub step-new : new ≡ true → Step.Next (i + size) ≡ stepAt t i
+          step-new r =
+              let u = g .unmarked r in
+              rw (covered-missing t i marks c (ltb-true 512 (length t) (u .0)) kind name (u .1)) at (found-at (findAt (take i t) kind name) refl)
+
+          pub step-covered : Covered t (i + size) after
+          unfolding entryOf
+          step-covered =
+              let p = well-sound (drop i t) kind status n size whole-at (well-at ∙ b) in
+              covered-next t i marks c size (entryOf (drop i t) kind status n size) new after p (rw (e, rest-part t i) at g)
 
 -- `check_table`: what it answers is what the productions say
 pub check-right : (t : List ℕ) (r : TableAnswer) → r ≡ checkTable t → TableAnswers t (reported r)

@@ -7,12 +7,12 @@ use mathlib.Core.List.{List, [], _∷_}
 use native.Mathlib.Omega.{arith}
 use lib.ListN.{length, List·getD-eq-default}
 use lib.Dec.{leb, ltb, eqb}
-use borrow.Author.Tests.{leb-true, leb-false, le-leb, lt-leb, le-ltb, lt-ltb, eqb-true, eqb-false, ne-eqb}
-use Rattle.text.specs.Bytes.{at, within, isSpace, isNotSpace, isNotDot, isNotColon, isNotSlash, isUpper, isNotUpper, isAlpha, isDigit, isLengthByte, isAlphanumeric, isHexDigit, isVisible, isPrintable, isLabelByte, isNameByte, isToplabelByte, isMacroLiteral, isDelimiter}
+use borrow.Author.Tests.{leb-true, leb-false, le-leb, le-ltb, lt-ltb, eqb-true, eqb-false, ne-eqb}
+use Rattle.text.specs.Bytes.{at, within, isSpace, isNotSpace, isNotDot, isNotColon, isNotSlash, isUpper, isNotUpper, isAlpha, isDigit, isLengthByte, isAlphanumeric, isHexDigit, isVisible, isPrintable, isLabelByte, isTableLabelByte, isNameByte, isToplabelByte, isMacroLiteral, isDelimiter}
 use Rattle.text.specs.Lists.{all}
 use Rattle.text.specs.Runs.{isIn}
 use Rattle.text.specs.declared.bytes.Class.{Class}
-use Rattle.text.specs.declared.bytes.Class.the-variants.{Space, NotSpace, NotDot, NotColon, NotSlash, Upper, NotUpper, Alpha, Digit, LengthByte, Alphanumeric, HexDigit, Visible, Printable, LabelByte, NameByte, ToplabelByte, MacroLiteral, Delimiter}
+use Rattle.text.specs.declared.bytes.Class.the-variants.{Space, NotSpace, NotDot, NotColon, NotSlash, Upper, NotUpper, Alpha, Digit, LengthByte, Alphanumeric, HexDigit, Visible, Printable, LabelByte, TableLabelByte, NameByte, ToplabelByte, MacroLiteral, Delimiter}
 use Rattle.text.proofs.Laws.Tests.{cond-elim, and-left, and-right}
 
 -- a range of bytes, as numbers
@@ -41,6 +41,7 @@ testOf HexDigit = isHexDigit
 testOf Visible = isVisible
 testOf Printable = isPrintable
 testOf LabelByte = isLabelByte
+testOf TableLabelByte = isTableLabelByte
 testOf NameByte = isNameByte
 testOf ToplabelByte = isToplabelByte
 testOf MacroLiteral = isMacroLiteral
@@ -63,6 +64,7 @@ class-test HexDigit b = refl
 class-test Visible b = refl
 class-test Printable b = refl
 class-test LabelByte b = refl
+class-test TableLabelByte b = refl
 class-test NameByte b = refl
 class-test ToplabelByte b = refl
 class-test MacroLiteral b = refl
@@ -117,11 +119,7 @@ agree f g h b l = same-test (f b) (g b) (below 256 (λ b. Bool·beq (f b) (g b))
 pub past-end : (s : List ℕ) (i : ℕ) → length s ≤ i → 0 ≡ at s i
 past-end s i h = sym (List·getD-eq-default s 0 h)
 
--- `is_not_upper`
-pub not-upper-low : (b : ℕ) → b < 65 → true ≡ isNotUpper b
-unfolding isNotUpper isUpper within
-not-upper-low b h = simp (lt-leb 65 b h)
-
+-- from A on, a byte outside A to Z is one above Z
 pub not-upper-high : (b : ℕ) → 65 ≤ b → ltb 90 b ≡ isNotUpper b
 unfolding isNotUpper isUpper within
 not-upper-high b h = simp (le-leb 65 b h) (by (leb b 90) refl)

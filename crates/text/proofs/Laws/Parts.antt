@@ -11,13 +11,19 @@ use lib.Seq.{take-all, drop-at, getD-at}
 use Rattle.text.specs.Bytes.{at}
 use Rattle.text.specs.Lists.{all, rightmost}
 use Rattle.text.proofs.Laws.Orders.{le-or-lt}
-use Rattle.text.proofs.Laws.Tests.{and-left, and-right, and-both, test-fails, true-false}
+use Rattle.text.proofs.Laws.Tests.{and-left, and-right, and-both, and-between, test-fails, true-false}
 
 -- a test that a map keeps
 pub all-map : {A : Type 0} (p : A → Bool) (f : A → A) → ((x : A) → p (f x) ≡ p x) → (xs : List A) → all p (map f xs) ≡ all p xs
 unfolding all
 all-map p f h [] = refl
 all-map p f h (x ∷ xs) = rw (h x, all-map p f h xs)
+
+-- two tests that are one together
+pub all-both : {A : Type 0} (p q r : A → Bool) → ((x : A) → (p x && q x) ≡ r x) → (xs : List A) → (all p xs && all q xs) ≡ all r xs
+unfolding all
+all-both p q r h [] = refl
+all-both p q r h (x ∷ xs) = and-between (p x) (all p xs) (q x) (all q xs) ∙ rw (h x, all-both p q r h xs)
 
 -- a test of two lists together
 pub all-append : {A : Type 0} (p : A → Bool) (xs ys : List A) → all p (xs ++ ys) ≡ (all p xs && all p ys)

@@ -9,8 +9,9 @@ use lib.Seq.{drop-length}
 use lib.Dec.{eqb}
 use borrow.Author.Tests.{eqb-true}
 use Rattle.text.specs.Bytes.{at, isDot}
-use Rattle.text.specs.Lists.{split, grow, separatorBefore, joinBy, join}
+use Rattle.text.specs.Lists.{all, split, grow, separatorBefore, joinBy, join}
 use Rattle.text.specs.Runs.{run}
+use Rattle.text.proofs.Laws.Parts.{all-append}
 use Rattle.text.proofs.Laws.Spans.{drop-before}
 
 -- a list of parts with at least one
@@ -163,6 +164,18 @@ module _ (c : ℕ) where
   pub join-snoc : (xs : List (List ℕ)) (x : List ℕ) → Some xs → joinBy c (xs ++ (x ∷ [])) ≡ joinBy c xs ++ (c ∷ x)
   unfolding joinBy separatorBefore
   join-snoc xs x e = join-append xs (x ∷ []) e some ∙ rw append-nil
+
+  -- a test that the separator passes: of what the parts make, and of the parts
+  module _ (p : ℕ → Bool) (h : p c ≡ true) where
+    all-before : (xs : List (List ℕ)) → all p (separatorBefore c xs) ≡ all (all p) xs
+    unfolding separatorBefore all
+    all-before [] = refl
+    all-before (x ∷ xs) = rw (h, all-append p x (separatorBefore c xs), all-before xs)
+
+    pub all-joined : (xs : List (List ℕ)) → all p (joinBy c xs) ≡ all (all p) xs
+    unfolding joinBy all
+    all-joined [] = refl
+    all-joined (x ∷ xs) = rw (all-append p x (separatorBefore c xs), all-before xs)
 
   -- split at the separator and joined again, a list is as it was
   pub join-again : (s : List ℕ) → joinBy c (split (λ b. eqb b c) s) ≡ s

@@ -2,7 +2,7 @@
 -- apart a test that the code has made. Assumes nothing.
 use Prim.Native.Nat.{ℕ, _≤_, _<_}
 use mathlib.Core.Path.{_≡_, refl, sym, ap, _∙_}
-use mathlib.Core.Bool.{Bool, true, false, cond, not, _&&_, _||_}
+use mathlib.Core.Bool.{Bool, true, false, cond, not, _&&_, _||_, and-assoc, and-comm}
 use native.Mathlib.Omega.{arith}
 use lib.Dec.{leb, ltb, eqb}
 use borrow.Author.Tests.{lt-ltb, le-ltb, le-leb, lt-leb, eq-eqb, ne-eqb, not-true, not-false}
@@ -91,6 +91,13 @@ and-right false u h = let z : _≡_ {A = ℕ} 0 1 = cc in cc
 
 pub and-both : (t u : Bool) → t ≡ true → u ≡ true → (t && u) ≡ true
 and-both t u p q = simp (p, q)
+
+-- and put in another order
+pub and-last : (t u v : Bool) → ((t && u) && v) ≡ ((t && v) && u)
+and-last t u v = and-assoc t u v ∙ ap (λ (b : Bool). t && b) (and-comm u v) ∙ sym (and-assoc t v u)
+
+pub and-between : (t u v w : Bool) → ((t && u) && (v && w)) ≡ ((t && v) && (u && w))
+and-between t u v w = sym (and-assoc (t && u) v w) ∙ ap (λ (b : Bool). b && w) (and-last t u v) ∙ and-assoc (t && v) u w
 
 -- the parts of "or", where it holds
 pub or-elim {κ} : {P : Type κ} (t u : Bool) → (t || u) ≡ true → (t ≡ true → P) → (u ≡ true → P) → P

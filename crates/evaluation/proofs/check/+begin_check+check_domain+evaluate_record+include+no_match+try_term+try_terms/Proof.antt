@@ -5,8 +5,9 @@ use borrow.Author.Needs.{needs}
 use native.Mathlib.Omega.{arith}
 use lib.ListN.{length}
 use Rattle.meaning.specs.Outcomes.{mailOf, spanOf}
-use Rattle.evaluation.proofs.Laws.Beginning.{begin-eleventh, begin-malformed, begin-wants, begin-checked, target-small, span-small, domain-single, domain-ends, domain-wants, domain-one, place-small, record-refused, record-tried, include-done, tried-step, tried-include, nothing-left, redirected}
-use Rattle.evaluation.proofs.Laws.Walking.{Walk, walk-start, walk-past, walk-ended, walk-yes, walk-stop, walk-no, walk-less, walk-room, walk-small, walk-few}
+use Rattle.evaluation.proofs.Laws.Beginning.{begin-eleventh, begin-malformed, begin-wants, begin-checked, target-small, span-small, domain-single, domain-ends, domain-wants, domain-one, place-small, include-done, tried-step, tried-include, nothing-left, redirected}
+use Rattle.evaluation.proofs.Laws.Leading.{walk-opened, open-passing, record-refused, record-tried, record-matched}
+use Rattle.evaluation.proofs.Laws.Walking.{Walk, walk-past, walk-ended, walk-yes, walk-stop, walk-no, walk-less, walk-room, walk-small, walk-few}
 use Prim.Native.Nat.{ℕ, _<_, _+_, _-_, _*_}
 use Rattle.evaluation.proofs.check.sign_of.Reads as sign-of-reads
 use borrow.Fn.Kinds.{In}
@@ -36,13 +37,14 @@ use Rattle.domain.proofs.count_labels.Reads as count-labels-reads
 use Rattle.evaluation.proofs.check.ended.Reads as ended-reads
 use Rattle.evaluation.proofs.check.include_of.Reads as include-of-reads
 use Rattle.evaluation.proofs.check.none_is_permerror.Reads as none-is-permerror-reads
+use Rattle.evaluation.proofs.check.sign_result.Reads as sign-result-reads
 use Rattle.evaluation.proofs.check.signed.Reads as signed-reads
 use Rattle.evaluation.proofs.check.wanting.Reads as wanting-reads
 use Rattle.selection.proofs.modifiers.find_redirect.Reads as find-redirect-reads
 use Rattle.targets.proofs.make_target.Reads as make-target-reads
 use Rattle.selection.proofs.select_record.Reads as select-record-reads
 use Rattle.mechanisms.proofs.try_plain.Reads as try-plain-reads
-use Rattle.records.proofs.read_record.Reads as read-record-reads
+use Rattle.records.proofs.opening.open_record.Reads as open-record-reads
 use Rattle.records.proofs.read_term.Reads as read-term-reads
 use Rattle.text.proofs.bytes.part.Reads as part-reads
 use Rattle.evaluation.proofs.check.+begin_check+check_domain+evaluate_record+include+no_match+try_term+try_terms.{
@@ -72,7 +74,7 @@ abbrev μ-try-term : Measures 6 try-term-kinds.ps ℕ
 μ-try-term κs a = 7 * (10 - a .1 .1 .1 .1 .1 .1 .1 .1 .1 .0 .lookups) + 3
 
 abbrev μ-try-terms : Measures 5 try-terms-kinds.ps ℕ
-μ-try-terms κs a = 7 * (10 - a .1 .1 .1 .1 .1 .1 .1 .1 .1 .0 .lookups) + 4
+μ-try-terms κs a = 7 * (10 - a .1 .1 .1 .1 .1 .1 .1 .1 .1 .1 .0 .lookups) + 4
 
 -- a call at the measure t, and one below it
 abbrev begin-check-at : ℕ → In 6 begin-check-kinds.ps
@@ -137,7 +139,7 @@ check-domain-claims t =
 
 abbrev evaluate-record-claims : ℕ → evaluate-record-lts.Claims
 evaluate-record-claims t =
-    (part-reads.Asked, part-reads.Learnt, read-record-reads.Asked, read-record-reads.Learnt, ended-reads.Asked, ended-reads.Learnt, try-terms-below t, try-terms.Post)
+    (part-reads.Asked, part-reads.Learnt, open-record-reads.Asked, open-record-reads.Learnt, ended-reads.Asked, ended-reads.Learnt, sign-result-reads.Asked, sign-result-reads.Learnt, try-terms-below t, try-terms.Post)
 
 abbrev include-claims : ℕ → include-lts.Claims
 include-claims t =
@@ -266,8 +268,8 @@ check-domain-returns-4 t c = search domain-one
 evaluate-record-part-requires : (t : ℕ) → evaluate-record-lts.Need-part-requires (evaluate-record-claims t) (evaluate-record-at t) evaluate-record.Post
 evaluate-record-part-requires t c κs = search needs
 
-evaluate-record-read-record-requires : (t : ℕ) → evaluate-record-lts.Need-read-record-requires (evaluate-record-claims t) (evaluate-record-at t) evaluate-record.Post
-evaluate-record-read-record-requires t c κs = search needs
+evaluate-record-open-record-requires : (t : ℕ) → evaluate-record-lts.Need-open-record-requires (evaluate-record-claims t) (evaluate-record-at t) evaluate-record.Post
+evaluate-record-open-record-requires t c κs = search needs
 
 evaluate-record-enum-told : (t : ℕ) → evaluate-record-lts.Need-enum-told (evaluate-record-claims t) (evaluate-record-at t) evaluate-record.Post
 evaluate-record-enum-told t c = search needs
@@ -275,20 +277,29 @@ evaluate-record-enum-told t c = search needs
 evaluate-record-ended-requires : (t : ℕ) → evaluate-record-lts.Need-ended-requires (evaluate-record-claims t) (evaluate-record-at t) evaluate-record.Post
 evaluate-record-ended-requires t c κs = search needs
 
-evaluate-record-enum-known-first : (t : ℕ) → evaluate-record-lts.Need-enum-known-first (evaluate-record-claims t) (evaluate-record-at t) evaluate-record.Post
-evaluate-record-enum-known-first t c = search needs
+evaluate-record-enum-known-sign : (t : ℕ) → evaluate-record-lts.Need-enum-known-sign (evaluate-record-claims t) (evaluate-record-at t) evaluate-record.Post
+evaluate-record-enum-known-sign t c = search needs
+
+evaluate-record-sign-result-requires : (t : ℕ) → evaluate-record-lts.Need-sign-result-requires (evaluate-record-claims t) (evaluate-record-at t) evaluate-record.Post
+evaluate-record-sign-result-requires t c κs = search needs
+
+evaluate-record-enum-known-at : (t : ℕ) → evaluate-record-lts.Need-enum-known-at (evaluate-record-claims t) (evaluate-record-at t) evaluate-record.Post
+evaluate-record-enum-known-at t c = search needs
 
 evaluate-record-try-terms-requires : (t : ℕ) → evaluate-record-lts.Need-try-terms-requires (evaluate-record-claims t) (evaluate-record-at t) evaluate-record.Post
-evaluate-record-try-terms-requires t c κs = (omega arith, search needs)
+evaluate-record-try-terms-requires t c κs = (omega arith, search (open-passing, needs))
 
 evaluate-record-returns : (t : ℕ) → evaluate-record-lts.Need-returns (evaluate-record-claims t) (evaluate-record-at t) evaluate-record.Post
 evaluate-record-returns t c = search record-refused
 
+evaluate-record-returns-2 : (t : ℕ) → evaluate-record-lts.Need-returns-2 (evaluate-record-claims t) (evaluate-record-at t) evaluate-record.Post
+evaluate-record-returns-2 t c = search record-matched
+
 evaluate-record-same-length : (t : ℕ) → evaluate-record-lts.Need-same-length (evaluate-record-claims t) (evaluate-record-at t) evaluate-record.Post
 evaluate-record-same-length t c = cc
 
-evaluate-record-returns-2 : (t : ℕ) → evaluate-record-lts.Need-returns-2 (evaluate-record-claims t) (evaluate-record-at t) evaluate-record.Post
-evaluate-record-returns-2 t c = search record-tried
+evaluate-record-returns-3 : (t : ℕ) → evaluate-record-lts.Need-returns-3 (evaluate-record-claims t) (evaluate-record-at t) evaluate-record.Post
+evaluate-record-returns-3 t c = search record-tried
 
 include-begin-check-requires : (t : ℕ) → include-lts.Need-begin-check-requires (include-claims t) (include-at t) include.Post
 include-begin-check-requires t c κs = (omega arith, search needs)
@@ -363,16 +374,16 @@ try-term-returns-2 : (t : ℕ) → try-term-lts.Need-returns-2 (try-term-claims 
 try-term-returns-2 t c = search tried-include
 
 abbrev try-terms-Inv-loop : try-terms-lts.InvT-loop
-try-terms-Inv-loop client sender helo receiver seconds table domain text first out₀ s at₀ so-far₀ out at so-far = Walk table (mailOf client sender helo receiver seconds) (spanOf table domain) s first out₀ so-far₀ out at so-far
+try-terms-Inv-loop client sender helo receiver seconds table domain text first start out₀ s at₀ so-far₀ out at so-far = Walk table (mailOf client sender helo receiver seconds) (spanOf table domain) s first out₀ so-far₀ out at so-far
 
 abbrev try-terms-μ-loop : try-terms-lts.MeasureT-loop
-try-terms-μ-loop client sender helo receiver seconds table domain text first out₀ s at₀ so-far₀ out at so-far = length s + 1 - at
+try-terms-μ-loop client sender helo receiver seconds table domain text first start out₀ s at₀ so-far₀ out at so-far = length s + 1 - at
 
 try-terms-part-requires : (t : ℕ) → try-terms-lts.Need-part-requires (try-terms-claims t) (try-terms-at t) try-terms.Post try-terms-Inv-loop try-terms-μ-loop
 try-terms-part-requires t c κs = search needs
 
 try-terms-loop-holds : (t : ℕ) → try-terms-lts.Need-loop-holds (try-terms-claims t) (try-terms-at t) try-terms.Post try-terms-Inv-loop try-terms-μ-loop
-try-terms-loop-holds t c = search walk-start
+try-terms-loop-holds t c = search walk-opened
 
 try-terms-read-term-requires : (t : ℕ) → try-terms-lts.Need-read-term-requires (try-terms-claims t) (try-terms-at t) try-terms.Post try-terms-Inv-loop try-terms-μ-loop
 try-terms-read-term-requires t c κs = search needs
@@ -491,14 +502,17 @@ pub +begin-check+check-domain+evaluate-record+include+no-match+try-term+try-term
     (evaluate-record-at t)
     evaluate-record.Post
     (evaluate-record-part-requires t)
-    (evaluate-record-read-record-requires t)
+    (evaluate-record-open-record-requires t)
     (evaluate-record-enum-told t)
     (evaluate-record-ended-requires t)
-    (evaluate-record-enum-known-first t)
+    (evaluate-record-enum-known-sign t)
+    (evaluate-record-sign-result-requires t)
+    (evaluate-record-enum-known-at t)
     (evaluate-record-try-terms-requires t)
     (evaluate-record-returns t)
+    (evaluate-record-returns-2 t)
     (evaluate-record-same-length t)
-    (evaluate-record-returns-2 t))
+    (evaluate-record-returns-3 t))
     (λ t. include-lts.spec (include-claims t)
     (include-at t)
     include.Post

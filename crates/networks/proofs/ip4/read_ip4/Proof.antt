@@ -1,94 +1,28 @@
--- `networks::ip4::read_ip4` meets its contract. From the laws of Ip4, Readings.
-use Rattle.networks.specs.Reader.{readIp4}
+-- `networks::ip4::read_ip4` meets its contract. From the laws of Fronts and Ip4.
+use Rattle.networks.proofs.Laws.Fronts.{front-none, front-whole, front-short}
 use Rattle.networks.proofs.Laws.Ip4.{ip4-answer}
-use Rattle.networks.proofs.Laws.Readings.{steps}
 use borrow.Author.Needs.{needs}
 use Rattle.networks.proofs.ip4.read_ip4.Statement.{statement}
 use Rattle.networks.proofs.ip4.read_ip4.Tie as tie
 
-read-octet-requires : tie.Need-read-octet-requires
-read-octet-requires c κs = search needs
+read-front-requires : tie.Need-read-front-requires
+read-front-requires c κs = search needs
 
-enum-known-a : tie.Need-enum-known-a
-enum-known-a c = search needs
+enum-known-value : tie.Need-enum-known-value
+enum-known-value c = search needs
 
 enum-told : tie.Need-enum-told
 enum-told c = search needs
 
 returns : tie.Need-returns
-unfolding readIp4
-returns c = ip4-answer _ _ (search steps)
-
-read-dot-octet-requires : tie.Need-read-dot-octet-requires
-read-dot-octet-requires c κs = search needs
-
-enum-known-b : tie.Need-enum-known-b
-enum-known-b c = search needs
-
-enum-told-2 : tie.Need-enum-told-2
-enum-told-2 c = search needs
+returns c = ip4-answer _ _ (search front-none)
 
 returns-2 : tie.Need-returns-2
-unfolding readIp4
-returns-2 c = ip4-answer _ _ (search steps)
-
-read-dot-octet-requires-2 : tie.Need-read-dot-octet-requires-2
-read-dot-octet-requires-2 c κs = search needs
-
-enum-known-c : tie.Need-enum-known-c
-enum-known-c c = search needs
-
-enum-told-3 : tie.Need-enum-told-3
-enum-told-3 c = search needs
+returns-2 c = ip4-answer _ _ (search front-whole)
 
 returns-3 : tie.Need-returns-3
-unfolding readIp4
-returns-3 c = ip4-answer _ _ (search steps)
-
-read-dot-octet-requires-3 : tie.Need-read-dot-octet-requires-3
-read-dot-octet-requires-3 c κs = search needs
-
-enum-known-d : tie.Need-enum-known-d
-enum-known-d c = search needs
-
-enum-told-4 : tie.Need-enum-told-4
-enum-told-4 c = search needs
-
-returns-4 : tie.Need-returns-4
-unfolding readIp4
-returns-4 c = ip4-answer _ _ (search steps)
-
-value-of-requires : tie.Need-value-of-requires
-value-of-requires c κs = search needs
-
-returns-5 : tie.Need-returns-5
-unfolding readIp4
-returns-5 c = ip4-answer _ _ (simp (c .value-of .ensures) (search steps))
-
-returns-6 : tie.Need-returns-6
-unfolding readIp4
-returns-6 c = ip4-answer _ _ (search steps)
+returns-3 c = ip4-answer _ _ (search front-short)
 
 pub read-ip4-spec : {M : Type 1} → statement M
 read-ip4-spec =
-    tie.close
-    (tie.spec
-    read-octet-requires
-    enum-known-a
-    enum-told
-    returns
-    read-dot-octet-requires
-    enum-known-b
-    enum-told-2
-    returns-2
-    read-dot-octet-requires-2
-    enum-known-c
-    enum-told-3
-    returns-3
-    read-dot-octet-requires-3
-    enum-known-d
-    enum-told-4
-    returns-4
-    value-of-requires
-    returns-5
-    returns-6)
+    tie.close (tie.spec read-front-requires enum-known-value enum-told returns returns-2 returns-3)

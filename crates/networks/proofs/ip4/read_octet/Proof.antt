@@ -1,42 +1,104 @@
--- `networks::ip4::read_octet` meets its contract. From the laws of Ip4.
-use Rattle.networks.proofs.Laws.Ip4.{octet-none, octet-fits, octet-some}
+-- `networks::ip4::read_octet` meets its contract. The loop's invariant: v is the value of the digits passed, and the digits from i on are the rest of
+-- the run. From the laws of Octets and Digits.
+use Prim.Native.Nat.{_-_}
+use mathlib.Core.Path.{_≡_}
+use mathlib.Core.Logic.{⊎-elim}
+use native.Mathlib.Omega.{arith}
+use lib.ListN.{length}
+use denote.Ref.{now}
 use borrow.Author.Needs.{needs}
+use Rattle.text.specs.Runs.{isIn, runEnd}
+use Rattle.text.specs.declared.bytes.Class.the-variants.{Digit}
+use Rattle.text.proofs.Laws.Digits.{digit-least}
+use Rattle.text.proofs.bytes.is_within.Reads as is-within-reads
+use Rattle.networks.proofs.Laws.Octets.{Passed, passed-start, passed-next, octet-over, end-here, end-out, octet-first, octet-empty, octet-zero, octet-one, octet-more}
 use Rattle.networks.proofs.ip4.read_octet.Statement.{statement}
 use Rattle.networks.proofs.ip4.read_octet.Tie as tie
+use Rattle.networks.proofs.ip4.read_octet.Reads as reads
+use Rattle.networks.proofs.ip4.read_octet.Lts as lts
 
-run-end-requires : tie.Need-run-end-requires
-run-end-requires c κs = search needs
+abbrev Inv-loop : tie.InvT-loop
+Inv-loop s at v₀ i₀ v i = Passed s at v i
 
-part-requires : tie.Need-part-requires
-part-requires c κs = search needs
+abbrev μ-loop : tie.MeasureT-loop
+μ-loop s at v₀ i₀ v i = length s - i
 
-read-number-requires : tie.Need-read-number-requires
-read-number-requires c κs = search needs
+loop-holds : tie.Need-loop-holds Inv-loop μ-loop
+loop-holds c = search passed-start
 
-enum-known-v : tie.Need-enum-known-v
-enum-known-v c = search needs
+shared-slice-read-b : tie.Need-shared-slice-read-b Inv-loop μ-loop
+shared-slice-read-b c = search needs
 
-enum-told : tie.Need-enum-told
-enum-told c = search needs
+is-within-requires : tie.Need-is-within-requires Inv-loop μ-loop
+is-within-requires c κs = search needs
 
-returns : tie.Need-returns
-returns c = search octet-none
+mul-v : tie.Need-mul-v Inv-loop μ-loop
+mul-v c = search needs
 
-cast-t8 : tie.Need-cast-t8
-cast-t8 c = search octet-fits
+sub-v : tie.Need-sub-v Inv-loop μ-loop
+sub-v c = search digit-least
 
-returns-2 : tie.Need-returns-2
-returns-2 c = search octet-some
+cast-v : tie.Need-cast-v Inv-loop μ-loop
+cast-v c = omega (arith, c .before .before .shared-slice-known2 .given (c .before .before .before .before .loop .i))
+
+add-v : tie.Need-add-v Inv-loop μ-loop
+add-v c = omega (arith, c .before .before .shared-slice-known2 .given (c .before .before .before .before .loop .i))
+
+returns : tie.Need-returns Inv-loop μ-loop
+returns c = search octet-over
+
+add-i : tie.Need-add-i Inv-loop μ-loop
+add-i c = search needs
+
+loop-less : tie.Need-loop-less Inv-loop μ-loop
+loop-less c = search needs
+
+loop-again : tie.Need-loop-again Inv-loop μ-loop
+loop-again c = search passed-next
+
+-- the loop is left where the digits end
+ended : (c : lts.Left-loop (is-within-reads.Asked, is-within-reads.Learnt) reads.Pre reads.Post Inv-loop μ-loop)
+    → c .before .loop .i ≡ runEnd (isIn Digit) (now (c .before .before .before .args .s)) (c .before .before .before .args .at)
+ended c = ⊎-elim (λ w. search end-out) (λ w. search end-here) (c .loop-test .came)
+
+returns-2 : tie.Need-returns-2 Inv-loop μ-loop
+returns-2 c = let e = ended (c .before) in search octet-empty
+
+sub-if4 : tie.Need-sub-if4 Inv-loop μ-loop
+sub-if4 c = search needs
+
+shared-slice-read-if5 : tie.Need-shared-slice-read-if5 Inv-loop μ-loop
+shared-slice-read-if5 c = let e = ended (c .before .before .before) in search octet-first
+
+returns-3 : tie.Need-returns-3 Inv-loop μ-loop
+returns-3 c = let e = ended (c .before .before .before .before) in search octet-zero
+
+cast-t20 : tie.Need-cast-t20 Inv-loop μ-loop
+cast-t20 c = search needs
+
+returns-4 : tie.Need-returns-4 Inv-loop μ-loop
+returns-4 c = let e = ended (c .before .before) in ⊎-elim (λ w. search octet-more) (λ w. search octet-one) (c .if4 .came)
 
 pub read-octet-spec : {M : Type 1} → statement M
 read-octet-spec =
     tie.close
     (tie.spec
-    run-end-requires
-    part-requires
-    read-number-requires
-    enum-known-v
-    enum-told
+    Inv-loop
+    μ-loop
+    loop-holds
+    shared-slice-read-b
+    is-within-requires
+    mul-v
+    sub-v
+    cast-v
+    add-v
     returns
-    cast-t8
-    returns-2)
+    add-i
+    loop-less
+    loop-again
+    returns-2
+    sub-if4
+    shared-slice-read-if5
+    returns-3
+    cast-t20
+    returns-4)

@@ -4,8 +4,14 @@ use borrow.Author.Needs.{needs}
 use Rattle.records.proofs.terms.read_hosts_cut.Statement.{statement}
 use Rattle.records.proofs.terms.read_hosts_cut.Tie as tie
 
-part-requires : tie.Need-part-requires
-part-requires c κs = search needs
+sub-read-dual : tie.Need-sub-read-dual
+sub-read-dual c = search needs
+
+part-read-dual-start : tie.Need-part-read-dual-start
+part-read-dual-start c = search needs
+
+part-read-dual-end : tie.Need-part-read-dual-end
+part-read-dual-end c = search needs
 
 read-dual-requires : tie.Need-read-dual-requires
 read-dual-requires c κs = search needs
@@ -44,7 +50,9 @@ pub read-hosts-cut-spec : {M : Type 1} → statement M
 read-hosts-cut-spec =
     tie.close
     (tie.spec
-    part-requires
+    sub-read-dual
+    part-read-dual-start
+    part-read-dual-end
     read-dual-requires
     enum-known-four
     enum-told

@@ -1,5 +1,5 @@
 -- `records::terms::read_ip6` meets its contract. From the laws of Reading, Steps.
-use Rattle.records.proofs.Laws.Reading.{colon-room, network-found}
+use Rattle.records.proofs.Laws.Reading.{end-after, colon-room, slash-inside, network-found}
 use Rattle.records.specs.Reader.{networkBy}
 use Rattle.records.proofs.Laws.Steps.{steps}
 use borrow.Author.Needs.{needs}
@@ -9,29 +9,35 @@ use Rattle.records.proofs.terms.read_ip6.Tie as tie
 peek-requires : tie.Need-peek-requires
 peek-requires c κs = search needs
 
-add-run-end : tie.Need-add-run-end
-add-run-end c = search colon-room
+add-from : tie.Need-add-from
+add-from c = search colon-room
 
 run-end-requires : tie.Need-run-end-requires
 run-end-requires c κs = search needs
 
-add-part : tie.Need-add-part
-add-part c = search colon-room
+sub-read-ip6 : tie.Need-sub-read-ip6
+sub-read-ip6 c = search end-after
 
-part-requires : tie.Need-part-requires
-part-requires c κs = search needs
+part-read-ip6-start : tie.Need-part-read-ip6-start
+part-read-ip6-start c = search end-after
+
+part-read-ip6-end : tie.Need-part-read-ip6-end
+part-read-ip6-end c = search slash-inside
 
 read-ip6-requires : tie.Need-read-ip6-requires
 read-ip6-requires c κs = search needs
 
-part-requires-2 : tie.Need-part-requires-2
-part-requires-2 c κs = search needs
+sub-read-length6 : tie.Need-sub-read-length6
+sub-read-length6 c = search slash-inside
+
+part-read-length6-start : tie.Need-part-read-length6-start
+part-read-length6-start c = search slash-inside
+
+part-read-length6-end : tie.Need-part-read-length6-end
+part-read-length6-end c = search needs
 
 read-length6-requires : tie.Need-read-length6-requires
 read-length6-requires c κs = search needs
-
-add-network-term : tie.Need-add-network-term
-add-network-term c = search colon-room
 
 network-term-requires : tie.Need-network-term-requires
 network-term-requires c κs = search needs
@@ -48,14 +54,16 @@ read-ip6-spec =
     tie.close
     (tie.spec
     peek-requires
-    add-run-end
+    add-from
     run-end-requires
-    add-part
-    part-requires
+    sub-read-ip6
+    part-read-ip6-start
+    part-read-ip6-end
     read-ip6-requires
-    part-requires-2
+    sub-read-length6
+    part-read-length6-start
+    part-read-length6-end
     read-length6-requires
-    add-network-term
     network-term-requires
     returns
     returns-2)

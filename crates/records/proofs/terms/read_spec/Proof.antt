@@ -1,5 +1,5 @@
 -- `records::terms::read_spec` meets its contract. From the laws of Reading, Steps.
-use Rattle.records.proofs.Laws.Reading.{colon-room, spec-bad, spec-from}
+use Rattle.records.proofs.Laws.Reading.{spec-bad, spec-from}
 use Rattle.records.specs.Reader.{specAt}
 use Rattle.records.proofs.Laws.Steps.{steps}
 use borrow.Author.Needs.{needs}
@@ -13,17 +13,20 @@ returns c = search steps depth 12
 peek-requires : tie.Need-peek-requires
 peek-requires c κs = search needs
 
-add-part : tie.Need-add-part
-add-part c = search colon-room
+add-from : tie.Need-add-from
+add-from c = search needs
 
-part-requires : tie.Need-part-requires
-part-requires c κs = search needs
+sub-read-macro-string : tie.Need-sub-read-macro-string
+sub-read-macro-string c = search needs
+
+part-read-macro-string-start : tie.Need-part-read-macro-string-start
+part-read-macro-string-start c = search needs
+
+part-read-macro-string-end : tie.Need-part-read-macro-string-end
+part-read-macro-string-end c = search needs
 
 read-macro-string-requires : tie.Need-read-macro-string-requires
 read-macro-string-requires c κs = search needs
-
-add-t10 : tie.Need-add-t10
-add-t10 c = search colon-room
 
 returns-2 : tie.Need-returns-2
 returns-2 c = search spec-from
@@ -41,10 +44,11 @@ read-spec-spec =
     (tie.spec
     returns
     peek-requires
-    add-part
-    part-requires
+    add-from
+    sub-read-macro-string
+    part-read-macro-string-start
+    part-read-macro-string-end
     read-macro-string-requires
-    add-t10
     returns-2
     returns-3
     returns-4)

@@ -1,0 +1,147 @@
+-- The leading terms of a record that need no lookup: past those that pass, the walk stands as if it had tried them, and a match decides the record. From
+-- what a term comes to that asks nothing, and the rules of Walking.
+use Prim.Native.Nat.{ℕ, _+_, _≤_, _<_}
+use mathlib.Core.Path.{_≡_, refl, sym, ap, subst, _∙_}
+use mathlib.Core.Bool.{Bool, true, false, cond}
+use mathlib.Core.List.{List}
+use mathlib.Core.Logic.{⊎-elim}
+use native.Mathlib.Omega.{arith}
+use lib.ListN.{length}
+use Rattle.text.specs.Bytes.{part}
+use Rattle.text.proofs.Laws.Orders.{le-or-lt}
+use Rattle.address.specs.declared.Address.{Address}
+use Rattle.address.specs.Matching.{matchesAt}
+use Rattle.records.specs.Reader.{readTerm, readRecord}
+use Rattle.records.specs.Numbers.{saidOf}
+use Rattle.records.specs.declared.Term.{Term}
+use Rattle.records.specs.declared.TermAnswer.{TermAnswer}
+use Rattle.records.specs.declared.RecordAnswer.{RecordAnswer}
+use Rattle.records.specs.declared.opening.Unaided.{Unaided}
+use Rattle.records.specs.declared.opening.Opening.{Opening}
+use Rattle.records.specs.Opening.{unaided, Passing, Leads, OpeningOf, answerOf}
+use Rattle.records.proofs.Laws.Terms.{read-long, read-past}
+use Rattle.meaning.specs.declared.Counts.{Counts}
+use Rattle.meaning.specs.declared.Matched.{Matched}
+use Rattle.meaning.specs.declared.Stepped.{Stepped}
+use Rattle.meaning.specs.declared.Span.{Span}
+use Rattle.meaning.specs.declared.Checked.{Checked}
+use Rattle.meaning.specs.Tree.{Table, run}
+use Rattle.meaning.specs.Tables.{tableIn}
+use Rattle.meaning.specs.Mechanisms.{Mail}
+use Rattle.meaning.specs.Evaluation.{Sub, termStep, tryTerms, termsOf, readOutcome, check}
+use Rattle.meaning.specs.Outcomes.{spanOf, SaysStep, SaysCheck}
+use Rattle.questions.specs.Steps.{matchAnswer}
+use Rattle.mechanisms.specs.Terms.{TriedIs}
+use Rattle.mechanisms.proofs.Laws.Trying.{tried-all, tried-network, tried-redirect, tried-explanation, tried-unknown}
+use Rattle.evaluation.specs.Checks.{endedOf, signOf, signedOf}
+use Rattle.evaluation.proofs.Laws.Beginning.{says-ended}
+use Rattle.evaluation.proofs.Laws.Walking.{Walk, walk-start, walk-no, walk-yes}
+
+-- a term is read only inside the record
+read-inside : (s : List ℕ) (i at next : ℕ) (x : Term) → readTerm s i ≡ TermAnswer.Is at next x → i ≤ length s
+read-inside s i at next x q = ⊎-elim (λ h. h) (λ h. absurd (⊎-elim (λ k. no (sym (read-past s i k h) ∙ q)) (λ k. no (sym (read-long s i k) ∙ q)) (le-or-lt (length s) 4096))) (le-or-lt i (length s))
+  where
+    no : {n p : ℕ} → TermAnswer.Refused n p ≡ TermAnswer.Is at next x → ⊥
+    no e = let z : _≡_ {A = ℕ} 0 1 = cc in omega arith
+
+asks-passes : Unaided.Asks ≡ Unaided.Passes → ⊥
+asks-passes e = let z : _≡_ {A = ℕ} 0 1 = cc in omega arith
+
+asks-matches : (k : ℕ) → Unaided.Asks ≡ Unaided.Matches k → ⊥
+asks-matches k e = let z : _≡_ {A = ℕ} 0 1 = cc in omega arith
+
+passes-matches : (k : ℕ) → Unaided.Passes ≡ Unaided.Matches k → ⊥
+passes-matches k e = let z : _≡_ {A = ℕ} 0 1 = cc in omega arith
+
+module _ (t : Table) (mail : Mail) (d w : List ℕ) (c : Counts) (b : List ℕ) where
+  -- what a term's step says
+  abbrev Steps : Term → Stepped → Type 0
+  Steps x o = (sub : Sub) → SaysStep (run t (termStep mail sub d (saidOf w x) (saidOf w x .sign) c)) o b b
+
+  network-step : (sign from to n : ℕ) (a : Address) (m : Bool) → matchesAt (mail .client) a n ≡ m → Steps (Term.Network sign from to a n) (matchAnswer m c)
+  unfolding TriedIs
+  network-step sign from to n a m e = tried-network t mail d w (Term.Network sign from to a n) c b (matchAnswer m c) sign from to n a refl m (sym e) refl
+
+  -- a term that passes
+  passing-step : (x : Term) → unaided (mail .client) x ≡ Unaided.Passes → Steps x (matchAnswer false c)
+  unfolding unaided TriedIs
+  passing-step (Term.Network sign from to a n) e = by (matchesAt (mail .client) a n) refl e
+    where
+      by : (m : Bool) → matchesAt (mail .client) a n ≡ m → cond m (Unaided.Matches sign) Unaided.Passes ≡ Unaided.Passes → Steps (Term.Network sign from to a n) (matchAnswer false c)
+      by true h g = absurd (passes-matches sign (sym g))
+      by false h g = network-step sign from to n a false h
+  passing-step (Term.Redirect from to) e = tried-redirect t mail d w (Term.Redirect from to) c b (matchAnswer false c) from to refl refl
+  passing-step (Term.Explanation from to) e = tried-explanation t mail d w (Term.Explanation from to) c b (matchAnswer false c) from to refl refl
+  passing-step (Term.Unknown n to) e = tried-unknown t mail d w (Term.Unknown n to) c b (matchAnswer false c) n to refl refl
+  passing-step (Term.All sign) e = absurd (passes-matches sign (sym e))
+  passing-step (Term.Include sign from to) e = absurd (asks-passes e)
+  passing-step (Term.A sign from to four six) e = absurd (asks-passes e)
+  passing-step (Term.Mx sign from to four six) e = absurd (asks-passes e)
+  passing-step (Term.Ptr sign from to) e = absurd (asks-passes e)
+  passing-step (Term.Exists sign from to) e = absurd (asks-passes e)
+
+  -- a term that matches
+  matching-step : (x : Term) (k : ℕ) → unaided (mail .client) x ≡ Unaided.Matches k → Steps x (matchAnswer true c) × (signOf x ≡ k)
+  unfolding unaided TriedIs signOf
+  matching-step (Term.All sign) k e = (tried-all t mail d w (Term.All sign) c b (matchAnswer true c) sign refl refl, cc)
+  matching-step (Term.Network sign from to a n) k e = by (matchesAt (mail .client) a n) refl e
+    where
+      by : (m : Bool) → matchesAt (mail .client) a n ≡ m → cond m (Unaided.Matches sign) Unaided.Passes ≡ Unaided.Matches k → Steps (Term.Network sign from to a n) (matchAnswer true c) × (sign ≡ k)
+      by true h g = (network-step sign from to n a true h, cc)
+      by false h g = absurd (passes-matches k g)
+  matching-step (Term.Redirect from to) k e = absurd (passes-matches k e)
+  matching-step (Term.Explanation from to) k e = absurd (passes-matches k e)
+  matching-step (Term.Unknown n to) k e = absurd (passes-matches k e)
+  matching-step (Term.Include sign from to) k e = absurd (asks-matches k e)
+  matching-step (Term.A sign from to four six) k e = absurd (asks-matches k e)
+  matching-step (Term.Mx sign from to four six) k e = absurd (asks-matches k e)
+  matching-step (Term.Ptr sign from to) k e = absurd (asks-matches k e)
+  matching-step (Term.Exists sign from to) k e = absurd (asks-matches k e)
+
+-- `try_terms`: the walk past the terms that pass
+module _ (t : List ℕ) (mail : Mail) (d s : List ℕ) (first : ℕ) (b : List ℕ) (c : Counts) (small : c .lookups ≤ 10) (few : c .voids ≤ 2) where
+  walk-led : (j : ℕ) → Passing (mail .client) s first j → Walk t mail d s first b c b j c
+  walk-led j Passing.none = walk-start t mail d s first b c small few
+  walk-led j (Passing.onward {j = i} {at = at} {next = next} {x = x} p q e) =
+      walk-no t mail d s first b c b i c (walk-led i p) (readTerm s i) refl at next x q (read-inside s i at next x q) (part s at next) refl (matchAnswer false c) b
+      (λ n k. passing-step (tableIn t) mail d (part s at next) c b x e (check n mail)) refl
+
+  pub walk-opened : (y : List ℕ) → s ≡ y → (j : ℕ) → Passing (mail .client) y first j → Walk t mail d s first b c b j c
+  walk-opened y f j p = walk-led j (subst (λ (z : List ℕ). Passing (mail .client) z first j) (sym f) p)
+
+-- `evaluate_record`
+pub open-passing : (client : Address) (u s : List ℕ) → u ≡ s → (o : Opening) → OpeningOf client u o → (j : ℕ) → o ≡ Opening.Open j → Passing client s 6 j
+open-passing client u s f o g j e = subst (λ (z : List ℕ). Passing client z 6 j) f (by (subst (Leads client u 6) e (g .leads)))
+  where
+    by : Leads client u 6 (Opening.Open j) → Passing client u 6 j
+    by (Leads.opened p) = p
+
+module _ (t : List ℕ) (mail : Mail) (d s : List ℕ) (c : Counts) (o : Checked) (b : List ℕ) (u : List ℕ) (f : u ≡ s) (r : Opening) (g : OpeningOf (mail .client) u r) where
+  answered : readRecord s ≡ answerOf r
+  answered = ap readRecord (sym f) ∙ sym (g .answer)
+
+  pub record-refused : (number at : ℕ) → r ≡ Opening.Refused number at → o ≡ endedOf 6 c → (n : ℕ) → 10 ≤ n + c .lookups
+      → SaysCheck t (run (tableIn t) (readOutcome mail (check n mail) d s (readRecord s) c)) o b b
+  unfolding readOutcome answerOf
+  record-refused number at q e n k = rw (answered, q) (says-ended t (tableIn t) 6 c o b e)
+
+  pub record-tried : (j : ℕ) → r ≡ Opening.Open j → (z : List ℕ)
+      → ((n : ℕ) → 10 ≤ n + c .lookups → SaysCheck t (run (tableIn t) (tryTerms mail (check n mail) d (termsOf s 6) (termsOf s 6) c)) o b z)
+      → (n : ℕ) → 10 ≤ n + c .lookups → SaysCheck t (run (tableIn t) (readOutcome mail (check n mail) d s (readRecord s) c)) o b z
+  unfolding readOutcome answerOf
+  record-tried j q z h n k = rw (answered, q) (h n k)
+
+  -- a term that matches without a lookup, and all before it pass
+  module _ (small : c .lookups ≤ 10) (few : c .voids ≤ 2) (sign : ℕ) (q : r ≡ Opening.Matched sign) (domain text : Span) (hd : d ≡ spanOf t domain) (hs : s ≡ spanOf t text)
+      (e : o ≡ signedOf sign domain text 6 c) where
+    matched-says : Leads (mail .client) s 6 (Opening.Matched sign) → (n : ℕ) → 10 ≤ n + c .lookups
+        → SaysCheck t (run (tableIn t) (tryTerms mail (check n mail) d (termsOf s 6) (termsOf s 6) c)) o b b
+    matched-says (Leads.matched {j = i} {at = at} {next = next} {x = x} p k h) =
+        let m = matching-step (tableIn t) mail d (part s at next) c b x sign h in
+        walk-yes t mail d s 6 b c o b x domain text (matchAnswer true c) (e ∙ ap (λ (v : ℕ). signedOf v domain text 6 c) (sym (m .1))) hd hs s b i c
+        (walk-led t mail d s 6 b c small few i p) refl (readTerm s i) refl at next k (read-inside s i at next x k) (part s at next) refl
+        (λ n l. m .0 (check n mail)) refl
+
+    pub record-matched : (n : ℕ) → 10 ≤ n + c .lookups → SaysCheck t (run (tableIn t) (readOutcome mail (check n mail) d s (readRecord s) c)) o b b
+    unfolding readOutcome answerOf
+    record-matched n k = rw (answered, q) (matched-says (subst (λ (z : List ℕ). Leads (mail .client) z 6 (Opening.Matched sign)) f (subst (Leads (mail .client) u 6) q (g .leads))) n k)

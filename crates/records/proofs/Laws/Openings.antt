@@ -1,0 +1,167 @@
+-- The ways out of the functions that read a record for a client: the record's answer is that of the reader, and the leading terms are as the opening
+-- says. From the laws of Checking and the definitions of Opening.
+use Prim.Native.Nat.{ℕ, _+_, _-_, _≤_, _<_}
+use mathlib.Core.Path.{_≡_, refl, sym, ap, subst, _∙_}
+use mathlib.Core.List.{List, [], _∷_}
+use mathlib.Core.Bool.{Bool, true, false, cond, _&&_, _||_}
+use lib.ListN.{length}
+use lib.Dec.{eqb}
+use borrow.Author.Tests.{eqb-true, eq-eqb, ne-eqb}
+use types.Run.{OneOf, miss}
+use denote.Enum.Declared.{tagOf, declared}
+use Rattle.address.specs.declared.Address.{Address}
+use Rattle.address.specs.Matching.{matchesAt}
+use Rattle.records.specs.declared.Term.{Term}
+use Rattle.records.specs.declared.TermAnswer.{TermAnswer}
+use Rattle.records.specs.declared.RecordAnswer.{RecordAnswer}
+use Rattle.records.specs.declared.opening.Unaided.{Unaided}
+use Rattle.records.specs.declared.opening.Opening.{Opening}
+use Rattle.records.specs.Reader.{readTerm, isRedirect, isExplanation, checkAfter, checkFrom, hasVersion, readRecord}
+use Rattle.records.specs.Opening.{unaided, Passing, Leads, Opened, OpeningOf, answerOf, ledBy, ledOn, endedIn}
+use Rattle.records.proofs.TermAnswer as answer-type
+use Rattle.records.proofs.opening.Opening as opening-type
+use Rattle.records.proofs.Laws.Checking.{Checking, checking-start, checking-past, checking-ended, checking-repeats, checking-less, checking-next, record-long, record-other, record-checked}
+
+-- `try_unaided`
+module _ (client : Address) (x : Term) (sign from to : ℕ) (a : Address) (n : ℕ) (e : x ≡ Term.Network sign from to a n) (m : Bool) (p : m ≡ matchesAt client a n) where
+  pub unaided-matches : m ≡ true → Unaided.Matches sign ≡ unaided client x
+  unfolding unaided
+  unaided-matches h = sym (simp (e, sym p ∙ h))
+
+  pub unaided-passes : m ≡ false → Unaided.Passes ≡ unaided client x
+  unfolding unaided
+  unaided-passes h = sym (simp (e, sym p ∙ h))
+
+pub unaided-by : (client : Address) (x y : Term) (r : Unaided) → x ≡ y → r ≡ unaided client y → r ≡ unaided client x
+unaided-by client x y r e h = h ∙ ap (unaided client) (sym e)
+
+-- `lead_on`
+pub lead-other : (client : Address) (o : Opening) (i n : ℕ) (x : Term) → OneOf (0 ∷ 2 ∷ []) (tagOf (declared opening-type.enum) o) → o ≡ ledOn client o i n x
+unfolding ledOn
+lead-other client (Opening.Open j) i n x h = absurd (miss (0 ∷ 2 ∷ []) 1 tt h)
+lead-other client (Opening.Matched sign) i n x h = refl
+lead-other client (Opening.Refused number p) i n x h = refl
+
+module _ (client : Address) (o : Opening) (j : ℕ) (e : o ≡ Opening.Open j) (i n : ℕ) (x : Term) where
+  pub lead-behind : (j ≡ i → ⊥) → Opening.Open j ≡ ledOn client o i n x
+  unfolding ledOn
+  lead-behind h = sym (ap (λ (y : Opening). ledOn client y i n x) e ∙ simp (ne-eqb j i h))
+
+  module _ (h : j ≡ i) (u : Unaided) (p : u ≡ unaided client x) where
+    led : ledOn client o i n x ≡ ledBy u j n
+    unfolding ledOn
+    led = ap (λ (y : Opening). ledOn client y i n x) e ∙ simp (eq-eqb j i h, sym p)
+
+    pub lead-matches : (sign : ℕ) → u ≡ Unaided.Matches sign → Opening.Matched sign ≡ ledOn client o i n x
+    unfolding ledBy
+    lead-matches sign q = sym (led ∙ simp q)
+
+    pub lead-passes : u ≡ Unaided.Passes → Opening.Open n ≡ ledOn client o i n x
+    unfolding ledBy
+    lead-passes q = sym (led ∙ simp q)
+
+    pub lead-asks : u ≡ Unaided.Asks → Opening.Open j ≡ ledOn client o i n x
+    unfolding ledBy
+    lead-asks q = sym (led ∙ simp q)
+
+-- `ended`
+pub ended-by : (a x : TermAnswer) (o r : Opening) → a ≡ x → r ≡ endedIn x o → r ≡ endedIn a o
+ended-by a x o r e h = h ∙ ap (λ (y : TermAnswer). endedIn y o) (sym e)
+
+-- `answer_of`
+pub answer-by : (o x : Opening) (r : RecordAnswer) → o ≡ x → r ≡ answerOf x → r ≡ answerOf o
+answer-by o x r e h = h ∙ ap answerOf (sym e)
+
+module _ (client : Address) (s : List ℕ) (i₀ : ℕ) where
+  -- one more term
+  leads-by : (j at n : ℕ) (x : Term) → Passing client s i₀ j → readTerm s j ≡ TermAnswer.Is at n x → (u : Unaided) → unaided client x ≡ u → Leads client s i₀ (ledBy u j n)
+  unfolding ledBy
+  leads-by j at n x p q (Unaided.Matches sign) e = Leads.matched p q e
+  leads-by j at n x p q Unaided.Passes e = Leads.opened (Passing.onward p q e)
+  leads-by j at n x p q Unaided.Asks e = Leads.opened p
+
+  leads-on : (o : Opening) → Leads client s i₀ o → (i at n : ℕ) (x : Term) → readTerm s i ≡ TermAnswer.Is at n x → Leads client s i₀ (ledOn client o i n x)
+  unfolding ledOn
+  leads-on (Opening.Matched sign) l i at n x q = l
+  leads-on (Opening.Refused number p) l i at n x q = l
+  leads-on (Opening.Open j) (Leads.opened p) i at n x q = by (eqb j i) refl
+    where
+      by : (t : Bool) → eqb j i ≡ t → Leads client s i₀ (cond t (ledBy (unaided client x) j n) (Opening.Open j))
+      by true e = leads-by j at n x p (ap (readTerm s) (eqb-true j i e) ∙ q) (unaided client x) refl
+      by false e = Leads.opened p
+
+-- one more term leaves a record that was accepted so far
+accepted-by : (j n : ℕ) (t : Bool) (u : Unaided) → answerOf (cond t (ledBy u j n) (Opening.Open j)) ≡ RecordAnswer.Accepted 6
+unfolding ledBy answerOf
+accepted-by j n true (Unaided.Matches sign) = refl
+accepted-by j n true Unaided.Passes = refl
+accepted-by j n true Unaided.Asks = refl
+accepted-by j n false u = refl
+
+accepted-on : (client : Address) (o : Opening) → answerOf o ≡ RecordAnswer.Accepted 6 → (i n : ℕ) (x : Term) → answerOf (ledOn client o i n x) ≡ RecordAnswer.Accepted 6
+unfolding ledOn answerOf
+accepted-on client (Opening.Matched sign) h i n x = refl
+accepted-on client (Opening.Refused number p) h i n x = h
+accepted-on client (Opening.Open j) h i n x = accepted-by j n (eqb j i) (unaided client x)
+
+-- part way through the terms, with the opening so far
+pub record Opens (client : Address) (s : List ℕ) (i₀ i : ℕ) (r e : Bool) (o : Opening) : Type 0 where
+  pub checks : Checking s i₀ i r e
+  pub accepted : answerOf o ≡ RecordAnswer.Accepted 6
+  pub leads : Leads client s i₀ o
+
+pub opens-start : (client : Address) (s : List ℕ) (i : ℕ) → i ≤ length s → Opens client s i i false false (Opening.Open i)
+unfolding answerOf
+opens-start client s i h = record { checks = checking-start s i h; accepted = refl; leads = Leads.opened Passing.none }
+
+module _ (client : Address) (s : List ℕ) (i₀ i : ℕ) (r e : Bool) (o : Opening) (w : Opens client s i₀ i r e o) where
+  pub opens-past : length s < i → Opened client s i₀ o
+  opens-past h = record { checks = checking-past s i₀ i r e (w .checks) h (answerOf o); leads = w .leads }
+
+  module _ (a : TermAnswer) (p : a ≡ readTerm s i) where
+    pub opens-ended : OneOf (1 ∷ 2 ∷ []) (tagOf (declared answer-type.enum) a) → (x : Opening) → x ≡ endedIn a o → Opened client s i₀ x
+    unfolding endedIn answerOf checkAfter
+    opens-ended h x g = subst (Opened client s i₀) (sym g) (by a p h)
+      where
+        by : (b : TermAnswer) → b ≡ readTerm s i → OneOf (1 ∷ 2 ∷ []) (tagOf (declared answer-type.enum) b) → Opened client s i₀ (endedIn b o)
+        by (TermAnswer.Is at n t) q k = absurd (miss (1 ∷ 2 ∷ []) 0 tt k)
+        by TermAnswer.End q k = record { checks = checking-ended s i₀ i r e (w .checks) TermAnswer.End q (answerOf o) (λ rest. w .accepted); leads = w .leads }
+        by (TermAnswer.Refused number at) q k = record {
+          checks = checking-ended s i₀ i r e (w .checks) (TermAnswer.Refused number at) q (RecordAnswer.Refused number at) (λ rest. refl);
+          leads = Leads.refused;
+        }
+
+    module _ (at n : ℕ) (t : Term) (q : a ≡ TermAnswer.Is at n t) where
+      pub opens-less : length s + 1 - n < length s + 1 - i
+      opens-less = checking-less s i₀ i r e (w .checks) a p at n t q
+
+      module _ (x : Bool) (g : x ≡ ((r && isRedirect t) || (e && isExplanation t))) where
+        pub opens-repeats : x ≡ true → Opened client s i₀ (Opening.Refused 33 at)
+        unfolding answerOf
+        opens-repeats h = record { checks = checking-repeats s i₀ i r e (w .checks) a p at n t q x g h; leads = Leads.refused }
+
+        pub opens-next : x ≡ false → (b : Bool) → b ≡ isRedirect t → (r′ : Bool) → r′ ≡ (r || b) → (c : Bool) → c ≡ isExplanation t → (e′ : Bool) → e′ ≡ (e || c)
+            → (o′ : Opening) → o′ ≡ ledOn client o i n t → Opens client s i₀ n r′ e′ o′
+        opens-next h b hb r′ hr c hc e′ he o′ k = record {
+          checks = checking-next s i₀ i r e (w .checks) a p at n t q x g h b hb r′ hr c hc e′ he;
+          accepted = ap answerOf k ∙ accepted-on client o (w .accepted) i n t;
+          leads = subst (Leads client s i₀) (sym k) (leads-on client s i₀ o (w .leads) i at n t (sym p ∙ q));
+        }
+
+-- `open_record`
+module _ (client : Address) (s : List ℕ) where
+  pub open-long : 4096 < length s → OpeningOf client s (Opening.Refused 30 0)
+  unfolding answerOf
+  open-long h = record { answer = record-long s h; leads = Leads.refused }
+
+  module _ (short : length s ≤ 4096) (x : Bool) (p : x ≡ hasVersion s) where
+    pub open-other : x ≡ false → OpeningOf client s (Opening.Refused 31 0)
+    unfolding answerOf
+    open-other h = record { answer = record-other s short x p h; leads = Leads.refused }
+
+    pub open-checked : x ≡ true → (r : Opening) → Opened client s 6 r → OpeningOf client s r
+    open-checked h r g = record { answer = record-checked s short x p h (answerOf r) (g .checks); leads = g .leads }
+
+-- `read_record`
+pub read-by : (client : Address) (s : List ℕ) (o : Opening) → OpeningOf client s o → (r : RecordAnswer) → r ≡ answerOf o → r ≡ readRecord s
+read-by client s o g r e = e ∙ g .answer
