@@ -1,9 +1,10 @@
-/* Times evaluations through talavorn.h and prints how many are done in a second; where libspf2 was there to build with, the same questions through libspf2
- * over its in-memory zone, and the ratio.
+/* Times evaluations through talavorn.h; where libspf2 was there to build with, the same questions through libspf2 over its in-memory zone.
  *
- * bench                      every case, RUNS runs of each; the fastest run counts
+ * bench                      one round: every case once; a line each, with the case's word and the microseconds of one evaluation, ours and libspf2's
  * bench CASE TIMES           one case by its number, so often, and nothing else: for a profiler
  * bench CASE TIMES libspf2   the same through libspf2, cases 1 to 3
+ *
+ * run.py plays rounds, takes medians, and counts instructions.
  */
 #define _POSIX_C_SOURCE 200809L
 #include <stdio.h>
@@ -15,18 +16,19 @@
 #include "libspf2.h"
 #include "table.h"
 
-enum { RUNS = 31 };
-static const double SECONDS = 0.03; /* of processor time that a run takes at least */
+static const double SECONDS = 0.03; /* of processor time that a case takes at least in a round */
 
 /* The reference record, with its answers. */
 static const char reference[] = "v=spf1 ip4:192.0.2.0/24 a mx include:b.example -all";
+static const uint8_t some_address[4] = { 198, 51, 100, 1 };
 
-static void make_reference(struct table *t)
+static void make_reference(struct table *t, int unused)
 {
-    static const uint8_t a[4] = { 198, 51, 100, 1 }, b[4] = { 198, 51, 100, 2 };
+    static const uint8_t b[4] = { 198, 51, 100, 2 };
+    (void)unused;
     add_text(t, "example.com", reference);
     add_entry(t, 1, "example.com");
-    add_item(t, a, 4);
+    add_item(t, some_address, 4);
     add_entry(t, 15, "example.com");
     add_item(t, "\x0a\0mx.example.com", 16);
     add_entry(t, 1, "mx.example.com");
@@ -34,77 +36,135 @@ static void make_reference(struct table *t)
     add_text(t, "b.example", "v=spf1 ip4:203.0.113.0/24 -all");
 }
 
-/* Ten includes that don't match. */
-static void make_includes(struct table *t)
+/* Includes that don't match. */
+static void make_includes(struct table *t, int count)
 {
     char record[400] = "v=spf1", name[32];
-    for (int i = 0; i < 10; i++)
+    for (int i = 0; i < count; i++)
         sprintf(record + strlen(record), " include:i%d.example", i);
     strcat(record, " -all");
     add_text(t, "example.com", record);
-    for (int i = 0; i < 10; i++) {
+    for (int i = 0; i < count; i++) {
         sprintf(name, "i%d.example", i);
         add_text(t, name, "v=spf1 ip4:203.0.113.0/24 -all");
     }
 }
 
-/* A record of 4,096 bytes: networks that don't match. */
-static void make_long(struct table *t)
+/* A record of so many bytes: networks that don't match, then -all. */
+static void make_networks(struct table *t, int size)
 {
-    char record[4128] = "v=spf1";
-    size_t size = 6;
-    for (int i = 0; size < 4096 - 5 - 20; i++)
-        size += (size_t)sprintf(record + size, " ip4:10.1.%d.%d", i / 256, i % 256);
-    memset(record + size, ' ', 4096 - 5 - size);
-    strcpy(record + 4096 - 5, " -all");
+    static char record[4128];
+    size_t at = 6, end = (size_t)size - 5;
+    strcpy(record, "v=spf1");
+    for (int i = 0; at < end - 20; i++)
+        at += (size_t)sprintf(record + at, " ip4:10.1.%d.%d", i / 256, i % 256);
+    memset(record + at, ' ', end - at);
+    strcpy(record + end, " -all");
     add_text(t, "example.com", record);
 }
 
-/* 512 entries; the names differ in three digits. */
-static void make_full(struct table *t)
+/* The reference record and so many entries in all; the names differ in three digits. */
+static void make_entries(struct table *t, int count)
 {
-    static const uint8_t a[4] = { 198, 51, 100, 1 };
     char name[32];
     add_text(t, "example.com", reference);
-    for (int i = 0; i < 511; i++) {
+    for (int i = 0; i < count - 1; i++) {
         sprintf(name, "host%03d.example.com", i);
         add_entry(t, 1, name);
-        add_item(t, a, 4);
+        add_item(t, some_address, 4);
+    }
+}
+
+/* The marks that the check of a table makes of a pair: crates/table/src/marks.rt. */
+static uint32_t digest(uint32_t kind, const char *name)
+{
+    uint32_t h = kind;
+    while (*name)
+        h = h * 1664525u + (uint8_t)*name++;
+    return h;
+}
+
+/* The same, chosen by someone who knows the marks: but for the first 100, both marks of each name are set by those before, so that each is searched for
+ * among all before it. */
+static void make_hostile(struct table *t, int count)
+{
+    static char set[16384];
+    char name[32];
+    memset(set, 0, sizeof set);
+    add_text(t, "example.com", reference);
+    for (int i = 0, tried = 0; i < count - 1; tried++) {
+        sprintf(name, "host%d.example.com", tried);
+        uint32_t h = digest(1, name), a = h % 16384, b = h / 262144;
+        if (i >= 100 && !(set[a] && set[b]))
+            continue;
+        set[a] = set[b] = 1;
+        add_entry(t, 1, name);
+        add_item(t, some_address, 4);
+        i++;
     }
 }
 
 /* The reference record with a bad last term. */
-static void make_refused(struct table *t)
+static void make_refused(struct table *t, int unused)
 {
+    (void)unused;
     add_text(t, "example.com", "v=spf1 ip4:192.0.2.0/24 a mx include:b.example -al");
 }
 
+static struct table table, zone;
+
+static int evaluate(int i);
+static int play(int i);
+static int ask_libspf2(int i);
+
 static const struct {
-    const char *what;
-    void (*make)(struct table *);
+    const char *word, *what;
+    void (*make)(struct table *, int);
+    int size;
     uint8_t client[4];
     uint8_t number;
-    int libspf2; /* whether libspf2 is asked too */
+    int libspf2;        /* whether libspf2 is asked too */
+    int (*call)(int);   /* one evaluation, or all rounds from an empty table */
 } cases[] = {
-    { "first match: pass", make_reference, { 192, 0, 2, 1 }, TALAVORN_PASS, 1 },
-    { "include match: pass", make_reference, { 203, 0, 113, 1 }, TALAVORN_PASS, 1 },
-    { "final -all: fail", make_reference, { 10, 0, 0, 1 }, TALAVORN_FAIL, 1 },
-    { "ten includes: fail", make_includes, { 10, 0, 0, 1 }, TALAVORN_FAIL, 0 },
-    { "4,096 bytes of terms: fail", make_long, { 192, 0, 2, 1 }, TALAVORN_FAIL, 0 },
-    { "table of 512 entries: pass", make_full, { 192, 0, 2, 1 }, TALAVORN_PASS, 0 },
-    { "refused record: permerror", make_refused, { 192, 0, 2, 1 }, TALAVORN_PERMERROR, 0 },
+    { "first", "first match: pass", make_reference, 0, { 192, 0, 2, 1 }, TALAVORN_PASS, 1, evaluate },
+    { "include", "include match: pass", make_reference, 0, { 203, 0, 113, 1 }, TALAVORN_PASS, 1, evaluate },
+    { "fail", "final -all: fail", make_reference, 0, { 10, 0, 0, 1 }, TALAVORN_FAIL, 1, evaluate },
+    { "includes", "ten includes: fail", make_includes, 10, { 10, 0, 0, 1 }, TALAVORN_FAIL, 0, evaluate },
+    { "terms-4096", "4,096 bytes of terms: fail", make_networks, 4096, { 192, 0, 2, 1 }, TALAVORN_FAIL, 0, evaluate },
+    { "entries-512", "table of 512 entries: pass", make_entries, 512, { 192, 0, 2, 1 }, TALAVORN_PASS, 0, evaluate },
+    { "refused", "refused record: permerror", make_refused, 0, { 192, 0, 2, 1 }, TALAVORN_PERMERROR, 0, evaluate },
+    { "terms-1024", "1,024 bytes of terms: fail", make_networks, 1024, { 192, 0, 2, 1 }, TALAVORN_FAIL, 0, evaluate },
+    { "terms-2048", "2,048 bytes of terms: fail", make_networks, 2048, { 192, 0, 2, 1 }, TALAVORN_FAIL, 0, evaluate },
+    { "entries-64", "table of 64 entries: pass", make_entries, 64, { 192, 0, 2, 1 }, TALAVORN_PASS, 0, evaluate },
+    { "entries-128", "table of 128 entries: pass", make_entries, 128, { 192, 0, 2, 1 }, TALAVORN_PASS, 0, evaluate },
+    { "entries-256", "table of 256 entries: pass", make_entries, 256, { 192, 0, 2, 1 }, TALAVORN_PASS, 0, evaluate },
+    { "hostile-512", "512 entries with chosen marks: pass", make_hostile, 512, { 192, 0, 2, 1 }, TALAVORN_PASS, 0, evaluate },
+    { "play-first", "first match, from an empty table", make_reference, 0, { 192, 0, 2, 1 }, TALAVORN_PASS, 0, play },
+    { "play-fail", "final -all, from an empty table", make_reference, 0, { 10, 0, 0, 1 }, TALAVORN_FAIL, 0, play },
+    { "play-includes", "ten includes, from an empty table", make_includes, 10, { 10, 0, 0, 1 }, TALAVORN_FAIL, 0, play },
 };
 enum { CASES = sizeof cases / sizeof *cases };
 
-static struct table table;
+static uint8_t name[253], text[500];
+static size_t values[TALAVORN_VALUES];
 
 static int evaluate(int i)
 {
 #define TEXT(s) (const uint8_t *)(s), sizeof(s) - 1
-    static uint8_t name[253], text[500];
-    static size_t values[TALAVORN_VALUES];
     return talavorn_evaluate(cases[i].client, 4, TEXT("example.com"), TEXT("user@example.com"), TEXT("mail.example.com"), TEXT("mx.relay.example"), 1700000000,
                              table.bytes, table.size, name, sizeof name, text, sizeof text, values);
+}
+
+/* What a relay does that begins with an empty table: it evaluates, asks for what is wanting, adds the answer and evaluates again, up to the result. Its
+ * resolver's answers stand in the zone. */
+static int play(int i)
+{
+    int number;
+    table.size = 0;
+    while ((number = evaluate(i)) == TALAVORN_WANTING)
+        if (!copy_entry(&table, &zone, values[0], name, values[3]))
+            return -1;
+    return number;
 }
 
 static int ask_libspf2(int i)
@@ -119,8 +179,8 @@ static double now(void)
     return (double)t.tv_sec + (double)t.tv_nsec * 1e-9;
 }
 
-/* Seconds for one of them, in a run. */
-static double run(int (*call)(int), int i)
+/* Microseconds for one of them, over so many seconds at least. */
+static double run(int (*call)(int), int i, double seconds)
 {
     long done = 0, batch = 1;
     double start = now(), passed;
@@ -130,60 +190,58 @@ static double run(int (*call)(int), int i)
         done += batch;
         batch *= 2;
         passed = now() - start;
-    } while (passed < SECONDS);
-    return passed / (double)done;
+    } while (passed < seconds);
+    return passed / (double)done * 1e6;
 }
 
-static void show(double seconds) { printf(" %12.0f %12.3f", 1 / seconds, seconds * 1e6); }
+/* The same, warm. */
+static double timed(int (*call)(int), int i)
+{
+    run(call, i, SECONDS / 3);
+    return run(call, i, SECONDS);
+}
 
 static int check(const char *who, const char *what, int got, int expected)
 {
     if (got == expected)
         return 1;
-    printf("%s answers %d and not %d: %s\n", who, got, expected, what);
+    fprintf(stderr, "%s answers %d and not %d: %s\n", who, got, expected, what);
     return 0;
+}
+
+static void set_up(int i)
+{
+    struct table *t = cases[i].call == play ? &zone : &table;
+    t->size = 0;
+    cases[i].make(t, cases[i].size);
 }
 
 /* One case, so often, for a profiler. */
 static int repeat(int i, long times, int through_libspf2)
 {
-    table.size = 0;
-    cases[i].make(&table);
+    set_up(i);
     if (through_libspf2 && !(cases[i].libspf2 && libspf2_open(reference))) {
         fprintf(stderr, "bench: case %d has no libspf2\n", i + 1);
         return 2;
     }
-    int (*call)(int) = through_libspf2 ? ask_libspf2 : evaluate;
+    int (*call)(int) = through_libspf2 ? ask_libspf2 : cases[i].call;
     for (long k = 0; k < times; k++)
         if (!check("bench", cases[i].what, call(i), cases[i].number))
             return 1;
     return 0;
 }
 
-/* The fastest of some runs, libspf2's and ours by turns, on a line. */
+/* One case on a line. Each answer is compared before it is timed. */
 static int measure(int i, int beside)
 {
-    table.size = 0;
-    cases[i].make(&table);
-    int both = beside && cases[i].libspf2;
-    if (!check("talavorn", cases[i].what, evaluate(i), cases[i].number))
+    set_up(i);
+    if (!check("talavorn", cases[i].what, cases[i].call(i), cases[i].number))
         return 1;
-    if (both && !check("libspf2", cases[i].what, ask_libspf2(i), cases[i].number))
-        return 1;
-    double ours = 1e9, theirs = 1e9;
-    for (int k = 0; k < RUNS; k++) {
-        double s = run(evaluate, i);
-        ours = s < ours ? s : ours;
-        if (both) {
-            s = run(ask_libspf2, i);
-            theirs = s < theirs ? s : theirs;
-        }
-    }
-    printf("%-30s", cases[i].what);
-    show(ours);
-    if (both) {
-        show(theirs);
-        printf(" %8.2f", theirs / ours);
+    printf("%d\t%s\t%s\t%.4f", i + 1, cases[i].word, cases[i].what, timed(cases[i].call, i));
+    if (beside && cases[i].libspf2) {
+        if (!check("libspf2", cases[i].what, ask_libspf2(i), cases[i].number))
+            return 1;
+        printf("\t%.4f", timed(ask_libspf2, i));
     }
     putchar('\n');
     fflush(stdout);
@@ -202,10 +260,8 @@ int main(int argc, char **argv)
         return 2;
     }
     int beside = libspf2_open(reference);
-    printf("%-30s %12s %12s", "case", "a second", "microseconds");
-    if (beside)
-        printf(" %12s %12s %8s", "libspf2", "microseconds", "ratio");
-    putchar('\n');
+    set_up(0);
+    run(evaluate, 0, 10 * SECONDS); /* until the processor is awake */
     for (int i = 0; i < CASES; i++)
         if (measure(i, beside) != 0)
             return 1;

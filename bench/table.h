@@ -62,3 +62,21 @@ static inline void add_text(struct table *t, const char *name, const char *text)
     add_entry(t, 16, name);
     add_item(t, text, strlen(text));
 }
+
+/* Copies the entry of a kind and a name from another table; answers whether it has one. */
+static inline int copy_entry(struct table *t, const struct table *from, size_t kind, const uint8_t *name, size_t n)
+{
+    for (size_t at = 0; at < from->size;) {
+        const uint8_t *e = from->bytes + at;
+        size_t size = 2 + e[0] + 256 * (size_t)e[1];
+        if (e[2] + 256 * (size_t)e[3] == kind && e[5] == n && memcmp(e + 6, name, n) == 0) {
+            if (sizeof t->bytes - t->size < size)
+                abort();
+            memcpy(t->bytes + t->size, e, size);
+            t->size += size;
+            return 1;
+        }
+        at += size;
+    }
+    return 0;
+}
