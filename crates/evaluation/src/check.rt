@@ -23,6 +23,7 @@ use meaning::Span;
 use meaning::Stepped;
 use meaning::Target;
 use mechanisms::Tried;
+use records::AFTER_VERSION;
 use records::Term;
 use records::TermAnswer;
 use records::opening;
@@ -191,7 +192,7 @@ fn evaluate_record(
 {
     match opening::open_record(bytes::part(table, text.from, text.to), client) {
         Opening::Refused { number: _, at: _ } => ended(6, counts),
-        Opening::Matched { sign } => sign_result(sign, domain, text, 6, counts),
+        Opening::Matched { sign } => sign_result(sign, domain, text, AFTER_VERSION, counts),
         Opening::Open { at } => try_terms(
             client,
             sender,
@@ -201,7 +202,7 @@ fn evaluate_record(
             table,
             domain,
             text,
-            6,
+            AFTER_VERSION,
             at,
             counts,
             out,

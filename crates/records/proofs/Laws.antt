@@ -36,5 +36,7 @@ pub mod Fronts
 pub mod Checking
 -- Openings: the ways out of the functions that read a record for a client.
 pub mod Openings
+-- OneOpening: a record has one opening for a client.
+pub mod OneOpening
 -- Claim: reading a record and then its terms, as one claim.
 pub mod Claim

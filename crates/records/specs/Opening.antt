@@ -14,7 +14,8 @@ use Rattle.records.specs.declared.opening.Unaided.{Unaided}
 use Rattle.records.specs.declared.opening.Opening.{Opening}
 use Rattle.records.specs.Reader.{readTerm, checkFrom, readRecord}
 
--- what a term says of a client without a lookup: a network of the client matches, and so does `all`; any other network and a modifier pass
+-- what a term says of a client without a lookup: a network of the client matches, and so does `all`; any other network and a modifier pass. Lookups are
+-- those that 01 counts: "include, a, mx, ptr, exists and a used redirect count one each when begun"
 unfoldable pub unaided : Address → Term → Unaided
 unaided client (Term.All sign) = Unaided.Matches sign
 unaided client (Term.Network sign from to a n) = cond (matchesAt client a n) (Unaided.Matches sign) Unaided.Passes
@@ -27,19 +28,23 @@ unaided client (Term.Mx sign from to four six) = Unaided.Asks
 unaided client (Term.Ptr sign from to) = Unaided.Asks
 unaided client (Term.Exists sign from to) = Unaided.Asks
 
--- the terms read from a place up to another pass
+-- the terms read from a place up to another pass; "Terms run left to right; the first match gives its sign's result"
 pub data Passing (client : Address) (s : List ℕ) (i : ℕ) : ℕ → Type 0 where
   none : Passing client s i i
   onward : {j at next : ℕ} {x : Term} → Passing client s i j → readTerm s j ≡ TermAnswer.Is at next x → unaided client x ≡ Unaided.Passes → Passing client s i next
 
--- what an opening tells of the terms from a place on
+-- the term that is read at a place, if any is, needs a lookup
+abbrev pub Asking : Address → List ℕ → ℕ → Type 0
+Asking client s j = (at next : ℕ) (x : Term) → readTerm s j ≡ TermAnswer.Is at next x → unaided client x ≡ Unaided.Asks
+
+-- what an opening tells of the terms from a place on: all that pass are passed; the next one matches, or needs a lookup, or there is none
 pub data Leads (client : Address) (s : List ℕ) (i : ℕ) : Opening → Type 0 where
-  opened : {j : ℕ} → Passing client s i j → Leads client s i (Opening.Open j)
+  opened : {j : ℕ} → Passing client s i j → Asking client s j → Leads client s i (Opening.Open j)
   matched : {j at next sign : ℕ} {x : Term} → Passing client s i j → readTerm s j ≡ TermAnswer.Is at next x → unaided client x ≡ Unaided.Matches sign
       → Leads client s i (Opening.Matched sign)
   refused : {number p : ℕ} → Leads client s i (Opening.Refused number p)
 
--- the same without the client
+-- the record's answer, the same for every client
 unfoldable pub answerOf : Opening → RecordAnswer
 answerOf (Opening.Matched sign) = RecordAnswer.Accepted 6
 answerOf (Opening.Open i) = RecordAnswer.Accepted 6

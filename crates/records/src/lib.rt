@@ -181,13 +181,16 @@ pub fn has_version(s: &[u8]) -> bool
     false
 }
 
+// Where the terms of a record begin: just after its version.
+pub const AFTER_VERSION: usize = 6;
+
 // The answer of a record that was read for a client.
 fn answer_of(opening: Opening) -> RecordAnswer
     ensures { λ r. ⌜ r ≡ answerOf opening ⌝ }
 {
     match opening {
-        Opening::Matched { sign: _ } => RecordAnswer::Accepted(6),
-        Opening::Open { at: _ } => RecordAnswer::Accepted(6),
+        Opening::Matched { sign: _ } => RecordAnswer::Accepted(AFTER_VERSION),
+        Opening::Open { at: _ } => RecordAnswer::Accepted(AFTER_VERSION),
         Opening::Refused { number, at } => RecordAnswer::Refused { number, at },
     }
 }

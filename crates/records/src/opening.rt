@@ -5,6 +5,7 @@ ghost use Prim.Native.Nat.{_≤_};
 ghost use lib.ListN.{length};
 ghost use Rattle.records.specs.Reader.{isRedirect, isExplanation};
 ghost use Rattle.records.specs.Opening.{unaided, ledOn, endedIn, Opened, OpeningOf};
+use crate::AFTER_VERSION;
 use crate::Term;
 use crate::TermAnswer;
 use crate::has_version;
@@ -200,7 +201,7 @@ pub fn open_record(s: &[u8], client: Address) -> Opening
         return Opening::Refused { number: 30, at: 0 };
     }
     if has_version(s) {
-        return check_terms(s, 6, client);
+        return check_terms(s, AFTER_VERSION, client);
     }
     Opening::Refused { number: 31, at: 0 }
 }

@@ -1,3 +1,4 @@
+-- How the check finds a "pair seen before" (26) without a search for each; what it answers is said in Answers, and no mark is mentioned there.
 -- Marks of kind and name pairs: 16,384 bits in 256 words, of which each pair has two. Equal pairs have the same two, so a pair of which one is
 -- clear stands nowhere among the entries whose pairs are marked.
 use Prim.Native.Nat.{ℕ, _+_, _*_, _/_, _%_, _^_, _<_}

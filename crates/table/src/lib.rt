@@ -42,6 +42,9 @@ pub enum Step {
     Repeated,
 }
 
+// The bytes of a table that is searched for each pair; in a larger one pairs are marked.
+const SMALL: usize = 512;
+
 // The entry of a kind and a name.
 pub fn find(table: &[u8], kind: u16, name: &[u8]) -> Found
     ensures { λ r. ⌜ r ≡ findAt (now (table .entry)) kind (now (name .entry)) ⌝ }
@@ -111,7 +114,7 @@ fn step_at(table: &[u8], at: usize, marks: &mut [u64]) -> Step
     };
     if entries::is_well(rest, h) {
         let name = entries::name_of(rest, n);
-        if marks::is_new(512 < table.len(), marks, kind, name) {
+        if marks::is_new(SMALL < table.len(), marks, kind, name) {
             return Step::Next(at + size);
         }
         let Found::Missing = find(&table[..at], kind, name) else {
@@ -157,8 +160,8 @@ pub fn check_table(table: &[u8]) -> TableAnswer
     if 65535 < table.len() {
         return TableAnswer::TooLong;
     }
-    if 512 < table.len() {
-        let mut marks = [0u64; 256];
+    if SMALL < table.len() {
+        let mut marks = [0u64; marks::WORDS];
         return check_entries(table, &mut marks);
     }
     let mut none = [0u64; 1];

@@ -5,6 +5,18 @@ ghost use mathlib.Core.Bool.{true};
 ghost use lib.ListN.{length};
 ghost use Rattle.table.specs.Marks.{digestOf, isMarked, SetsMark, NotesPair};
 
+// How many words the marks of a large table take.
+pub const WORDS: usize = 256;
+
+// How many marks there are.
+const MARKS: u64 = 16384;
+
+// The numbers of pairs are below this.
+const NUMBERS: u64 = 4294967296;
+
+// What a number is divided by for its highest bits, as many as a mark has.
+const ABOVE: u64 = NUMBERS / MARKS;
+
 // A number made of a kind and a name; equal pairs have equal numbers.
 fn digest(kind: u16, name: &[u8]) -> u64
     ensures { λ r. ⌜ r ≡ digestOf kind (now (name .entry)) ⌝ }
@@ -13,7 +25,7 @@ fn digest(kind: u16, name: &[u8]) -> u64
     let mut h = kind as u64;
     let mut i = 0;
     while i < name.len() {
-        h = (h * 1664525 + name[i] as u64) % 4294967296;
+        h = (h * 1664525 + name[i] as u64) % NUMBERS;
         i += 1;
     }
     h
@@ -35,14 +47,14 @@ fn set_mark(marks: &mut [u64], mark: usize)
     marks[mark / 64] = marks[mark / 64] | (1 << (mark % 64));
 }
 
-// Marks a pair; answers whether one of its marks was new, so that no equal pair was marked before.
+// Marks a pair by the lowest and the highest bits of its number; answers whether one of its marks was new, so that no equal pair was marked before.
 fn mark_pair(marks: &mut [u64], kind: u16, name: &[u8]) -> bool
     requires { ⌜ length (now marks) ≡ 256 ⌝ }
     ensures { λ r. ⌜ NotesPair true (now (marks .entry)) kind (now (name .entry)) r (now (marks .exit)) ⌝ }
 {
     let h = digest(kind, name);
-    let a = (h % 16384) as usize;
-    let b = (h / 262144) as usize;
+    let a = (h % MARKS) as usize;
+    let b = (h / ABOVE) as usize;
     if is_marked(marks, a) {
         if is_marked(marks, b) {
             return false;

@@ -114,7 +114,7 @@ pub open-passing : (client : Address) (u s : List ℕ) → u ≡ s → (o : Open
 open-passing client u s f o g j e = subst (λ (z : List ℕ). Passing client z 6 j) f (by (subst (Leads client u 6) e (g .leads)))
   where
     by : Leads client u 6 (Opening.Open j) → Passing client u 6 j
-    by (Leads.opened p) = p
+    by (Leads.opened p a) = p
 
 module _ (t : List ℕ) (mail : Mail) (d s : List ℕ) (c : Counts) (o : Checked) (b : List ℕ) (u : List ℕ) (f : u ≡ s) (r : Opening) (g : OpeningOf (mail .client) u r) where
   answered : readRecord s ≡ answerOf r

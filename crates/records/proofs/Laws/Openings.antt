@@ -4,6 +4,7 @@ use Prim.Native.Nat.{ℕ, _+_, _-_, _≤_, _<_}
 use mathlib.Core.Path.{_≡_, refl, sym, ap, subst, _∙_}
 use mathlib.Core.List.{List, [], _∷_}
 use mathlib.Core.Bool.{Bool, true, false, cond, _&&_, _||_}
+use native.Mathlib.Omega.{arith}
 use lib.ListN.{length}
 use lib.Dec.{eqb}
 use borrow.Author.Tests.{eqb-true, eq-eqb, ne-eqb}
@@ -72,23 +73,41 @@ ended-by a x o r e h = h ∙ ap (λ (y : TermAnswer). endedIn y o) (sym e)
 pub answer-by : (o x : Opening) (r : RecordAnswer) → o ≡ x → r ≡ answerOf x → r ≡ answerOf o
 answer-by o x r e h = h ∙ ap answerOf (sym e)
 
-module _ (client : Address) (s : List ℕ) (i₀ : ℕ) where
-  -- one more term
-  leads-by : (j at n : ℕ) (x : Term) → Passing client s i₀ j → readTerm s j ≡ TermAnswer.Is at n x → (u : Unaided) → unaided client x ≡ u → Leads client s i₀ (ledBy u j n)
-  unfolding ledBy
-  leads-by j at n x p q (Unaided.Matches sign) e = Leads.matched p q e
-  leads-by j at n x p q Unaided.Passes e = Leads.opened (Passing.onward p q e)
-  leads-by j at n x p q Unaided.Asks e = Leads.opened p
+-- part way: all terms up to here pass, or the opening is known already
+pub data Led (client : Address) (s : List ℕ) (i₀ i : ℕ) : Opening → Type 0 where
+  passing : Passing client s i₀ i → Led client s i₀ i (Opening.Open i)
+  known : {o : Opening} → Leads client s i₀ o → Led client s i₀ i o
 
-  leads-on : (o : Opening) → Leads client s i₀ o → (i at n : ℕ) (x : Term) → readTerm s i ≡ TermAnswer.Is at n x → Leads client s i₀ (ledOn client o i n x)
-  unfolding ledOn
-  leads-on (Opening.Matched sign) l i at n x q = l
-  leads-on (Opening.Refused number p) l i at n x q = l
-  leads-on (Opening.Open j) (Leads.opened p) i at n x q = by (eqb j i) refl
+-- a place has one term
+pub one-term : (s : List ℕ) (j at n at′ n′ : ℕ) (x x′ : Term) → readTerm s j ≡ TermAnswer.Is at n x → readTerm s j ≡ TermAnswer.Is at′ n′ x′ → (n ≡ n′) × (x ≡ x′)
+one-term s j at n at′ n′ x x′ p q = let e : TermAnswer.Is at n x ≡ TermAnswer.Is at′ n′ x′ = sym p ∙ q in (cc, cc)
+
+module _ (client : Address) (s : List ℕ) (i₀ i at n : ℕ) (x : Term) (q : readTerm s i ≡ TermAnswer.Is at n x) where
+  -- one more term, all before it passing
+  led-by : Passing client s i₀ i → (u : Unaided) → unaided client x ≡ u → Led client s i₀ n (ledBy u i n)
+  unfolding ledBy
+  led-by p (Unaided.Matches sign) e = known (Leads.matched p q e)
+  led-by p Unaided.Passes e = passing (Passing.onward p q e)
+  led-by p Unaided.Asks e = known (Leads.opened p (λ at′ n′ x′ q′. ap (unaided client) (sym (one-term s i at n at′ n′ x x′ q q′ .1)) ∙ e))
+
+  led-on : (o : Opening) → Led client s i₀ i o → Led client s i₀ n (ledOn client o i n x)
+  unfolding ledOn ledBy
+  led-on o (passing p) = rw (eq-eqb i i refl) (led-by p (unaided client x) refl)
+  led-on o (known (Leads.matched p r e)) = known (Leads.matched p r e)
+  led-on o (known Leads.refused) = known Leads.refused
+  led-on o (known (Leads.opened {j = j} p a)) = by (eqb j i) refl
     where
-      by : (t : Bool) → eqb j i ≡ t → Leads client s i₀ (cond t (ledBy (unaided client x) j n) (Opening.Open j))
-      by true e = leads-by j at n x p (ap (readTerm s) (eqb-true j i e) ∙ q) (unaided client x) refl
-      by false e = Leads.opened p
+      by : (t : Bool) → eqb j i ≡ t → Led client s i₀ n (cond t (ledBy (unaided client x) j n) (Opening.Open j))
+      by true e = rw (a at n x (ap (readTerm s) (eqb-true j i e) ∙ q)) (known (Leads.opened p a))
+      by false e = known (Leads.opened p a)
+
+-- no more term
+no-term : (at n : ℕ) (x : Term) → TermAnswer.End ≡ TermAnswer.Is at n x → ⊥
+no-term at n x e = let z : _≡_ {A = ℕ} 0 1 = cc in omega arith
+
+led-last : (client : Address) (s : List ℕ) (i₀ i : ℕ) (o : Opening) → Led client s i₀ i o → TermAnswer.End ≡ readTerm s i → Leads client s i₀ o
+led-last client s i₀ i o (passing p) q = Leads.opened p (λ at n x r. absurd (no-term at n x (q ∙ r)))
+led-last client s i₀ i o (known l) q = l
 
 -- one more term leaves a record that was accepted so far
 accepted-by : (j n : ℕ) (t : Bool) (u : Unaided) → answerOf (cond t (ledBy u j n) (Opening.Open j)) ≡ RecordAnswer.Accepted 6
@@ -108,15 +127,15 @@ accepted-on client (Opening.Open j) h i n x = accepted-by j n (eqb j i) (unaided
 pub record Opens (client : Address) (s : List ℕ) (i₀ i : ℕ) (r e : Bool) (o : Opening) : Type 0 where
   pub checks : Checking s i₀ i r e
   pub accepted : answerOf o ≡ RecordAnswer.Accepted 6
-  pub leads : Leads client s i₀ o
+  pub leads : Led client s i₀ i o
 
 pub opens-start : (client : Address) (s : List ℕ) (i : ℕ) → i ≤ length s → Opens client s i i false false (Opening.Open i)
 unfolding answerOf
-opens-start client s i h = record { checks = checking-start s i h; accepted = refl; leads = Leads.opened Passing.none }
+opens-start client s i h = record { checks = checking-start s i h; accepted = refl; leads = passing Passing.none }
 
 module _ (client : Address) (s : List ℕ) (i₀ i : ℕ) (r e : Bool) (o : Opening) (w : Opens client s i₀ i r e o) where
   pub opens-past : length s < i → Opened client s i₀ o
-  opens-past h = record { checks = checking-past s i₀ i r e (w .checks) h (answerOf o); leads = w .leads }
+  opens-past h = absurd (omega (arith, w .checks .inside))
 
   module _ (a : TermAnswer) (p : a ≡ readTerm s i) where
     pub opens-ended : OneOf (1 ∷ 2 ∷ []) (tagOf (declared answer-type.enum) a) → (x : Opening) → x ≡ endedIn a o → Opened client s i₀ x
@@ -125,7 +144,7 @@ module _ (client : Address) (s : List ℕ) (i₀ i : ℕ) (r e : Bool) (o : Open
       where
         by : (b : TermAnswer) → b ≡ readTerm s i → OneOf (1 ∷ 2 ∷ []) (tagOf (declared answer-type.enum) b) → Opened client s i₀ (endedIn b o)
         by (TermAnswer.Is at n t) q k = absurd (miss (1 ∷ 2 ∷ []) 0 tt k)
-        by TermAnswer.End q k = record { checks = checking-ended s i₀ i r e (w .checks) TermAnswer.End q (answerOf o) (λ rest. w .accepted); leads = w .leads }
+        by TermAnswer.End q k = record { checks = checking-ended s i₀ i r e (w .checks) TermAnswer.End q (answerOf o) (λ rest. w .accepted); leads = led-last client s i₀ i o (w .leads) q }
         by (TermAnswer.Refused number at) q k = record {
           checks = checking-ended s i₀ i r e (w .checks) (TermAnswer.Refused number at) q (RecordAnswer.Refused number at) (λ rest. refl);
           leads = Leads.refused;
@@ -145,7 +164,7 @@ module _ (client : Address) (s : List ℕ) (i₀ i : ℕ) (r e : Bool) (o : Open
         opens-next h b hb r′ hr c hc e′ he o′ k = record {
           checks = checking-next s i₀ i r e (w .checks) a p at n t q x g h b hb r′ hr c hc e′ he;
           accepted = ap answerOf k ∙ accepted-on client o (w .accepted) i n t;
-          leads = subst (Leads client s i₀) (sym k) (leads-on client s i₀ o (w .leads) i at n t (sym p ∙ q));
+          leads = subst (Led client s i₀ n) (sym k) (led-on client s i₀ i at n t (sym p ∙ q) o (w .leads));
         }
 
 -- `open_record`
