@@ -159,6 +159,22 @@ def check_input(label, expected, text):
     case("check", label, answer(expected), hexed(text))
 
 
+def wide(label, expected, count, byte, front, rest):
+    """The input of a check that is front, so many of a byte, and rest, held chunk by chunk."""
+    case("wide", label, answer(expected), count, ord(byte), hexed(front), hexed(rest))
+
+
+def listing(label, text, *terms):
+    """What the record printer prints of its input: the header and a line for each term."""
+    unlisted(label, "\n".join(("at term sign arg four six", *terms)), text)
+
+
+def unlisted(label, expected, text):
+    """The same for a refusal, which has no header."""
+    need(len(text) <= TEXT, label, "is too long")
+    case("listing", label, expected, hexed(text))
+
+
 def lent(label, expected, *entries, name=253, text=500, zeros=0, **arguments):
     case("lent", label, answer(expected), name, text, zeros, hexed(input_of(entries, **arguments)))
 
@@ -427,6 +443,11 @@ def part_one():
     check("Q12-exp", "7 16 0 0 com", R("v=spf1 -all exp=%{d1}"))
     check("Q12-exists-p", "7 1 1 0 unknown", R("v=spf1 exists:%{p} -all"), absent("PTR", REV))
     check("Q12-include-p", "6 . 1 0", R("v=spf1 include:%{p} -all"), absent("PTR", REV), TXT("unknown", "v=spf1 +all"))
+    # p is the current domain wherever it stands among the validated names
+    check("p-current-first", "7 1 1 0 example.com.x", R("v=spf1 exists:%{p}.x -all"), PTR(REV, "example.com", "m.example.com", "o.example"),
+          A("example.com", CLIENT), A("m.example.com", CLIENT), A("o.example", CLIENT))
+    check("p-current-last", "7 1 1 0 example.com.x", R("v=spf1 exists:%{p}.x -all"), PTR(REV, "o.example", "m.example.com", "example.com"),
+          A("example.com", CLIENT), A("m.example.com", CLIENT), A("o.example", CLIENT))
 
     heading("Q13: p's questions of include, redirect and exp")
     check("Q13-include", "7 12 1 0 " + REV, R("v=spf1 include:%{p}..x.y -all"))
@@ -928,9 +949,103 @@ def edges():
         lent(f"order-{number}", f"{number} {'0' if number == 25 else '.'} 0 0", b"\x00", **bad)
 
 
+# The programs' inputs.
+
+
+def programs():
+    lines = ["192.0.2.129\n", "example.com\n", "user@example.com\n", "helo.example\n", "\n", "7\n"]
+    table = table_of([R("v=spf1 -all")]).decode("latin-1")
+    told = table_of([R("v=spf1 -all exp=why.%{d}"), TXT("why.example.com", "%{t}")]).decode("latin-1")
+
+    def over(label, expected, count, byte, line, before="", after=None, tables=table):
+        """A line with so many of a byte in it: what stands before and after them in the line, and the other lines as they are."""
+        end = lines[line] if after is None else after
+        front, rest = "".join(lines[:line]) + before, end + "".join(lines[line + 1 :]) + tables
+        wide(label, expected, count, byte, front.encode("latin-1"), rest.encode("latin-1"))
+
+    heading("the lines and the table that the check program reads, up to and over their limits, held chunk by chunk")
+    over("input-client-long", "input", 100000, "1", 0, after="\n")
+    over("input-client-zeros", "input", 100000, "0", 0)
+    over("input-domain-255", "0 . 0 0", 243, "a", 1, after=".example.com\n")
+    over("input-domain-256", "22 . 0 0", 244, "a", 1, after=".example.com\n")
+    over("input-domain-long", "22 . 0 0", 100000, "a", 1, after=".example.com\n")
+    over("input-sender-320", "3 . 0 0", 304, "a", 2)
+    over("input-sender-321", "20 . 0 0", 305, "a", 2)
+    over("input-sender-long", "20 . 0 0", 100000, "a", 2)
+    over("input-helo-255", "3 . 0 0", 243, "a", 3)
+    over("input-helo-256", "21 . 0 0", 244, "a", 3)
+    over("input-helo-long", "21 . 0 0", 100000, "a", 3)
+    over("input-receiver-255", "3 . 0 0", 255, "a", 4)
+    over("input-receiver-256", "21 . 0 0", 256, "a", 4)
+    over("input-receiver-long", "21 . 0 0", 100000, "a", 4)
+    # 21 comes before 22: what follows an over-long line counts.
+    rest = ".example.com\nuser@example.com\nhelo example\n\n7\n" + table
+    wide("input-domain-and-helo-long", "21 . 0 0", 100000, "a", lines[0], rest.encode("latin-1"))
+    over("input-t-zeros-30", "3 . 0 0 7", 30, "0", 5, tables=told)
+    over("input-t-zeros-long", "3 . 0 0 7", 100000, "0", 5, tables=told)
+    over("input-t-zeros-alone", "3 . 0 0 0", 100000, "0", 5, after="\n", tables=told)
+    over("input-t-zeros-largest", "3 . 0 0 18446744073709551615", 100000, "0", 5, after="18446744073709551615\n", tables=told)
+    over("input-t-zeros-too-large", "input", 100000, "0", 5, after="18446744073709551616\n", tables=told)
+    over("input-t-zeros-no-digit", "input", 100000, "0", 5, after="x\n", tables=told)
+    over("input-t-20-digits", "3 . 0 0 10000000000000000000", 19, "0", 5, before="1", after="\n", tables=told)
+    over("input-t-21-digits", "input", 20, "0", 5, before="1", after="\n", tables=told)
+    over("input-t-long", "input", 100000, "9", 5, after="\n", tables=told)
+    all_lines = "".join(lines)
+    later = (all_lines + table).encode("latin-1")
+    wide("input-table-65535", "25 0 0 0", 65535, "\0", all_lines, "")
+    wide("input-table-65535-later", "25 30 0 0", 65505, "\0", later, "")
+    wide("input-table-65536", "24 . 0 0", 65536, "\0", all_lines, "")
+    wide("input-table-65536-later", "24 . 0 0", 65506, "\0", later, "")
+    wide("input-table-long", "24 . 0 0", 300000, "\0", all_lines, "")
+    wide("input-no-newline-long", "input", 300000, "a", "", "")
+    wide("input-newlines-long", "24 . 0 0", 300000, "\n", all_lines, "")
+    check_input("input-empty", "input", "")
+    check_input("input-t-missing", "input", "".join(lines[:5]))
+    check_input("input-receiver-missing", "input", "".join(lines[:4]))
+    # Q49: "Only byte 10 ends a line", so a carriage return belongs to it.
+    check("input-cr-t", "input", R("v=spf1 -all"), t="7\r")
+    check("input-cr-client", "input", R("v=spf1 -all"), client="192.0.2.129\r")
+
+    heading("the record printer")
+    unlisted("printer-empty", "refused 31 at 0", "")
+    unlisted("printer-newline", "refused 31 at 0", "\n")
+    listing("printer-version", "v=spf1\n")
+    unlisted("printer-two-newlines", "refused 31 at 0", "v=spf1\n\n")
+    listing("printer-no-newline", "v=spf1 A//64", "7 a + . 32 64")
+    unlisted("printer-newline-first", "refused 31 at 0", "\nv=spf1")
+    unlisted("printer-cr", "refused 31 at 0", "v=spf1\r\n")
+    unlisted("printer-cr-term", "refused 32 at 7", "v=spf1 -all\r\n")
+    spaces = "v=spf1" + " " * 4090
+    listing("printer-4096", spaces)
+    listing("printer-4096-newline", spaces + "\n")
+    unlisted("printer-4097", "refused 30 at 0", spaces + " ")
+    unlisted("printer-4097-newline", "refused 30 at 0", spaces + " \n")
+    unlisted("printer-4096-two-newlines", "refused 30 at 0", spaces + "\n\n")
+    unlisted("printer-long", "refused 30 at 0", "v=spf1" + " " * 6000)
+    cased = ["7 include + :Example.com . .", "27 x-y . =%{S} . .", "36 redirect . =a.Example . ."]
+    listing("printer-case", "V=SPF1 INCLUDE:Example.com X-Y=%{S} Redirect=a.Example", *cased)
+    every = "v=spf1 +all ?a/24 ~mx:m.example//64 -ptr ptr:p.example "
+    every += "exists:%{i}.x.example ip6:2001:DB8::/32 -ip4:192.0.2.1 a:a.example/0//0 x= exp=%{d}\n"
+    of_every = [
+        "7 all + . . .",
+        "12 a ? . 24 128",
+        "18 mx ~ :m.example 32 64",
+        "36 ptr - . . .",
+        "41 ptr + :p.example . .",
+        "55 exists + :%{i}.x.example . .",
+        "77 ip6 + :2001:DB8:: . 32",
+        "95 ip4 - :192.0.2.1 32 .",
+        "110 a + :a.example 0 0",
+        "127 x . = . .",
+        "130 exp . =%{d} . .",
+    ]
+    listing("printer-every-term", every, *of_every)
+    unlisted("printer-second-exp", "refused 33 at 21", "v=spf1 exp=a.example exp=b.example\n")
+
+
 def main():
     heading("the cases of 01's sections `Both sides of each line` and `Errors that look right`, and of the readings")
-    for section in (both_sides, look_right, part_one, limits, names, grammar, tables, explanations, clients, values, terms, edges):
+    for section in (both_sides, look_right, part_one, limits, names, grammar, tables, explanations, clients, values, terms, edges, programs):
         section()
     need(all(line.isascii() for line in given + printed), "a line is not ASCII")
     (CRATE / "stdin").write_text("\n".join(given) + "\n", encoding="ascii")

@@ -1,50 +1,59 @@
-// Runs whole inputs of the check, a line each in hex, and prints the answer to each: number, kind or place and both counts on a line, and for 3 and 7 the
-// text or name on a second, or `input`.
+// Runs whole inputs of the check program, a line each in hex, through the functions that the program calls, and prints what it prints of each: number, kind
+// or place and both counts on a line, and for 3 and 7 the text or name on a second, or `input`.
+ghost use Prim.Native.Nat.{_≤_};
+ghost use lib.ListN.{length};
 use cases::Line;
+use checking::keeping::hold;
 use text::bytes::part;
-use text::writing;
 
-// Puts the bytes that a piece of a line writes at a place of an input; answers the place after them.
-fn put_hex(piece: &[u8], input: &mut [u8], at: usize) -> usize {
+// Adds the bytes that a piece of a line writes to what is held of an input.
+fn hold_piece(piece: &[u8], held: &mut [u8], n: usize) -> usize
+    requires { ⌜ n ≤ 66698 ⌝ }
+    requires { ⌜ 132234 ≤ length (now held) ⌝ }
+    ensures { λ r. ⌜ r ≤ 66698 ⌝ }
+{
     let mut bytes = [0u8; 2048];
-    let n = cases::unhex(piece, &mut bytes);
-    writing::put_all(part(&bytes, 0, n), input, at)
+    let size = cases::unhex(piece, &mut bytes);
+    hold(held, n, &bytes, size)
 }
 
-// Reads a line, piece by piece, and puts the bytes that it writes into an input. A piece that fills its buffer isn't the line's last.
-fn read_input(input: &mut [u8]) -> Line {
+// Prints the answer to what is held.
+fn run_input(input: &[u8]) {
+    let mut out = [0u8; 600];
+    let size = checking::answer_input(input, &mut out);
+    io::write_all(1, part(&out, 0, size));
+}
+
+// Reads a line, piece by piece, and runs the input that it writes; answers whether there was one. A piece that fills its buffer isn't the line's last.
+fn run_line(held: &mut [u8]) -> bool
+    requires { ⌜ 132234 ≤ length (now held) ⌝ }
+{
     let mut piece = [0u8; 4096];
     let mut at: usize = 0;
     let mut budget: usize = 1000;
     while 0 < budget {
         let Line::Of(n) = cases::read_line(&mut piece) else {
-            return Line::End;
+            return false;
         };
-        at = put_hex(part(&piece, 0, n), input, at);
+        at = hold_piece(part(&piece, 0, n), held, at);
         if n < 4096 {
-            return Line::Of(at);
+            run_input(part(held, 0, at));
+            return true;
         }
         budget -= 1;
     }
-    Line::Of(at)
+    true
 }
 
-fn run_input(input: &[u8]) {
-    let mut name = [0u8; 253];
-    let mut text = [0u8; 500];
-    let answer = checking::check_input(input, &mut name, &mut text);
-    checking::print(answer, &name, &text);
-}
-
-// At most as many lines as the budget says; a table has at most 65,535 bytes, and the six lines before it have room for 4,465.
+// At most as many lines as the budget says.
 fn main() {
-    let mut input = [0u8; 70000];
+    let mut held = [0u8; 132234];
     let mut budget: usize = 1000000;
     while 0 < budget {
-        let Line::Of(n) = read_input(&mut input) else {
+        if run_line(&mut held) {
+            budget -= 1;
+        } else {
             return;
-        };
-        run_input(part(&input, 0, n));
-        budget -= 1;
+        }
     }
 }

@@ -11,7 +11,7 @@ use Rattle.address.specs.declared.FromOctets.{FromOctets}
 use Rattle.address.specs.declared.FromOctets.the-variants.{Is, NoAddress}
 use Rattle.address.specs.Matching.{Matches}
 use Rattle.networks.specs.Reader6.{readAddress}
-use Rattle.networks.specs.Answers.{NetworkAnswer, Written}
+use Rattle.networks.specs.Answers.{NetworkAnswer, AddressText}
 use Rattle.table.specs.Numbers.{reported as table-reported}
 use Rattle.table.specs.Reader.{checkTable}
 use Rattle.table.specs.Answers.{TableAnswers}
@@ -19,12 +19,13 @@ use Rattle.macros.specs.declared.Form.{Form}
 use Rattle.macros.specs.Expansion.{Given}
 use Rattle.macros.specs.Numbers.{Outcome as Expansion, refused as expansion-refused, answerOf as expandedOf, bufferOf}
 use Rattle.macros.specs.Answers.{Expands}
-use Rattle.records.specs.Numbers.{recordReport, termReport, argumentOf}
+use Rattle.records.specs.Readings.{argumentBytes}
+use Rattle.records.specs.Numbers.{recordReport, saidOf, termReport}
 use Rattle.records.specs.Answers.{RecordAnswers, TermAnswers}
 use Rattle.records.specs.Reader.{readRecord, readTerm}
 use Rattle.records.specs.declared.TermAnswer.{TermAnswer}
 use Rattle.evaluation.specs.Numbers.{Outcome, refused, answerOf, nameAfter, textAfter}
-use Rattle.evaluation.specs.Answers.{Answers}
+use Rattle.evaluation.specs.Answers.{lent, Answers}
 use Rattle.embedding.specs.declared.numbers.FormAnswer.{FormAnswer}
 use Rattle.embedding.specs.Numbers.{no-address, no-form, encoded, recordNumbers, tableNumbers, expandedNumbers, matchNumber, addressOctets, shapeOf, termNumbers, termOctets}
 
@@ -41,7 +42,7 @@ pub record EvaluateSays (o : Outcome) (numbers name name′ text text′ : List 
 -- the same by the table's list of entries
 pub data EvaluateOutcome (client : FromOctets) (domain sender helo receiver : List ℕ) (seconds : ℕ) (table name text : List ℕ) : Outcome → Type 0 where
   no-client : client ≡ NoAddress → EvaluateOutcome client domain sender helo receiver seconds table name text (refused no-address)
-  for-client : {a : Address} {o : Outcome} → client ≡ Is a → Answers a domain sender helo receiver seconds table name text o
+  for-client : {a : Address} {o : Outcome} → client ≡ Is a → Answers (lent a domain sender helo receiver seconds table name text) o
       → EvaluateOutcome client domain sender helo receiver seconds table name text o
 
 pub record EvaluateAnswers (client : FromOctets) (domain sender helo receiver : List ℕ) (seconds : ℕ) (table numbers name name′ text text′ : List ℕ) : Type 0 where
@@ -59,7 +60,7 @@ abbrev pub ArgumentStands : List ℕ → TermAnswer → Type 0
 ArgumentStands s TermAnswer.End = Unit {0}
 ArgumentStands s (TermAnswer.Refused number place) = Unit {0}
 ArgumentStands s (TermAnswer.Is at next t) =
-    part s (at + shapeOf (next - at) t .from) (at + shapeOf (next - at) t .to) ≡ argumentOf (part s at next) t
+    part s (at + shapeOf (next - at) t .from) (at + shapeOf (next - at) t .to) ≡ argumentBytes (saidOf (part s at next) t)
 
 -- reading one term
 pub record TermSays (s : List ℕ) (place : ℕ) (numbers octets octets′ : List ℕ) : Type 0 where
@@ -104,4 +105,4 @@ pub record TableSays (t numbers : List ℕ) : Type 0 where
 pub record AddressSays (s : List ℕ) (r : ℕ) (octets octets′ : List ℕ) : Type 0 where
   pub answer : r ≡ length (addressOctets (readAddress s))
   pub buffer : octets′ ≡ overwritten (addressOctets (readAddress s)) octets
-  pub produced : NetworkAnswer (Written s) (readAddress s)
+  pub produced : NetworkAnswer (AddressText s) (readAddress s)

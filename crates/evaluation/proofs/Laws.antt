@@ -8,3 +8,5 @@ pub mod Walking
 pub mod Leading
 -- Facts: a wanted name is a name as the table has it; only a fail has a text; the counts' bounds.
 pub mod Facts
+-- Demand3: demand 3 as one theorem about the calls.
+pub mod Demand3

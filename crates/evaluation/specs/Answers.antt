@@ -13,6 +13,7 @@ use Rattle.table.specs.Answers.{TableAnswers, Encoded, most-bytes}
 use Rattle.macros.specs.Expansion.{isSender, isHost, isShort}
 use Rattle.meaning.specs.Tree.{Table, run}
 use Rattle.meaning.specs.Tables.{replyOf}
+use Rattle.meaning.specs.Mechanisms.{Mail}
 use Rattle.meaning.specs.Evaluation.{verdict}
 use Rattle.evaluation.specs.declared.Answer.{Answer}
 use Rattle.evaluation.specs.Numbers.{Outcome, refused, refused-at, settles, Says}
@@ -22,12 +23,42 @@ use Rattle.evaluation.specs.Evaluating.{mailFor, hasRoom}
 unfoldable pub tableOf : List Entry → Table
 tableOf es kind name = replyOf (lookup kind name es)
 
+-- what an evaluation is lent, in the call's order; name and text are the two buffers as they are then
+pub record Lent : Type 0 where
+  pub client : Address
+  pub domain : List ℕ
+  pub sender : List ℕ
+  pub helo : List ℕ
+  pub receiver : List ℕ
+  pub seconds : ℕ
+  pub table : List ℕ
+  pub name : List ℕ
+  pub text : List ℕ
+
+-- what it hands back: the answer, and both buffers as they are afterwards
+pub record Handed : Type 0 where
+  pub answer : Answer
+  pub name : List ℕ
+  pub text : List ℕ
+
+-- the same from their parts, as the contracts say it
+abbrev pub lent : Address → (domain sender helo receiver : List ℕ) → ℕ → (table name text : List ℕ) → Lent
+lent client domain sender helo receiver seconds table name text =
+    record { client = client; domain = domain; sender = sender; helo = helo; receiver = receiver; seconds = seconds; table = table; name = name; text = text }
+
+abbrev pub handed : Answer → (name text : List ℕ) → Handed
+handed answer name text = record { answer = answer; name = name; text = text }
+
+-- the mail that a check is given
+abbrev pub mailIn : Lent → Mail
+mailIn a = mailFor (a .client) (a .sender) (a .helo) (a .receiver) (a .seconds)
+
 -- the arguments pass the tests of 20 to 23
-pub record Fit (domain sender helo receiver name text : List ℕ) : Type 0 where
-  pub sender-fits : isSender sender ≡ true
-  pub hosts-fit : (isHost helo && isHost receiver) ≡ true
-  pub domain-fits : isShort domain ≡ true
-  pub room : hasRoom name text ≡ true
+pub record Fit (a : Lent) : Type 0 where
+  pub sender-fits : isSender (a .sender) ≡ true
+  pub hosts-fit : (isHost (a .helo) && isHost (a .receiver)) ≡ true
+  pub domain-fits : isShort (a .domain) ≡ true
+  pub room : hasRoom (a .name) (a .text) ≡ true
 
 -- a refusal of the table, with its place where it has one
 abbrev pub refusedBy : ℕ → Place → Outcome
@@ -36,20 +67,18 @@ refusedBy number (byte p) = refused-at number p
 
 -- "Evaluation tests 20 to 24 in that order, then whichever of 25 and 26 has the earlier place (25 if equal)"; then the evaluation over the one list
 -- of entries that the table encodes
-pub data Answers (client : Address) (domain sender helo receiver : List ℕ) (seconds : ℕ) (table name text : List ℕ) : Outcome → Type 0 where
-  no-sender : isSender sender ≡ false → Answers client domain sender helo receiver seconds table name text (refused 20)
-  no-host : isSender sender ≡ true → (isHost helo && isHost receiver) ≡ false → Answers client domain sender helo receiver seconds table name text (refused 21)
-  long-domain : isSender sender ≡ true → (isHost helo && isHost receiver) ≡ true → isShort domain ≡ false
-      → Answers client domain sender helo receiver seconds table name text (refused 22)
-  no-room : isSender sender ≡ true → (isHost helo && isHost receiver) ≡ true → isShort domain ≡ true → hasRoom name text ≡ false
-      → Answers client domain sender helo receiver seconds table name text (refused 23)
-  bad-table : {number : ℕ} {place : Place} → Fit domain sender helo receiver name text → TableAnswers table (table-refused number place)
-      → Answers client domain sender helo receiver seconds table name text (refusedBy number place)
-  decides : {es : List Entry} → Fit domain sender helo receiver name text → length table ≤ most-bytes → Encoded table es
-      → Answers client domain sender helo receiver seconds table name text (settles (run (tableOf es) (verdict (mailFor client sender helo receiver seconds) domain)))
+pub data Answers (a : Lent) : Outcome → Type 0 where
+  no-sender : isSender (a .sender) ≡ false → Answers a (refused 20)
+  no-host : isSender (a .sender) ≡ true → (isHost (a .helo) && isHost (a .receiver)) ≡ false → Answers a (refused 21)
+  long-domain : isSender (a .sender) ≡ true → (isHost (a .helo) && isHost (a .receiver)) ≡ true → isShort (a .domain) ≡ false → Answers a (refused 22)
+  no-room : isSender (a .sender) ≡ true → (isHost (a .helo) && isHost (a .receiver)) ≡ true → isShort (a .domain) ≡ true
+      → hasRoom (a .name) (a .text) ≡ false → Answers a (refused 23)
+  bad-table : {number : ℕ} {place : Place} → Fit a → TableAnswers (a .table) (table-refused number place) → Answers a (refusedBy number place)
+  decides : {es : List Entry} → Fit a → length (a .table) ≤ most-bytes → Encoded (a .table) es
+      → Answers a (settles (run (tableOf es) (verdict (mailIn a) (a .domain))))
 
--- the answer and both lent buffers afterwards
-pub record Answered (client : Address) (domain sender helo receiver : List ℕ) (seconds : ℕ) (table : List ℕ) (r : Answer) (name name′ text text′ : List ℕ) : Type 0 where
+-- what `evaluate` promises of its answer and of both lent buffers afterwards
+pub record Evaluates (a : Lent) (h : Handed) : Type 0 where
   pub outcome : Outcome
-  pub answers : Answers client domain sender helo receiver seconds table name text outcome
-  pub says : Says outcome r name name′ text text′
+  pub answers : Answers a outcome
+  pub says : Says outcome (h .answer) (a .name) (h .name) (a .text) (h .text)

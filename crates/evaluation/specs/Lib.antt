@@ -7,5 +7,5 @@ pub mod Numbers
 pub mod Evaluating
 -- Answers: what an evaluation answers, by the table's list of entries.
 pub mod Answers
--- Demand3: reading a record, reading its terms and evaluating, as one theorem.
+-- Demand3: reading a record, reading its terms and evaluating, as one statement.
 pub mod Demand3

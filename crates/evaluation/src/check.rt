@@ -1,5 +1,5 @@
 // The check of a domain: its record, the record's terms, include and redirect. These functions call each other; the remaining lookups fall.
-ghost use Prim.Native.Nat.{ℕ, suc, _+_, _≤_};
+ghost use Prim.Native.Nat.{_≤_};
 ghost use mathlib.Core.Path.{_≡_};
 ghost use lib.ListN.{length};
 ghost use Rattle.domain.specs.Normal.{name};
@@ -8,7 +8,7 @@ ghost use Rattle.records.specs.Reader.{readRecord};
 ghost use Rattle.records.specs.Opening.{Passing};
 ghost use Rattle.meaning.specs.Tree.{run};
 ghost use Rattle.meaning.specs.Tables.{tableIn};
-ghost use Rattle.meaning.specs.Evaluation.{begunCheck, includeStep, termStep, modifierOf, noMatch, tryTerms, termsOf, readOutcome, check};
+ghost use Rattle.meaning.specs.Evaluation.{begunCheck, includeStep, termStep, modifierOf, noMatch, tryTerms, termsOf, readOutcome, whole};
 ghost use Rattle.meaning.specs.Outcomes.{mailOf, spanOf, SaysStep, SaysCheck};
 ghost use Rattle.evaluation.specs.Checks.{endedOf, wantingOf, signOf, signedOf, redirectedOf, includedNow, includedOf};
 ghost use Rattle.text.specs.Texts.{bytes};
@@ -146,8 +146,7 @@ pub fn check_domain(
     out: &mut [u8],
 ) -> Checked
     requires { ⌜ (length (now sender) ≤ 320) × (length (now domain) ≤ 253) × (counts .lookups ≤ 10) × (counts .voids ≤ 2) ⌝ }
-    ensures { λ r. ⌜ ((n : ℕ) → 10 ≤ n + counts .lookups →
-        SaysCheck (now (table .entry)) (run (tableIn (now (table .entry))) (check (suc n) (mailOf client (now (sender .entry)) (now (helo .entry)) (now (receiver .entry)) seconds) (name (now (domain .entry))) counts)) r (now (out .entry)) (now (out .exit))) ⌝ }
+    ensures { λ r. ⌜ SaysCheck (now (table .entry)) (run (tableIn (now (table .entry))) (whole (mailOf client (now (sender .entry)) (now (helo .entry)) (now (receiver .entry)) seconds) (name (now (domain .entry))) counts)) r (now (out .entry)) (now (out .exit)) ⌝ }
 {
     if domain::count_labels(domain) <= 1 {
         return ended(0, counts);
@@ -187,8 +186,7 @@ fn evaluate_record(
     out: &mut [u8],
 ) -> Checked
     requires { ⌜ (length (now sender) ≤ 320) × (length (spanOf (now table) domain) ≤ 253) × (counts .lookups ≤ 10) × (counts .voids ≤ 2) ⌝ }
-    ensures { λ r. ⌜ ((n : ℕ) → 10 ≤ n + counts .lookups →
-        SaysCheck (now (table .entry)) (run (tableIn (now (table .entry))) (readOutcome (mailOf client (now (sender .entry)) (now (helo .entry)) (now (receiver .entry)) seconds) (check n (mailOf client (now (sender .entry)) (now (helo .entry)) (now (receiver .entry)) seconds)) (spanOf (now (table .entry)) domain) (spanOf (now (table .entry)) text) (readRecord (spanOf (now (table .entry)) text)) counts)) r (now (out .entry)) (now (out .exit))) ⌝ }
+    ensures { λ r. ⌜ SaysCheck (now (table .entry)) (run (tableIn (now (table .entry))) (readOutcome (mailOf client (now (sender .entry)) (now (helo .entry)) (now (receiver .entry)) seconds) (whole (mailOf client (now (sender .entry)) (now (helo .entry)) (now (receiver .entry)) seconds)) (spanOf (now (table .entry)) domain) (spanOf (now (table .entry)) text) (readRecord (spanOf (now (table .entry)) text)) counts)) r (now (out .entry)) (now (out .exit)) ⌝ }
 {
     match opening::open_record(bytes::part(table, text.from, text.to), client) {
         Opening::Refused { number: _, at: _ } => ended(6, counts),
@@ -226,8 +224,7 @@ fn try_terms(
     out: &mut [u8],
 ) -> Checked
     requires { ⌜ (length (now sender) ≤ 320) × (length (spanOf (now table) domain) ≤ 253) × (counts .lookups ≤ 10) × (counts .voids ≤ 2) × Passing client (spanOf (now table) text) first start ⌝ }
-    ensures { λ r. ⌜ ((n : ℕ) → 10 ≤ n + counts .lookups →
-        SaysCheck (now (table .entry)) (run (tableIn (now (table .entry))) (tryTerms (mailOf client (now (sender .entry)) (now (helo .entry)) (now (receiver .entry)) seconds) (check n (mailOf client (now (sender .entry)) (now (helo .entry)) (now (receiver .entry)) seconds)) (spanOf (now (table .entry)) domain) (termsOf (spanOf (now (table .entry)) text) first) (termsOf (spanOf (now (table .entry)) text) first) counts)) r (now (out .entry)) (now (out .exit))) ⌝ }
+    ensures { λ r. ⌜ SaysCheck (now (table .entry)) (run (tableIn (now (table .entry))) (tryTerms (mailOf client (now (sender .entry)) (now (helo .entry)) (now (receiver .entry)) seconds) (whole (mailOf client (now (sender .entry)) (now (helo .entry)) (now (receiver .entry)) seconds)) (spanOf (now (table .entry)) domain) (termsOf (spanOf (now (table .entry)) text) first) (termsOf (spanOf (now (table .entry)) text) first) counts)) r (now (out .entry)) (now (out .exit)) ⌝ }
 {
     let s = bytes::part(table, text.from, text.to);
     let mut at = start;
@@ -315,8 +312,7 @@ fn no_match(
     out: &mut [u8],
 ) -> Checked
     requires { ⌜ (length (now sender) ≤ 320) × (length (spanOf (now table) domain) ≤ 253) × (counts .lookups ≤ 10) × (counts .voids ≤ 2) ⌝ }
-    ensures { λ r. ⌜ ((n : ℕ) → 10 ≤ n + counts .lookups →
-        SaysCheck (now (table .entry)) (run (tableIn (now (table .entry))) (noMatch (mailOf client (now (sender .entry)) (now (helo .entry)) (now (receiver .entry)) seconds) (check n (mailOf client (now (sender .entry)) (now (helo .entry)) (now (receiver .entry)) seconds)) (spanOf (now (table .entry)) domain) (modifierOf (bytes "redirect") (termsOf (now (s .entry)) first)) counts)) r (now (out .entry)) (now (out .exit))) ⌝ }
+    ensures { λ r. ⌜ SaysCheck (now (table .entry)) (run (tableIn (now (table .entry))) (noMatch (mailOf client (now (sender .entry)) (now (helo .entry)) (now (receiver .entry)) seconds) (whole (mailOf client (now (sender .entry)) (now (helo .entry)) (now (receiver .entry)) seconds)) (spanOf (now (table .entry)) domain) (modifierOf (bytes "redirect") (termsOf (now (s .entry)) first)) counts)) r (now (out .entry)) (now (out .exit)) ⌝ }
 {
     let Modifier::Part { from, to } = modifiers::find_redirect(s, first) else {
         return ended(1, counts);
@@ -351,8 +347,7 @@ fn try_term(
     out: &mut [u8],
 ) -> Stepped
     requires { ⌜ (length (now sender) ≤ 320) × (length (spanOf (now table) domain) ≤ 253) × (counts .lookups ≤ 10) × (counts .voids ≤ 2) ⌝ }
-    ensures { λ r. ⌜ ((n : ℕ) → 10 ≤ n + counts .lookups →
-        SaysStep (run (tableIn (now (table .entry))) (termStep (mailOf client (now (sender .entry)) (now (helo .entry)) (now (receiver .entry)) seconds) (check n (mailOf client (now (sender .entry)) (now (helo .entry)) (now (receiver .entry)) seconds)) (spanOf (now (table .entry)) domain) (saidOf (now (w .entry)) term) (saidOf (now (w .entry)) term .sign) counts)) r (now (out .entry)) (now (out .exit))) ⌝ }
+    ensures { λ r. ⌜ SaysStep (run (tableIn (now (table .entry))) (termStep (mailOf client (now (sender .entry)) (now (helo .entry)) (now (receiver .entry)) seconds) (whole (mailOf client (now (sender .entry)) (now (helo .entry)) (now (receiver .entry)) seconds)) (spanOf (now (table .entry)) domain) (saidOf (now (w .entry)) term) (saidOf (now (w .entry)) term .sign) counts)) r (now (out .entry)) (now (out .exit)) ⌝ }
 {
     match mechanisms::try_plain(
         client,
@@ -397,8 +392,7 @@ fn include(
     out: &mut [u8],
 ) -> Stepped
     requires { ⌜ (length (now sender) ≤ 320) × (length (spanOf (now table) domain) ≤ 253) × (counts .lookups ≤ 10) × (counts .voids ≤ 2) ⌝ }
-    ensures { λ r. ⌜ ((n : ℕ) → 10 ≤ n + counts .lookups →
-        SaysStep (run (tableIn (now (table .entry))) (includeStep (mailOf client (now (sender .entry)) (now (helo .entry)) (now (receiver .entry)) seconds) (check n (mailOf client (now (sender .entry)) (now (helo .entry)) (now (receiver .entry)) seconds)) (spanOf (now (table .entry)) domain) (now (spec .entry)) counts)) r (now (out .entry)) (now (out .exit))) ⌝ }
+    ensures { λ r. ⌜ SaysStep (run (tableIn (now (table .entry))) (includeStep (mailOf client (now (sender .entry)) (now (helo .entry)) (now (receiver .entry)) seconds) (whole (mailOf client (now (sender .entry)) (now (helo .entry)) (now (receiver .entry)) seconds)) (spanOf (now (table .entry)) domain) (now (spec .entry)) counts)) r (now (out .entry)) (now (out .exit)) ⌝ }
 {
     let o = begin_check(
         client,
@@ -429,8 +423,7 @@ fn begin_check(
     out: &mut [u8],
 ) -> Checked
     requires { ⌜ (length (now sender) ≤ 320) × (length (spanOf (now table) domain) ≤ 253) × (counts .lookups ≤ 10) × (counts .voids ≤ 2) ⌝ }
-    ensures { λ r. ⌜ ((n : ℕ) → 10 ≤ n + counts .lookups →
-        SaysCheck (now (table .entry)) (run (tableIn (now (table .entry))) (begunCheck (mailOf client (now (sender .entry)) (now (helo .entry)) (now (receiver .entry)) seconds) (check n (mailOf client (now (sender .entry)) (now (helo .entry)) (now (receiver .entry)) seconds)) (spanOf (now (table .entry)) domain) (now (spec .entry)) counts)) r (now (out .entry)) (now (out .exit))) ⌝ }
+    ensures { λ r. ⌜ SaysCheck (now (table .entry)) (run (tableIn (now (table .entry))) (begunCheck (mailOf client (now (sender .entry)) (now (helo .entry)) (now (receiver .entry)) seconds) (whole (mailOf client (now (sender .entry)) (now (helo .entry)) (now (receiver .entry)) seconds)) (spanOf (now (table .entry)) domain) (now (spec .entry)) counts)) r (now (out .entry)) (now (out .exit)) ⌝ }
 {
     let used = counts.lookups;
     if 10 <= used {

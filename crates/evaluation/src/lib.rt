@@ -10,7 +10,7 @@ ghost use Rattle.meaning.specs.Evaluation.{evaluation, verdict};
 ghost use Rattle.meaning.specs.Outcomes.{mailOf, SaysCheck};
 ghost use Rattle.evaluation.specs.Numbers.{settles, Says};
 ghost use Rattle.evaluation.specs.Evaluating.{refusalOf, evaluated};
-ghost use Rattle.evaluation.specs.Answers.{Answered};
+ghost use Rattle.evaluation.specs.Answers.{lent, handed, Evaluates};
 use address::Address;
 use domain::Name;
 use macros::values;
@@ -187,7 +187,7 @@ pub fn evaluate(
     text: &mut [u8],
 ) -> Answer
     ensures { λ r. ⌜ Says (evaluated client (now (domain .entry)) (now (sender .entry)) (now (helo .entry)) (now (receiver .entry)) seconds (now (table .entry)) (now (name .entry)) (now (text .entry))) r (now (name .entry)) (now (name .exit)) (now (text .entry)) (now (text .exit)) ⌝ }
-    ensures { λ r. ⌜ Answered client (now (domain .entry)) (now (sender .entry)) (now (helo .entry)) (now (receiver .entry)) seconds (now (table .entry)) r (now (name .entry)) (now (name .exit)) (now (text .entry)) (now (text .exit)) ⌝ }
+    ensures { λ r. ⌜ Evaluates (lent client (now (domain .entry)) (now (sender .entry)) (now (helo .entry)) (now (receiver .entry)) seconds (now (table .entry)) (now (name .entry)) (now (text .entry))) (handed r (now (name .exit)) (now (text .exit))) ⌝ }
 {
     let number = refusal(domain, sender, helo, receiver, name.len(), text.len());
     if number == 0 {

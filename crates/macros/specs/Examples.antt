@@ -13,9 +13,10 @@ use Rattle.address.specs.declared.Address.the-variants.{IPv4}
 use Rattle.notation.specs.Digits.{digit, numeral, inDecimal}
 use Rattle.notation.specs.Forms.{octetTexts, dotted, readable, family}
 use Rattle.transformers.specs.Transform.{isListed, reversedIf, kept, isUnreserved, hexDigit, escapedByte, escaped, transformed}
-use Rattle.macros.specs.Grammar.{isLetter, isCount}
+use Rattle.domain.specs.Normal.{withoutDot}
+use Rattle.macros.specs.Grammar.{isLetter, isPartCount}
 use Rattle.macros.specs.Reader.{isLiteral, isEscape, isReverse, closedAt, delimitersAt, reversalAt, digitsAt, bracesOf, pieceOf, macroOf, piecesAfter, piecesFrom, pieces, endsInMacro, isToplabel, lastLabel, endsInLabel, endsRight, isMacroString}
-use Rattle.macros.specs.Expansion.{Given, given, lastPart, senderDomain, written, localPart, receiverName, lettersOf, valueOf, escapeText, pieceText, textOf, isSender, isHost, isShort}
+use Rattle.macros.specs.Expansion.{Given, given, lastPart, senderDomain, frontParts, localAsWritten, localPart, receiverName, lettersOf, letterValue, escapeText, pieceText, textOf, isSender, isHost, isShort}
 use Rattle.macros.specs.Numbers.{refused, expanded, fitted, outcome}
 use Rattle.macros.specs.declared.Form.the-variants.{DomainSpec}
 
@@ -39,7 +40,7 @@ pub record Cases : Type 0 where
   pub empty-sender : outcome DomainSpec (bytes "%{d0}") (from (bytes "")) 500 ≡ refused 20
 
 pub cases : Cases
-unfolding within lower isUpper isAlpha isDigit isAlphanumeric isToplabelByte isMacroLiteral isDelimiter isSpace isVisible isPrintable decimalFrom decimal contains all grow split separatorBefore joinBy rightmost isIn run runEnd octetsOf octets asClient digit numeral inDecimal octetTexts dotted readable family isListed reversedIf kept isUnreserved hexDigit escapedByte escaped transformed isLetter isCount isLiteral isEscape isReverse closedAt delimitersAt reversalAt digitsAt bracesOf pieceOf macroOf piecesAfter piecesFrom pieces endsInMacro isToplabel lastLabel endsInLabel endsRight isMacroString lastPart senderDomain written localPart receiverName lettersOf valueOf escapeText pieceText textOf isSender isHost isShort fitted outcome
+unfolding within lower isUpper isAlpha isDigit isAlphanumeric isToplabelByte isMacroLiteral isDelimiter isSpace isVisible isPrintable decimalFrom decimal contains all grow split separatorBefore joinBy rightmost isIn run runEnd octetsOf octets asClient digit numeral inDecimal octetTexts dotted readable family isListed reversedIf kept isUnreserved hexDigit escapedByte escaped transformed isLetter isPartCount isLiteral isEscape isReverse closedAt delimitersAt reversalAt digitsAt bracesOf pieceOf macroOf piecesAfter piecesFrom pieces endsInMacro isToplabel lastLabel withoutDot endsInLabel endsRight isMacroString lastPart senderDomain frontParts localAsWritten localPart receiverName lettersOf letterValue escapeText pieceText textOf isSender isHost isShort fitted outcome
 cases =
     record {
       reversed-at-dash = refl;

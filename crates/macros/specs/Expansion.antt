@@ -1,11 +1,11 @@
 -- What a macro string expands to: the value of each letter, and the texts of the pieces, in 01's words and order.
-use Prim.Native.Nat.{ℕ, suc, _-_}
+use Prim.Native.Nat.{ℕ}
 use mathlib.Core.List.{List, [], _∷_, _++_}
 use mathlib.Core.Bool.{Bool, cond, _&&_}
-use lib.ListN.{length, take}
+use lib.ListN.{length}
 use lib.Dec.{leb, eqb}
 use Rattle.text.specs.Bytes.{part, lower, isUpper, isVisible, isPrintable, within}
-use Rattle.text.specs.Lists.{all, split}
+use Rattle.text.specs.Lists.{all, split, joinBy}
 use Rattle.text.specs.Texts.{bytes}
 use Rattle.address.specs.declared.Address.{Address}
 use Rattle.address.specs.Octets.{asClient}
@@ -44,13 +44,19 @@ lastPart (x ∷ y ∷ r) = lastPart (y ∷ r)
 unfoldable pub senderDomain : List ℕ → List ℕ
 senderDomain sender = lastPart (split isAt sender)
 
+-- all parts but the last
+unfoldable pub frontParts : List (List ℕ) → List (List ℕ)
+frontParts [] = []
+frontParts (x ∷ []) = []
+frontParts (x ∷ y ∷ r) = x ∷ frontParts (y ∷ r)
+
 -- the local part as it stands: all before the last `@`; nothing where there is none
-unfoldable pub written : List ℕ → List ℕ
-written sender = take (length sender - suc (length (senderDomain sender))) sender
+unfoldable pub localAsWritten : List ℕ → List ℕ
+localAsWritten sender = joinBy 64 (frontParts (split isAt sender))
 
 -- "An absent or empty local part is `postmaster`, in s too."
 unfoldable pub localPart : List ℕ → List ℕ
-localPart sender = cond (eqb (length (written sender)) 0) (bytes "postmaster") (written sender)
+localPart sender = cond (eqb (length (localAsWritten sender)) 0) (bytes "postmaster") (localAsWritten sender)
 
 -- "r receiver (`unknown` if empty)"
 unfoldable pub receiverName : List ℕ → List ℕ
@@ -92,8 +98,8 @@ lettersOf g = record {
 }
 
 -- by the letter in lower case
-unfoldable pub valueOf : Letters → ℕ → List ℕ
-valueOf x b =
+unfoldable pub letterValue : Letters → ℕ → List ℕ
+letterValue x b =
     cond (eqb b 115) (x .s)
     (cond (eqb b 108) (x .l)
     (cond (eqb b 111) (x .o)
@@ -124,7 +130,7 @@ escapeText b = cond (eqb b 37) (bytes "%") (cond (eqb b 95) (bytes " ") (bytes "
 unfoldable pub pieceText : Letters → Piece → List ℕ
 pieceText x (literal b) = b ∷ []
 pieceText x (escape b) = escapeText b
-pieceText x (expand m) = transformed (m .digits) (m .reversed) (m .delimiters) (isUpper (m .letter)) (valueOf x (lower (m .letter)))
+pieceText x (expand m) = transformed (m .digits) (m .reversed) (m .delimiters) (isUpper (m .letter)) (letterValue x (lower (m .letter)))
 
 -- the text of a macro in braces at the front of a text, for a value, for private functions
 unfoldable pub macroText : List ℕ → Braces → List ℕ → List ℕ

@@ -12,7 +12,7 @@ use Rattle.text.specs.Decimal.{decimal}
 use Rattle.text.specs.Lists.{all, contains}
 use Rattle.text.specs.Texts.{bytes}
 use Rattle.macros.specs.declared.Form.{Form}
-use Rattle.macros.specs.declared.Form.the-variants.{DomainSpec, ModifierValue, Explanation}
+use Rattle.macros.specs.declared.Form.the-variants.{ModifierValue, Explanation}
 
 -- a macro in braces: its letter as it stands, its digits, whether r stands, its delimiters
 pub record Macro : Type 0 where
@@ -30,13 +30,13 @@ pub data Piece : Type 0 where
 -- macro-letter = "s" / "l" / "o" / "d" / "i" / "p" / "h" / "c" / "r" / "t" / "v", in either case. "Letters c, r and t are outside the grammar in
 -- a domain-spec; in an unknown modifier's value and in explanation text they are inside."
 unfoldable pub isLetter : Form → ℕ → Bool
-isLetter DomainSpec b = contains (bytes "slodipvh") (lower b)
+isLetter Form.DomainSpec b = contains (bytes "slodipvh") (lower b)
 isLetter ModifierValue b = contains (bytes "slodipvhcrt") (lower b)
 isLetter Explanation b = contains (bytes "slodipvhcrt") (lower b)
 
 -- *DIGIT: "Macro digits have a value above 0; leading zeros are allowed"
-unfoldable pub isCount : List ℕ → Bool
-isCount digits = all isDigit digits && (eqb (length digits) 0 || leb 1 (decimal digits))
+unfoldable pub isPartCount : List ℕ → Bool
+isPartCount digits = all isDigit digits && (eqb (length digits) 0 || leb 1 (decimal digits))
 
 -- [ "r" ], in either case
 pub data Reversal : List ℕ → Bool → Type 0 where
@@ -46,13 +46,13 @@ pub data Reversal : List ℕ → Bool → Type 0 where
 -- macro-expand = ( "%{" macro-letter transformers *delimiter "}" ) / "%%" / "%_" / "%-"
 -- transformers = *DIGIT [ "r" ]
 pub data MacroExpand (form : Form) : List ℕ → Piece → Type 0 where
-  braces : {letter : ℕ} {digits r delimiters : List ℕ} {reversed : Bool} → isLetter form letter ≡ true → isCount digits ≡ true
+  braces : {letter : ℕ} {digits r delimiters : List ℕ} {reversed : Bool} → isLetter form letter ≡ true → isPartCount digits ≡ true
       → Reversal r reversed → all isDelimiter delimiters ≡ true
-      → MacroExpand form (37 ∷ 123 ∷ letter ∷ (digits ++ (r ++ (delimiters ++ (125 ∷ [])))))
+      → MacroExpand form (bytes "%{" ++ (letter ∷ (digits ++ (r ++ (delimiters ++ bytes "}")))))
       (expand (record { letter = letter; digits = digits; reversed = reversed; delimiters = delimiters }))
-  percent : MacroExpand form (37 ∷ 37 ∷ []) (escape 37)
-  underscore : MacroExpand form (37 ∷ 95 ∷ []) (escape 95)
-  hyphen : MacroExpand form (37 ∷ 45 ∷ []) (escape 45)
+  percent : MacroExpand form (bytes "%%") (escape 37)
+  underscore : MacroExpand form (bytes "%_") (escape 95)
+  hyphen : MacroExpand form (bytes "%-") (escape 45)
 
 -- macro-string = *( macro-expand / macro-literal )
 pub data MacroString (form : Form) : List ℕ → List Piece → Type 0 where
@@ -64,26 +64,26 @@ pub data MacroString (form : Form) : List ℕ → List Piece → Type 0 where
 pub data Toplabel : List ℕ → Type 0 where
   letters : (u w : List ℕ) (b : ℕ) → all isAlphanumeric u ≡ true → isAlpha b ≡ true → all isAlphanumeric w ≡ true → Toplabel (u ++ (b ∷ w))
   hyphens : (u w : List ℕ) (a z : ℕ) → isAlphanumeric a ≡ true → all isAlphanumeric u ≡ true → all isToplabelByte w ≡ true → isAlphanumeric z ≡ true
-      → Toplabel ((a ∷ u) ++ (45 ∷ (w ++ (z ∷ []))))
+      → Toplabel ((a ∷ u) ++ (bytes "-" ++ (w ++ (z ∷ []))))
 
 -- domain-end = ( "." toplabel [ "." ] ) / macro-expand
 pub data DomainEnd : List ℕ → List Piece → Type 0 where
-  label : {w : List ℕ} → Toplabel w → DomainEnd (46 ∷ w) (map literal (46 ∷ w))
-  label-dot : {w : List ℕ} → Toplabel w → DomainEnd (46 ∷ (w ++ (46 ∷ []))) (map literal (46 ∷ (w ++ (46 ∷ []))))
-  expands : {w : List ℕ} {p : Piece} → MacroExpand DomainSpec w p → DomainEnd w (p ∷ [])
+  label : {w : List ℕ} → Toplabel w → DomainEnd (bytes "." ++ w) (map literal (bytes "." ++ w))
+  label-dot : {w : List ℕ} → Toplabel w → DomainEnd (bytes "." ++ (w ++ bytes ".")) (map literal (bytes "." ++ (w ++ bytes ".")))
+  expands : {w : List ℕ} {p : Piece} → MacroExpand Form.DomainSpec w p → DomainEnd w (p ∷ [])
 
 -- domain-spec = macro-string domain-end
-pub data DomainSpecs : List ℕ → List Piece → Type 0 where
-  spec : {u w : List ℕ} {ps qs : List Piece} → MacroString DomainSpec u ps → DomainEnd w qs → DomainSpecs (u ++ w) (ps ++ qs)
+pub data DomainSpec : List ℕ → List Piece → Type 0 where
+  spec : {u w : List ℕ} {ps qs : List Piece} → MacroString Form.DomainSpec u ps → DomainEnd w qs → DomainSpec (u ++ w) (ps ++ qs)
 
 -- explain-string = *( macro-string / SP )
 pub data ExplainString : List ℕ → List Piece → Type 0 where
   none : ExplainString [] []
   string : {w rest : List ℕ} {ps qs : List Piece} → MacroString Explanation w ps → ExplainString rest qs → ExplainString (w ++ rest) (ps ++ qs)
-  space : {rest : List ℕ} {qs : List Piece} → ExplainString rest qs → ExplainString (32 ∷ rest) (literal 32 ∷ qs)
+  space : {rest : List ℕ} {qs : List Piece} → ExplainString rest qs → ExplainString (bytes " " ++ rest) (literal 32 ∷ qs)
 
 -- what each form produces: a domain-spec, a macro-string, an explain-string
 abbrev pub Produces : Form → List ℕ → List Piece → Type 0
-Produces DomainSpec s ps = DomainSpecs s ps
+Produces Form.DomainSpec s ps = DomainSpec s ps
 Produces ModifierValue s ps = MacroString ModifierValue s ps
 Produces Explanation s ps = ExplainString s ps

@@ -1,10 +1,11 @@
 -- 01's number for each answer of an expansion, and the lent buffer afterwards.
 use Prim.Native.Nat.{ℕ}
 use mathlib.Core.Path.{_≡_}
-use mathlib.Core.List.{List, _++_}
+use mathlib.Core.List.{List}
 use mathlib.Core.Bool.{cond, _&&_}
-use lib.ListN.{length, drop}
+use lib.ListN.{length}
 use lib.Dec.{leb}
+use Rattle.text.specs.Writing.{overwritten}
 use Rattle.macros.specs.declared.Form.{Form}
 use Rattle.macros.specs.declared.Expanded.{Expanded}
 use Rattle.macros.specs.declared.Expanded.the-variants.{Written, Refused}
@@ -39,7 +40,7 @@ answerOf (expanded xs) = Written (length xs)
 -- "A buffer that is written keeps all bytes after the written length"; refused, "nothing written"
 abbrev pub bufferOf : Outcome → List ℕ → List ℕ
 bufferOf (refused n) before = before
-bufferOf (expanded xs) before = xs ++ drop (length xs) before
+bufferOf (expanded xs) before = overwritten xs before
 
 -- the answer and the lent buffer together
 pub record Says (o : Outcome) (r : Expanded) (before after : List ℕ) : Type 0 where

@@ -8,5 +8,9 @@ use lib.Dec.{leb}
 use Rattle.domain.specs.Normal.{Naming, malformed, withoutDot, lowered}
 use Rattle.domain.specs.Shortening.{shortened}
 
+-- the longest expansion that may be a name
+abbrev pub most-expansion : ℕ
+most-expansion = 4096
+
 unfoldable pub questionName : List ℕ → Naming
-questionName s = cond (leb (length s) 4096) (lowered (shortened (withoutDot s))) malformed
+questionName s = cond (leb (length s) most-expansion) (lowered (shortened (withoutDot s))) malformed

@@ -3,13 +3,14 @@
 use Prim.Native.Nat.{ℕ, zero, suc, _+_, _-_}
 use mathlib.Core.List.{List, [], _∷_}
 use mathlib.Core.Bool.{Bool, true, false, cond, not, _&&_, _||_}
-use lib.ListN.{length, take, drop}
+use lib.ListN.{length, drop}
 use lib.Dec.{eqb}
 use Rattle.text.specs.Bytes.{at, part, lower, isDot, isAlphanumeric, isDigit, isToplabelByte, isMacroLiteral, isSpace}
 use Rattle.text.specs.Lists.{all, split}
 use Rattle.text.specs.Runs.{isIn, runEnd}
 use Rattle.text.specs.declared.bytes.Class.the-variants.{Digit, Delimiter}
-use Rattle.macros.specs.Grammar.{Macro, Piece, literal, escape, expand, isLetter, isCount}
+use Rattle.domain.specs.Normal.{withoutDot}
+use Rattle.macros.specs.Grammar.{Macro, Piece, literal, escape, expand, isLetter, isPartCount}
 use Rattle.macros.specs.declared.Form.{Form}
 use Rattle.macros.specs.declared.Form.the-variants.{DomainSpec, ModifierValue, Explanation}
 use Rattle.macros.specs.declared.pieces.Braces.{Braces}
@@ -42,7 +43,7 @@ unfoldable pub reversalAt : List ℕ → ℕ → Found
 reversalAt s d = cond (isReverse (at s d)) (delimitersAt s d true (d + 1)) (delimitersAt s d false d)
 
 unfoldable pub digitsAt : List ℕ → ℕ → Found
-digitsAt s d = cond (isCount (part s 3 d)) (reversalAt s d) Found.Bad
+digitsAt s d = cond (isPartCount (part s 3 d)) (reversalAt s d) Found.Bad
 
 unfoldable pub bracesOf : Form → List ℕ → Found
 bracesOf form s = cond (isLetter form (at s 2)) (digitsAt s (runEnd (isIn Digit) s 3)) Found.Bad
@@ -103,7 +104,7 @@ lastLabel (x ∷ y ∷ z ∷ r) = lastLabel (y ∷ z ∷ r)
 
 -- whether a text ends in a dot and a top label, perhaps with one more dot
 unfoldable pub endsInLabel : List ℕ → Bool
-endsInLabel s = cond (isDot (at s (length s - 1))) (isToplabel (lastLabel (split isDot (take (length s - 1) s)))) (isToplabel (lastLabel (split isDot s)))
+endsInLabel s = isToplabel (lastLabel (split isDot (withoutDot s)))
 
 -- "A domain-spec ends in a macro or in a dot and a top label (perhaps one more dot)."
 unfoldable pub endsRight : Form → List ℕ → Bool

@@ -45,12 +45,5 @@ fn last_label(s: &[u8]) -> &[u8]
 pub fn ends_in_label(s: &[u8]) -> bool
     ensures { λ r. ⌜ r ≡ endsInLabel (now (s .entry)) ⌝ }
 {
-    let n = s.len();
-    if n == 0 {
-        return false;
-    }
-    if s[n - 1] == 46 {
-        return is_toplabel(last_label(&s[..n - 1]));
-    }
-    is_toplabel(last_label(s))
+    is_toplabel(last_label(domain::without_dot(s)))
 }

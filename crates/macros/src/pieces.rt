@@ -2,7 +2,7 @@
 ghost use mathlib.Core.Path.{_≡_};
 ghost use mathlib.Core.Bool.{_||_};
 ghost use Rattle.text.specs.Bytes.{isMacroLiteral, isSpace};
-ghost use Rattle.macros.specs.Grammar.{isLetter, isCount};
+ghost use Rattle.macros.specs.Grammar.{isLetter, isPartCount};
 ghost use Rattle.macros.specs.Reader.{isLiteral, isEscape, delimitersAt, reversalAt, digitsAt, bracesOf, pieceOf};
 use crate::Form;
 use text::bytes;
@@ -77,7 +77,7 @@ fn is_escape(b: u8) -> bool
 
 // Whether digits, of any number of places, are none or have a value above 0.
 fn is_count(digits: &[u8]) -> bool
-    ensures { λ r. ⌜ r ≡ isCount (now (digits .entry)) ⌝ }
+    ensures { λ r. ⌜ r ≡ isPartCount (now (digits .entry)) ⌝ }
 {
     if words::every(digits, Class::Digit) {
         if digits.len() == 0 {

@@ -2,7 +2,7 @@
 ghost use mathlib.Core.Path.{_≡_};
 ghost use mathlib.Core.List.{_∷_, _++_};
 ghost use Rattle.text.specs.Writing.{Wrote};
-ghost use Rattle.macros.specs.Expansion.{senderDomain, written, localPart, isSender, isHost, isShort};
+ghost use Rattle.macros.specs.Expansion.{senderDomain, localAsWritten, localPart, isSender, isHost, isShort};
 use text::bytes::Class;
 use text::words;
 use text::writing;
@@ -53,7 +53,7 @@ pub fn sender_domain(sender: &[u8]) -> &[u8]
 
 // The local part as it is written: what stands before a sender's last `@`; nothing where there is none.
 fn written_local(sender: &[u8]) -> &[u8]
-    ensures { λ r. ⌜ now r ≡ written (now (sender .entry)) ⌝ }
+    ensures { λ r. ⌜ now r ≡ localAsWritten (now (sender .entry)) ⌝ }
 {
     let after = sender_domain(sender).len();
     let whole = sender.len();

@@ -2,17 +2,23 @@
 pub mod Runs
 -- Alike: two checks that settle the same, and what holds of that.
 pub mod Alike
+-- Candidates: the candidates of two lists end to end.
+pub mod Candidates
+-- Preferences: the order of an mx's hosts.
+pub mod Preferences
 -- Inversions: what an answer of the code tells of what a table settles.
 pub mod Inversions
 -- Steps: one term and then the others; the counts after a term.
 pub mod Steps
+-- Signs: a mechanism that is read has one of the four signs.
+pub mod Signs
 -- Reversed: the name of a PTR question is a name as the table has it.
 pub mod Reversed
 -- Askable: so are the names that an evaluation makes, and those in an accepted table's items.
 pub mod Askable
 -- Kept: what every check keeps of the counts and the names that it asks, and that it settles the same over checks that do.
 pub mod Kept
--- Verdicts: lookups never exceed 10, voids never 3, and 2 unless the result is permerror; only a fail has a text; a question can be asked.
+-- Verdicts: lookups never exceed 10, voids never 3, and 2 unless the result is permerror; only a fail has a text, of at most 500 bytes; a question can be asked.
 pub mod Verdicts
 -- Enough: the depth bound never decides.
 pub mod Enough
@@ -20,5 +26,9 @@ pub mod Enough
 pub mod Agreement
 -- Growth: a settled result stays when the table only gains entries that answer no peek.
 pub mod Growth
+-- Produced: the texts that are selected, the terms that are tried and the expansions are those that the productions make.
+pub mod Produced
 -- Reached: a record outside the grammar is never evaluated.
 pub mod Reached
+-- Listed: no check that has a part in an evaluation is left out of those reached.
+pub mod Listed

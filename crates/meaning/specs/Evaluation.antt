@@ -14,11 +14,14 @@ use Rattle.domain.specs.Names.{labelCount}
 use Rattle.domain.specs.Normal.{Naming, name, malformed, normal}
 use Rattle.macros.specs.declared.Form.{Form}
 use Rattle.macros.specs.Reader.{isMacroString}
+use Rattle.table.specs.Layout.{kind-txt}
+use Rattle.records.specs.Grammar.{sign-plus, sign-minus, sign-tilde, sign-question}
 use Rattle.records.specs.Readings.{Optional, absent, present, Said, Placed}
 use Rattle.records.specs.Reader.{readRecord, hasVersion, readTerm}
 use Rattle.records.specs.Numbers.{TermReport, term, termReport, end, refused}
 use Rattle.records.specs.declared.RecordAnswer.{RecordAnswer}
 use Rattle.meaning.specs.declared.Counts.{Counts}
+use Rattle.meaning.specs.Results.{result-none, result-neutral, result-pass, result-fail, result-softfail, result-temperror, result-permerror}
 use Rattle.meaning.specs.Tree.{Reply, failed, items, Check, give, ask, peek, bind}
 use Rattle.meaning.specs.Mechanisms.{Mail, Match, yes, no, stop, Step, step, matched, target, expanded, counting, aStep, existsStep, mxStep, ptrStep}
 
@@ -27,7 +30,7 @@ pub record Failing : Type 0 where
   pub domain : List ℕ
   pub exp : List ℕ
 
--- 01's result by its number: 0 none, 1 neutral, 2 pass, 3 fail, 4 softfail, 5 temperror, 6 permerror; both counts; for a fail, where its explanation is
+-- 01's result by its number; both counts; for a fail, where its explanation is
 pub record Result : Type 0 where
   pub value : ℕ
   pub counts : Counts
@@ -42,7 +45,11 @@ Sub = Naming → Counts → Check Result
 
 -- include: "Pass matches; fail, softfail, neutral don't; temperror stays; permerror and none give permerror"
 unfoldable pub includeMatch : ℕ → Match
-includeMatch v = cond (eqb v 2) yes (cond (eqb v 5) (stop 5) (cond (eqb v 6) (stop 6) (cond (eqb v 0) (stop 6) no)))
+includeMatch v =
+    cond (eqb v result-pass) yes
+    (cond (eqb v result-temperror) (stop result-temperror)
+    (cond (eqb v result-permerror) (stop result-permerror)
+    (cond (eqb v result-none) (stop result-permerror) no)))
 
 -- the check of the target that a domain-spec makes
 unfoldable pub checkTarget : Mail → Sub → List ℕ → List ℕ → Counts → Check Result
@@ -50,7 +57,7 @@ checkTarget mail sub d spec c = bind (target mail d spec c) (λ t. sub t c)
 
 -- "include .. and a used redirect count one each when begun; the eleventh in the whole check isn't begun and gives permerror"
 unfoldable pub begunCheck : Mail → Sub → List ℕ → List ℕ → Counts → Check Result
-begunCheck mail sub d spec c = counting (ended 6) (checkTarget mail sub d spec) c
+begunCheck mail sub d spec c = counting (ended result-permerror) (checkTarget mail sub d spec) c
 
 -- its result's explanation is dropped: a fail through an include fetches no exp
 unfoldable pub includeOf : Result → Check Step
@@ -60,45 +67,50 @@ includeOf r = step (includeMatch (r .value)) (r .counts)
 unfoldable pub includeStep : Mail → Sub → List ℕ → List ℕ → Counts → Check Step
 includeStep mail sub d spec c = bind (begunCheck mail sub d spec c) includeOf
 
--- the part of a term that its mechanism has; a term of the grammar has it
-unfoldable pub bytesOr : Optional (List ℕ) → List ℕ
-bytesOr absent = []
-bytesOr (present x) = x
+-- a part that a mechanism has in every reading; a term without it, which the grammar doesn't make, doesn't match
+unfoldable pub having : {A : Type 0} → Optional A → (A → Check Step) → Counts → Check Step
+having absent go c = step no c
+having (present a) go c = go a
 
-unfoldable pub numberOr : Optional ℕ → ℕ
-numberOr absent = 0
-numberOr (present n) = n
+-- a and mx, "Addresses match if the stated number of high-order bits agree": the length of the client's family
+unfoldable pub lengthFor : Address → Said → Optional ℕ
+lengthFor (IPv4 v) x = x .four
+lengthFor (IPv6 h l) x = x .six
 
--- "Addresses match if the stated number of high-order bits agree": the length of the client's family
-unfoldable pub lengthFor : Address → Said → ℕ
-lengthFor (IPv4 v) x = numberOr (x .four)
-lengthFor (IPv6 h l) x = numberOr (x .six)
+-- ip4 and ip6: the address and its family's length; "families never match each other"
+unfoldable pub networkStep : Mail → Optional Address → Optional ℕ → Counts → Check Step
+networkStep mail address n c = having address (λ a. having n (λ k. matched (matchesAt (mail .client) a k) c) c) c
 
--- ip4 and ip6: "families never match each other"
-unfoldable pub networkStep : Mail → Said → Optional Address → Counts → Check Step
-networkStep mail x absent c = step no c
-networkStep mail x (present (IPv4 v)) c = matched (matchesAt (mail .client) (IPv4 v) (numberOr (x .four))) c
-networkStep mail x (present (IPv6 h l)) c = matched (matchesAt (mail .client) (IPv6 h l) (numberOr (x .six))) c
+-- a mechanism other than include, by its name; the grammar has no name besides these
+unfoldable pub plainStep : Mail → List ℕ → Said → Counts → Check Step
+plainStep mail d x c =
+    cond (same (x .name) (bytes "all")) (step yes c)
+    (cond (same (x .name) (bytes "a")) (having (lengthFor (mail .client) x) (λ n. aStep mail d (x .argument) n c) c)
+    (cond (same (x .name) (bytes "mx")) (having (lengthFor (mail .client) x) (λ n. mxStep mail d (x .argument) n c) c)
+    (cond (same (x .name) (bytes "ptr")) (ptrStep mail d (x .argument) c)
+    (cond (same (x .name) (bytes "exists")) (having (x .argument) (λ spec. existsStep mail d spec c) c)
+    (cond (same (x .name) (bytes "ip4")) (networkStep mail (x .address) (x .four) c)
+    (cond (same (x .name) (bytes "ip6")) (networkStep mail (x .address) (x .six) c)
+    (step no c)))))))
 
--- a mechanism, by its name
+-- a mechanism
 unfoldable pub mechanismStep : Mail → Sub → List ℕ → Said → Counts → Check Step
 mechanismStep mail sub d x c =
-    cond (same (x .name) (bytes "all")) (step yes c)
-    (cond (same (x .name) (bytes "include")) (includeStep mail sub d (bytesOr (x .argument)) c)
-    (cond (same (x .name) (bytes "a")) (aStep mail d (x .argument) (lengthFor (mail .client) x) c)
-    (cond (same (x .name) (bytes "mx")) (mxStep mail d (x .argument) (lengthFor (mail .client) x) c)
-    (cond (same (x .name) (bytes "ptr")) (ptrStep mail d (x .argument) c)
-    (cond (same (x .name) (bytes "exists")) (existsStep mail d (bytesOr (x .argument)) c)
-    (networkStep mail x (x .address) c))))))
+    cond (same (x .name) (bytes "include")) (having (x .argument) (λ spec. includeStep mail sub d spec c) c) (plainStep mail d x c)
 
 -- a modifier is no mechanism and is passed over; an "unknown modifier" is "ignored"
 unfoldable pub termStep : Mail → Sub → List ℕ → Said → Optional ℕ → Counts → Check Step
 termStep mail sub d x absent c = step no c
 termStep mail sub d x (present sign) c = mechanismStep mail sub d x c
 
--- "the first match gives its sign's result": + pass, - fail, ~ softfail, ? neutral
-unfoldable pub signResult : ℕ → ℕ
-signResult sign = cond (eqb sign 43) 2 (cond (eqb sign 45) 3 (cond (eqb sign 126) 4 1))
+-- the result of a mechanism's sign: + pass, - fail, ~ softfail, ? neutral; there is no other sign, and a modifier has none
+unfoldable pub signResult : Optional ℕ → Optional ℕ
+signResult absent = absent
+signResult (present sign) =
+    cond (eqb sign sign-plus) (present result-pass)
+    (cond (eqb sign sign-minus) (present result-fail)
+    (cond (eqb sign sign-tilde) (present result-softfail)
+    (cond (eqb sign sign-question) (present result-neutral) absent)))
 
 -- the modifier of a name among the terms
 unfoldable pub modifierOf : List ℕ → List Placed → Optional (List ℕ)
@@ -112,32 +124,37 @@ failingAt d (present e) = present (record { domain = d; exp = e })
 
 -- a result of this record: "exp of the failing record"
 unfoldable pub signed : List ℕ → List Placed → ℕ → Counts → Check Result
-signed d all-terms v c = give (record { value = v; counts = c; failing = cond (eqb v 3) (failingAt d (modifierOf (bytes "exp") all-terms)) absent })
+signed d all-terms v c = give (record { value = v; counts = c; failing = cond (eqb v result-fail) (failingAt d (modifierOf (bytes "exp") all-terms)) absent })
 
 -- redirect: "runs the check on its target with its result, none becoming permerror"
 unfoldable pub noneIsPermerror : Result → Result
-noneIsPermerror r = cond (eqb (r .value) 0) (record { value = 6; counts = r .counts; failing = absent }) r
+noneIsPermerror r = cond (eqb (r .value) result-none) (record { value = result-permerror; counts = r .counts; failing = absent }) r
 
 unfoldable pub redirectOf : Result → Check Result
 redirectOf r = give (noneIsPermerror r)
 
 -- "No match: redirect ..; without it, neutral."
 unfoldable pub noMatch : Mail → Sub → List ℕ → Optional (List ℕ) → Counts → Check Result
-noMatch mail sub d absent c = ended 1 c
+noMatch mail sub d absent c = ended result-neutral c
 noMatch mail sub d (present spec) c = bind (begunCheck mail sub d spec c) redirectOf
 
--- what a step makes of the check
-unfoldable pub afterStep : List ℕ → List Placed → Said → Match → Counts → (Counts → Check Result) → Check Result
-afterStep d all-terms x yes c rest = signed d all-terms (signResult (numberOr (x .sign))) c
-afterStep d all-terms x no c rest = rest c
-afterStep d all-terms x (stop v) c rest = ended v c
+-- "the first match gives its sign's result"; a match without one, which no reading has, would decide nothing
+unfoldable pub matchResult : List ℕ → List Placed → Optional ℕ → Counts → (Counts → Check Result) → Check Result
+matchResult d all-terms absent c rest = rest c
+matchResult d all-terms (present v) c rest = signed d all-terms v c
+
+-- what the step of a term with this sign makes of the check
+unfoldable pub afterStep : List ℕ → List Placed → Optional ℕ → Match → Counts → (Counts → Check Result) → Check Result
+afterStep d all-terms sign yes c rest = matchResult d all-terms (signResult sign) c rest
+afterStep d all-terms sign no c rest = rest c
+afterStep d all-terms sign (stop v) c rest = ended v c
 
 -- "Terms run left to right"
 unfoldable pub tryTerms : Mail → Sub → List ℕ → List Placed → List Placed → Counts → Check Result
 tryTerms mail sub d all-terms [] c = noMatch mail sub d (modifierOf (bytes "redirect") all-terms) c
 tryTerms mail sub d all-terms (t ∷ ts) c =
     bind (termStep mail sub d (t .said) (t .said .sign) c)
-    (λ s. afterStep d all-terms (t .said) (s .match) (s .counts) (tryTerms mail sub d all-terms ts))
+    (λ s. afterStep d all-terms (t .said .sign) (s .match) (s .counts) (tryTerms mail sub d all-terms ts))
 
 -- the reading of a record, term after term; at most f terms
 unfoldable pub termsAfter : TermReport → (ℕ → List Placed) → List Placed
@@ -156,7 +173,7 @@ termsOf s i = termsFrom (suc (length s)) s i
 -- "The whole record is read before any term is tried; outside the grammar gives permerror."
 unfoldable pub readOutcome : Mail → Sub → List ℕ → List ℕ → RecordAnswer → Counts → Check Result
 readOutcome mail sub d s (RecordAnswer.Accepted next) c = tryTerms mail sub d (termsOf s next) (termsOf s next) c
-readOutcome mail sub d s (RecordAnswer.Refused number at) c = ended 6 c
+readOutcome mail sub d s (RecordAnswer.Refused number at) c = ended result-permerror c
 
 -- "Of the texts with a version section"
 unfoldable pub versioned : List (List ℕ) → List (List ℕ)
@@ -170,17 +187,17 @@ pub data Selection : Type 0 where
 
 -- "none gives none, several permerror, a single one is selected"
 unfoldable pub selection : List (List ℕ) → Selection
-selection [] = ends 0
+selection [] = ends result-none
 selection (s ∷ []) = one s
-selection (s ∷ u ∷ r) = ends 6
+selection (s ∷ u ∷ r) = ends result-permerror
 
 -- "Failed gives temperror."
 unfoldable pub textReply : Reply → Check Selection
-textReply failed = give (ends 5)
+textReply failed = give (ends result-temperror)
 textReply (items ss) = give (selection (versioned ss))
 
 unfoldable pub textLookup : List ℕ → Counts → Check Selection
-textLookup d c = ask 16 d c textReply
+textLookup d c = ask kind-txt d c textReply
 
 -- "if the table holds an answered SPF entry with items, those texts; otherwise the TXT question"
 unfoldable pub spfItems : List ℕ → Counts → List (List ℕ) → Check Selection
@@ -201,20 +218,25 @@ afterLookup mail sub d c (one s) = readOutcome mail sub d s (readRecord s) c
 
 -- "A malformed or single-label domain gives none."
 unfoldable pub checkName : Mail → Sub → Naming → Counts → Check Result
-checkName mail sub malformed c = ended 0 c
-checkName mail sub (name d) c = cond (leb (labelCount d) 1) (ended 0 c) (bind (recordLookup d c) (afterLookup mail sub d c))
+checkName mail sub malformed c = ended result-none c
+checkName mail sub (name d) c = cond (leb (labelCount d) 1) (ended result-none c) (bind (recordLookup d c) (afterLookup mail sub d c))
 
--- the check of a domain, with at most n checks below one another; each takes one of the ten lookups, so eleven are enough
+-- the check of a domain, with at most n checks below one another
 unfoldable pub check : ℕ → Mail → Sub
-check zero mail d c = ended 6 c
+check zero mail d c = ended result-permerror c
 check (suc n) mail d c = checkName mail (check n mail) d c
+
+-- the check of a domain: each check below another takes one of the ten lookups, so eleven are enough and the number decides nothing (`whole-unfolds`,
+-- proofs/Laws/Enough.antt)
+abbrev pub whole : Mail → Sub
+whole mail = check 11 mail
 
 abbrev pub noCounts : Counts
 noCounts = record { lookups = 0; voids = 0 }
 
 -- the evaluation of a domain as it was given; "In a check `d` shows its domain lowered and without the trailing dot (house choice)"
 unfoldable pub evaluation : Mail → List ℕ → Check Result
-evaluation mail domain = check 11 mail (normal domain) noCounts
+evaluation mail domain = whole mail (normal domain) noCounts
 
 -- "over 500 bytes: empty text"
 abbrev pub most-text : ℕ
@@ -239,7 +261,7 @@ explainReply mail d c (items ss) = explained mail d c ss
 
 unfoldable pub explainName : Mail → List ℕ → Counts → Naming → Check (List ℕ)
 explainName mail d c malformed = give []
-explainName mail d c (name n) = ask 16 n c (explainReply mail d c)
+explainName mail d c (name n) = ask kind-txt n c (explainReply mail d c)
 
 -- "Fail at the outermost check, or through redirects only, fetches exp of the failing record"; "It counts nothing, but a missing entry gives 7."
 unfoldable pub explanation : Mail → Optional Failing → Counts → Check (List ℕ)

@@ -1,71 +1,41 @@
--- 01's cases about evaluation and its section "Errors that look right", computed: each is a zone, a mail and what the evaluation answers.
+-- 01's cases about evaluation and its section "Errors that look right", and one example for each of its sentences (Rules.antt), computed: each is a zone, a
+-- mail and what the evaluation answers.
 use Prim.Native.Nat.{ℕ}
 use mathlib.Core.Path.{_≡_, refl}
 use mathlib.Core.List.{List, [], _∷_, _++_}
-use mathlib.Core.Bool.{cond, _&&_}
-use lib.Dec.{eqb}
 use Rattle.text.specs.Texts.{bytes}
-use Rattle.address.specs.declared.Address.the-variants.{IPv4}
-use Rattle.records.specs.Readings.{absent, present}
 use Rattle.text.specs.Bytes.{within, isSpace, isNotSpace, isNotSlash, isUpper, isNotUpper, isAlpha, isDigit, isLengthByte, isAlphanumeric, isHexDigit, isVisible, isPrintable, isLabelByte, isNameByte, isToplabelByte, isMacroLiteral, isDelimiter, lower}
 use Rattle.text.specs.Decimal.{decimalFrom, decimal, isDecimal, readDecimal, pushed, hasNoLeadingZero, readNumber}
 use Rattle.text.specs.Lists.{same, sameWord, contains, all, rightmost, grow, split, separatorBefore, joinBy}
 use Rattle.text.specs.Runs.{isIn, run as text-runs-of-run, runEnd, trailingStart}
 use Rattle.text.specs.Writing.{overwritten}
 use Rattle.address.specs.Matching.{bitsOf, bits, agree, matchesAt}
-use Rattle.address.specs.Octets.{octetsOf, octets, valueFrom, valueOf as address-octets-of-valueOf, fromOctets, mappedPrefix, clientOctets, asClient}
+use Rattle.address.specs.Octets.{octetsOf, octets, valueFrom, valueOf, fromOctets, mappedPrefix, clientOctets, asClient}
 use Rattle.domain.specs.Names.{labels, isLabel, isName, isTableName, labelCount, atOrBelow}
 use Rattle.domain.specs.Normal.{withoutDot, lowered, normal}
 use Rattle.domain.specs.Shortening.{shorterLabels, shortened}
+use Rattle.table.specs.Reader.{number}
 use Rattle.notation.specs.Digits.{digit, numeral, inDecimal, inHex}
-use Rattle.notation.specs.Forms.{nibbles, groups, octetTexts, nibbleTexts, dotted, readable, family, reversedName}
-use Rattle.notation.specs.Rows.{partsOf, textOf as notation-rows-of-textOf, ordered, place, separated, row}
+use Rattle.notation.specs.Forms.{nibbles, hexGroups, octetTexts, nibbleTexts, dotted, readable, family, reversedName}
+use Rattle.notation.specs.Rows.{partsOf, textOf as notation-rows-of-textOf, ordered, place, separated, row as notation-rows-of-row}
 use Rattle.transformers.specs.Transform.{isListed, reversedIf, kept, isUnreserved, hexDigit, escapedByte, escaped, transformed}
-use Rattle.macros.specs.Expansion.{lastPart as macros-expansion-of-lastPart, senderDomain, written, localPart, receiverName, lettersOf, valueOf as macros-expansion-of-valueOf, laterValue, escapeText, pieceText, macroText, textOf as macros-expansion-of-textOf, isSender, isHost, isShort}
-use Rattle.macros.specs.Grammar.{isLetter, isCount}
+use Rattle.macros.specs.Expansion.{lastPart as macros-expansion-of-lastPart, senderDomain, frontParts, localAsWritten, localPart, receiverName, lettersOf, letterValue, laterValue, escapeText, pieceText, macroText, textOf as macros-expansion-of-textOf, isSender, isHost, isShort}
+use Rattle.macros.specs.Grammar.{isLetter, isPartCount}
 use Rattle.macros.specs.Numbers.{fitted, outcome}
 use Rattle.macros.specs.Question.{questionName}
 use Rattle.macros.specs.Reader.{isLiteral, isEscape, isReverse, closedAt, delimitersAt, reversalAt, digitsAt, bracesOf, pieceOf, macroOf, piecesAfter, piecesFrom, pieces, endsInMacro, isToplabel, lastLabel, endsInLabel, endsRight, isMacroString, isP, anyP, scanOf, usesP}
-use Rattle.networks.specs.Grammar.{hexValue, hexFrom, groupsFrom}
+use Rattle.networks.specs.Grammar.{hexValue, hexFrom, groupsFrom, addressOf, filled}
 use Rattle.networks.specs.Reader.{octetAt, dotOctetAt, readIp4, slashNumber, readLength, readLength4, readLength6, frontEnd, secondLength, readDual}
-use Rattle.networks.specs.Reader6.{firstColon, isDoubleColon, doubleColon, readH16, tailOf, lastOf, lastPart as networks-reader6-of-lastPart, push, rowOf, readRow, readSide, addressOf, filled, fullOf, shortOf, readIp6, firstOf, readAddress, octetPairs, networkOf}
+use Rattle.networks.specs.Reader6.{firstColon, isDoubleColon, doubleColon, readH16, tailOf, lastOf, lastPart as networks-reader6-of-lastPart, push, rowOf, readRow, readSide, fullOf, shortOf, readIp6, firstOf, readAddress, octetPairs, networkOf}
 use Rattle.records.specs.Grammar.{isQualifier, isReserved, countOf}
-use Rattle.records.specs.Numbers.{saidOf, argumentOf}
+use Rattle.records.specs.Numbers.{saidOf}
 use Rattle.records.specs.Reader.{laterKind, kindOf, specAt, allOf, withSpec, ptrOf, cutOf, hostsCut, hostsAt, withHosts, networkTerm, networkCut, networkBy, mechanismBy, mechanismOf, modifierOf as records-reader-of-modifierOf, tokenOf, tokenAnswer, termFrom, readTerm, isRedirect, isExplanation, checkAfter, checkFrom, hasVersion, readRecord}
-use Rattle.meaning.specs.Evaluation.{Verdict, includeMatch, checkTarget, begunCheck, includeOf, includeStep, bytesOr, numberOr, lengthFor, networkStep, mechanismStep, termStep, signResult, modifierOf, failingAt, signed, noneIsPermerror, redirectOf, noMatch, afterStep, tryTerms, termsAfter, termsFrom, termsOf, readOutcome, versioned, selection, textReply, textLookup, spfItems, spfReply, recordLookup, afterLookup, checkName, check, evaluation, shown, givesShown, explained, explainReply, explainName, explanation, verdict}
-use Rattle.meaning.specs.Mechanisms.{Mail, addressKind, itemMatches, anyMatches, width, includesClient, withValid, validated, namesOf, holdsName, firstBelow, firstOr, chosen, givesChosen, pReply, pValue, expansion, givesExpansion, expanded, givesName, target, targetOr, counting, withName, naming, named, orVoid, aReply, askA, aStep, existsReply, askExists, existsStep, insertHost, byPreference, hostReply, askHosts, mxItems, mxReply, askMx, mxStep, nameReply, askNames, ptrReply, askPtr, ptrStep}
+use Rattle.meaning.specs.Evaluation.{includeMatch, checkTarget, begunCheck, includeOf, includeStep, lengthFor, networkStep, mechanismStep, termStep, signResult, modifierOf, failingAt, signed, noneIsPermerror, redirectOf, noMatch, afterStep, tryTerms, termsAfter, termsFrom, termsOf, readOutcome, versioned, selection, textReply, textLookup, spfItems, spfReply, recordLookup, afterLookup, checkName, check, evaluation, shown, givesShown, explained, explainReply, explainName, explanation, verdict, having, plainStep, matchResult}
+use Rattle.meaning.specs.Mechanisms.{addressKind, itemMatches, anyMatches, width, includesClient, withValid, validated, namesOf, holdsName, firstBelow, firstOr, chosen, givesChosen, pReply, pValue, expansion, givesExpansion, expanded, givesName, target, targetOr, counting, orVoid, aReply, askA, aStep, existsReply, askExists, existsStep, insertHost, byPreference, hostReply, mxItems, mxReply, askMx, mxStep, nameReply, ptrReply, askPtr, ptrStep, atTarget, targetStep, countedStep, onMatch, untilMatch, askHost, askName}
 use Rattle.meaning.specs.Tables.{replyBy, replyOf, tableIn}
-use Rattle.meaning.specs.Tree.{Reply, items, Table, Settled, settled, wanting, bind, then, answered, run}
-
--- a zone: the kind, the name and the answer of each entry
-pub record Row : Type 0 where
-  pub kind : ℕ
-  pub owner : List ℕ
-  pub reply : Reply
-
-unfoldable pub zone : List Row → Table
-zone [] kind owner = absent
-zone (r ∷ rs) kind owner = cond (eqb (r .kind) kind && same (r .owner) owner) (present (r .reply)) (zone rs kind owner)
-
--- a record of a domain
-abbrev pub txt : List ℕ → List ℕ → Row
-txt owner s = record { kind = 16; owner = owner; reply = items (s ∷ []) }
-
--- a question for addresses that finds nothing
-abbrev pub nothing : List ℕ → Row
-nothing owner = record { kind = 1; owner = owner; reply = items [] }
-
--- client 192.0.2.129, sender user@example.com, HELO helo.example
-abbrev pub mail : Mail
-mail = record { client = IPv4 3221226113; sender = bytes "user@example.com"; helo = bytes "helo.example"; receiver = []; seconds = 7 }
-
--- what example.com's evaluation answers over a zone
-unfoldable pub answer : List Row → Settled Verdict
-answer rs = run (zone rs) (verdict mail (bytes "example.com"))
-
--- a number and both counts, without a text
-abbrev pub decided : ℕ → ℕ → ℕ → Settled Verdict
-decided v l w = settled (record { value = v; counts = record { lookups = l; voids = w }; text = [] })
+use Rattle.meaning.specs.Tree.{items, settled, wanting, bind, then, answered, run}
+use Rattle.meaning.specs.Zones.{zone, txt, nothing, answer, answer6, decided}
+use Rattle.meaning.specs.Rules.{Rules}
 
 -- a label of 60 bytes and its dot
 abbrev pub long : List ℕ
@@ -106,21 +76,38 @@ pub record Cases : Type 0 where
   pub explained-fail : answer (txt (bytes "example.com") (bytes "v=spf1 -all exp=e.example") ∷ txt (bytes "e.example") (bytes "%{i} at %{t}") ∷ [])
       ≡ settled (record { value = 3; counts = record { lookups = 0; voids = 0 }; text = bytes "192.0.2.129 at 7" })
 
-pub cases : Cases
-unfolding zone answer within isSpace isNotSpace isNotSlash isUpper isNotUpper isAlpha isDigit isLengthByte isAlphanumeric isHexDigit isVisible isPrintable isLabelByte isNameByte isToplabelByte isMacroLiteral isDelimiter lower decimalFrom decimal isDecimal readDecimal pushed hasNoLeadingZero readNumber same sameWord contains all rightmost grow split isIn text-runs-of-run runEnd trailingStart overwritten bitsOf bits agree matchesAt octetsOf octets valueFrom address-octets-of-valueOf fromOctets mappedPrefix clientOctets asClient labels isLabel isName isTableName labelCount atOrBelow withoutDot lowered normal shorterLabels shortened digit numeral inDecimal inHex nibbles groups octetTexts nibbleTexts dotted readable family reversedName partsOf notation-rows-of-textOf ordered place separatorBefore joinBy separated row isListed reversedIf kept isUnreserved hexDigit escapedByte escaped transformed macros-expansion-of-lastPart senderDomain written localPart receiverName lettersOf macros-expansion-of-valueOf laterValue escapeText pieceText macroText macros-expansion-of-textOf isSender isHost isShort isLetter isCount fitted outcome questionName isLiteral isEscape isReverse closedAt delimitersAt reversalAt digitsAt bracesOf pieceOf macroOf piecesAfter piecesFrom pieces endsInMacro isToplabel lastLabel endsInLabel endsRight isMacroString isP anyP scanOf usesP hexValue hexFrom groupsFrom octetAt dotOctetAt readIp4 slashNumber readLength readLength4 readLength6 frontEnd secondLength readDual firstColon isDoubleColon doubleColon readH16 tailOf lastOf networks-reader6-of-lastPart push rowOf readRow readSide addressOf filled fullOf shortOf readIp6 firstOf readAddress octetPairs networkOf isQualifier isReserved countOf saidOf argumentOf laterKind kindOf specAt allOf withSpec ptrOf cutOf hostsCut hostsAt withHosts networkTerm networkCut networkBy mechanismBy mechanismOf records-reader-of-modifierOf tokenOf tokenAnswer termFrom readTerm isRedirect isExplanation checkAfter checkFrom hasVersion readRecord includeMatch checkTarget begunCheck includeOf includeStep bytesOr numberOr lengthFor networkStep mechanismStep termStep signResult modifierOf failingAt signed noneIsPermerror redirectOf noMatch afterStep tryTerms termsAfter termsFrom termsOf readOutcome versioned selection textReply textLookup spfItems spfReply recordLookup afterLookup checkName check evaluation shown givesShown explained explainReply explainName explanation verdict addressKind itemMatches anyMatches width includesClient withValid validated namesOf holdsName firstBelow firstOr chosen givesChosen pReply pValue expansion givesExpansion expanded givesName target targetOr counting withName naming named orVoid aReply askA aStep existsReply askExists existsStep insertHost byPreference hostReply askHosts mxItems mxReply askMx mxStep nameReply askNames ptrReply askPtr ptrStep replyBy replyOf tableIn bind then answered run
-cases = record {
-  first-question = refl;
-  plain-fail = refl;
-  within-24 = refl;
-  outside-25 = refl;
-  included-fail = refl;
-  redirect-none = refl;
-  later-bad-term = refl;
-  length-33 = refl;
-  long-name = refl;
-  two-voids = refl;
-  three-voids = refl;
-  ten-redirects = refl;
-  eleven-redirects = refl;
-  explained-fail = refl;
+-- 01's cases, and its sentences
+pub record Computed : Type 0 where
+  pub scope : Cases
+  pub rules : Rules
+
+pub computed : Computed
+unfolding zone answer answer6 number within isSpace isNotSpace isNotSlash isUpper isNotUpper isAlpha isDigit isLengthByte isAlphanumeric isHexDigit isVisible isPrintable isLabelByte isNameByte isToplabelByte isMacroLiteral isDelimiter lower decimalFrom decimal isDecimal readDecimal pushed hasNoLeadingZero readNumber same sameWord contains all rightmost grow split isIn text-runs-of-run runEnd trailingStart overwritten bitsOf bits agree matchesAt octetsOf octets valueFrom valueOf fromOctets mappedPrefix clientOctets asClient labels isLabel isName isTableName labelCount atOrBelow withoutDot lowered normal shorterLabels shortened digit numeral inDecimal inHex nibbles hexGroups octetTexts nibbleTexts dotted readable family reversedName partsOf notation-rows-of-textOf ordered place separatorBefore joinBy separated notation-rows-of-row isListed reversedIf kept isUnreserved hexDigit escapedByte escaped transformed macros-expansion-of-lastPart senderDomain frontParts localAsWritten localPart receiverName lettersOf letterValue laterValue escapeText pieceText macroText macros-expansion-of-textOf isSender isHost isShort isLetter isPartCount fitted outcome questionName isLiteral isEscape isReverse closedAt delimitersAt reversalAt digitsAt bracesOf pieceOf macroOf piecesAfter piecesFrom pieces endsInMacro isToplabel lastLabel endsInLabel endsRight isMacroString isP anyP scanOf usesP hexValue hexFrom groupsFrom octetAt dotOctetAt readIp4 slashNumber readLength readLength4 readLength6 frontEnd secondLength readDual firstColon isDoubleColon doubleColon readH16 tailOf lastOf networks-reader6-of-lastPart push rowOf readRow readSide addressOf filled fullOf shortOf readIp6 firstOf readAddress octetPairs networkOf isQualifier isReserved countOf saidOf laterKind kindOf specAt allOf withSpec ptrOf cutOf hostsCut hostsAt withHosts networkTerm networkCut networkBy mechanismBy mechanismOf records-reader-of-modifierOf tokenOf tokenAnswer termFrom readTerm isRedirect isExplanation checkAfter checkFrom hasVersion readRecord includeMatch checkTarget begunCheck includeOf includeStep lengthFor networkStep mechanismStep termStep signResult modifierOf failingAt signed noneIsPermerror redirectOf noMatch afterStep tryTerms termsAfter termsFrom termsOf readOutcome versioned selection textReply textLookup spfItems spfReply recordLookup afterLookup checkName check evaluation shown givesShown explained explainReply explainName explanation verdict addressKind itemMatches anyMatches width includesClient withValid validated namesOf holdsName firstBelow firstOr chosen givesChosen pReply pValue expansion givesExpansion expanded givesName target targetOr counting orVoid aReply askA aStep existsReply askExists existsStep insertHost byPreference hostReply mxItems mxReply askMx mxStep nameReply ptrReply askPtr ptrStep replyBy replyOf tableIn bind then answered run having plainStep matchResult atTarget targetStep countedStep onMatch untilMatch askHost askName
+computed = record {
+  scope = record {
+    first-question = refl;
+    plain-fail = refl;
+    within-24 = refl;
+    outside-25 = refl;
+    included-fail = refl;
+    redirect-none = refl;
+    later-bad-term = refl;
+    length-33 = refl;
+    long-name = refl;
+    two-voids = refl;
+    three-voids = refl;
+    ten-redirects = refl;
+    eleven-redirects = refl;
+    explained-fail = refl;
+  };
+  rules = record {
+    lookup = record { malformed-domain = refl; single-label = refl; lookup-failed = refl; no-record = refl; several-records = refl; single-record = refl; spf-first = refl; spf-void = refl };
+    signs = record { plus = refl; unwritten = refl; minus = refl; tilde = refl; question-mark = refl; no-match = refl };
+    include = record { pass = refl; softfail = refl; neutral = refl; temperror = refl; permerror = refl; none = refl };
+    a = record { four-matches = refl; four-differs = refl; six-matches = refl; six-differs = refl; six-asks = refl; failed = refl; exists-asks-a = refl; other-family = refl };
+    mx = record { ten-items = refl; eleven-items = refl; by-preference = refl; ties-in-order = refl; until-one-matches = refl; nameless-item = refl; failed-host = refl; at-its-length = refl };
+    ptr = record { target-itself = refl; below-target = refl; by-whole-labels = refl; not-validated = refl; ten-names = refl; eleventh-name = refl; failed-question = refl; failed-name = refl; void-question = refl; six-validated = refl; six-not-validated = refl };
+    p = record { current-domain = refl; after-current-domain = refl; first-below = refl; first = refl; unknown = refl; all-are-asked = refl };
+    explanation = record { missing = refl; through-redirect = refl; through-include = refl; lookup-failed = refl; void = refl; doubled = refl; malformed-text = refl; malformed-name = refl; unprintable = refl; of-500-bytes = refl; of-501-bytes = refl };
+  };
 }

@@ -1,17 +1,27 @@
 -- 01's evaluation as definitions.
+-- Results: 01's results by name.
+pub mod Results
 -- Tree: a check as a tree of questions, and what a table settles of it.
 pub mod Tree
 -- Tables: an answer table as what it has for each question.
 pub mod Tables
 -- Mechanisms: what each mechanism asks and whether it matches.
 pub mod Mechanisms
+-- Preferences: the order of an mx's hosts.
+pub mod Preferences
 -- Evaluation: record lookup, terms, include, redirect, and the explanation.
 pub mod Evaluation
 -- Outcomes: what the code's answers say of what a table settles.
 pub mod Outcomes
 -- Reached: which checks an evaluation comes to, and when a text is outside the grammar.
 pub mod Reached
--- Examples: cases of 01 about evaluation, computed.
+-- Zones: zones and mails for examples.
+pub mod Zones
+-- Rules: 01's sentences on evaluation, an example for each.
+pub mod Rules
+-- Examples: cases of 01 about evaluation and those of Rules, computed.
 pub mod Examples
+-- ReachedExample: a record outside the grammar, reached by an include and a redirect.
+pub mod ReachedExample
 -- ScopeCases: 01's proved cases as a single statement.
 pub mod ScopeCases

@@ -20,8 +20,10 @@ use Rattle.macros.specs.declared.Form.{Form}
 use Rattle.macros.specs.Reader.{pieces, usesP}
 use Rattle.macros.specs.Expansion.{given, lettersOf, textOf}
 use Rattle.macros.specs.Question.{questionName}
+use Rattle.table.specs.Layout.{kind-a, kind-ptr, kind-mx, kind-aaaa}
 use Rattle.records.specs.Readings.{Optional, absent, present}
 use Rattle.meaning.specs.declared.Counts.{Counts}
+use Rattle.meaning.specs.Results.{result-temperror, result-permerror}
 use Rattle.meaning.specs.Tree.{Reply, failed, items, Check, give, ask, bind}
 
 -- what a check is given besides its domain; the client is already as it counts: "IPv4-mapped clients count as IPv4"
@@ -47,8 +49,8 @@ step m c = give (record { match = m; counts = c })
 
 -- "the address question of the client's family"
 unfoldable pub addressKind : Address → ℕ
-addressKind (IPv4 v) = 1
-addressKind (IPv6 h l) = 28
+addressKind (IPv4 v) = kind-a
+addressKind (IPv6 h l) = kind-aaaa
 
 -- whether an item of an address answer matches the client at a prefix length
 unfoldable pub itemMatches : Address → ℕ → FromOctets → Bool
@@ -113,7 +115,7 @@ pReply client d c r = bind (validated client c (namesOf r) []) (givesChosen d)
 
 -- the value of p for a current domain
 unfoldable pub pValue : Address → List ℕ → Counts → Check (List ℕ)
-pValue client d c = ask 12 (reversedName client) c (pReply client d c)
+pValue client d c = ask kind-ptr (reversedName client) c (pReply client d c)
 
 -- the expansion of a text of the grammar, with a value of p
 unfoldable pub expansion : Mail → List ℕ → Form → List ℕ → List ℕ → List ℕ
@@ -158,49 +160,65 @@ unfoldable pub counting : {A : Type 0} → (Counts → Check A) → (Counts → 
 counting refused go c = cond (ltb (c .lookups) most-lookups) (go (begun c)) (refused c)
 
 -- "A malformed target of a, mx, ptr or exists doesn't match, counts its term and asks nothing of its own"
-unfoldable pub withName : (List ℕ → Check Step) → Counts → Naming → Check Step
-withName go c malformed = step no c
-withName go c (name n) = go n
+unfoldable pub atTarget : (List ℕ → Check Step) → Counts → Naming → Check Step
+atTarget go c malformed = step no c
+atTarget go c (name n) = go n
 
 -- a, mx, ptr or exists once it is counted: its target (p's questions come "before all else"), then its own questions
-unfoldable pub naming : Mail → List ℕ → Optional (List ℕ) → (Counts → List ℕ → Check Step) → Counts → Check Step
-naming mail d spec go c = bind (targetOr mail d spec c) (withName (go c) c)
+unfoldable pub targetStep : Mail → List ℕ → Optional (List ℕ) → (Counts → List ℕ → Check Step) → Counts → Check Step
+targetStep mail d spec go c = bind (targetOr mail d spec c) (atTarget (go c) c)
 
-unfoldable pub named : Mail → List ℕ → Optional (List ℕ) → (Counts → List ℕ → Check Step) → Counts → Check Step
-named mail d spec go c = counting (step (stop 6)) (naming mail d spec go) c
+-- .. and before that its count
+unfoldable pub countedStep : Mail → List ℕ → Optional (List ℕ) → (Counts → List ℕ → Check Step) → Counts → Check Step
+countedStep mail d spec go c = counting (step (stop result-permerror)) (targetStep mail d spec go) c
 
 -- "A void answer is status 3, or 0 without items" (an entry of status 3 has none); "each a, mx, ptr or exists counts the void answer to its own first
 -- question, none of p's, and the third gives permerror at once"
 unfoldable pub orVoid : Counts → List (List ℕ) → Check Step → Check Step
-orVoid c [] rest = cond (ltb (c .voids) most-voids) (step no (voided c)) (step (stop 6) (voided c))
+orVoid c [] rest = cond (ltb (c .voids) most-voids) (step no (voided c)) (step (stop result-permerror) (voided c))
 orVoid c (d ∷ ds) rest = rest
 
 abbrev pub matched : Bool → Counts → Check Step
 matched t c = cond t (step yes c) (step no c)
 
+-- what comes after a step: the rest where it doesn't match, from the counts that it left
+unfoldable pub onMatch : (Counts → Check Step) → Match → Counts → Check Step
+onMatch rest yes c = step yes c
+onMatch rest no c = rest c
+onMatch rest (stop v) c = step (stop v) c
+
+abbrev pub ifNoMatch : (Counts → Check Step) → Step → Check Step
+ifNoMatch rest s = onMatch rest (s .match) (s .counts)
+
+-- candidates one after the other, each from the counts that the last one left, "until one matches" or ends the check
+unfoldable pub untilMatch : {A : Type 0} → (A → Counts → Check Step) → List A → Counts → Check Step
+untilMatch f [] c = step no c
+untilMatch f (x ∷ xs) c = bind (f x c) (ifNoMatch (untilMatch f xs))
+
 -- a: "the address question of the client's family"; "A failed question gives temperror."
 unfoldable pub aReply : Address → ℕ → Counts → Reply → Check Step
-aReply client n c failed = step (stop 5) c
+aReply client n c failed = step (stop result-temperror) c
 aReply client n c (items ds) = orVoid c ds (matched (anyMatches client n ds) c)
 
 unfoldable pub askA : Address → ℕ → Counts → List ℕ → Check Step
 askA client n c m = ask (addressKind client) m c (aReply client n c)
 
 unfoldable pub aStep : Mail → List ℕ → Optional (List ℕ) → ℕ → Counts → Check Step
-aStep mail d spec n c = named mail d spec (askA (mail .client) n) c
+aStep mail d spec n c = countedStep mail d spec (askA (mail .client) n) c
 
 -- exists: "always A, matched by any item"
 unfoldable pub existsReply : Counts → Reply → Check Step
-existsReply c failed = step (stop 5) c
+existsReply c failed = step (stop result-temperror) c
 existsReply c (items ds) = orVoid c ds (step yes c)
 
 unfoldable pub askExists : Counts → List ℕ → Check Step
-askExists c m = ask 1 m c (existsReply c)
+askExists c m = ask kind-a m c (existsReply c)
 
 unfoldable pub existsStep : Mail → List ℕ → List ℕ → Counts → Check Step
-existsStep mail d spec c = named mail d (present spec) askExists c
+existsStep mail d spec c = countedStep mail d (present spec) askExists c
 
--- mx: the hosts "by preference .., ties in item order": an item stands before the first of an equal or greater preference, and the last is placed first
+-- mx: the hosts "by preference .., ties in item order" (`Ordered`, specs/Preferences.antt; theorem `by-preference`): an item stands before the first of
+-- an equal or greater preference, and the last is placed first
 unfoldable pub insertHost : List ℕ → List (List ℕ) → List (List ℕ)
 insertHost d [] = d ∷ []
 insertHost d (e ∷ es) = cond (leb (number d) (number e)) (d ∷ e ∷ es) (e ∷ insertHost d es)
@@ -209,52 +227,56 @@ unfoldable pub byPreference : List (List ℕ) → List (List ℕ)
 byPreference [] = []
 byPreference (d ∷ ds) = insertHost d (byPreference ds)
 
--- a host's addresses, with the hosts after it
-unfoldable pub hostReply : Address → ℕ → Counts → Check Step → Reply → Check Step
-hostReply client n c rest failed = step (stop 5) c
-hostReply client n c rest (items ds) = cond (anyMatches client n ds) (step yes c) rest
+-- a host's addresses; "A failed question gives temperror."
+unfoldable pub hostReply : Address → ℕ → Counts → Reply → Check Step
+hostReply client n c failed = step (stop result-temperror) c
+hostReply client n c (items ds) = matched (anyMatches client n ds) c
 
--- "addresses are asked by preference until one matches ..; a nameless item asks nothing"
-unfoldable pub askHosts : Address → ℕ → Counts → List (List ℕ) → Check Step
-askHosts client n c [] = step no c
-askHosts client n c (d ∷ ds) =
-    cond (eqb (length d) 2) (askHosts client n c ds) (ask (addressKind client) (drop 2 d) c (hostReply client n c (askHosts client n c ds)))
+-- "a nameless item asks nothing"
+unfoldable pub askHost : Address → ℕ → List ℕ → Counts → Check Step
+askHost client n d c = cond (eqb (length d) 2) (step no c) (ask (addressKind client) (drop 2 d) c (hostReply client n c))
+
+-- "addresses are asked by preference until one matches"
+abbrev pub askHosts : Address → ℕ → List (List ℕ) → Counts → Check Step
+askHosts client n ds c = untilMatch (askHost client n) ds c
 
 -- "over 10 items gives permerror"
 abbrev pub most-hosts : ℕ
 most-hosts = 10
 
 unfoldable pub mxItems : Address → ℕ → Counts → List (List ℕ) → Check Step
-mxItems client n c ds = cond (leb (length ds) most-hosts) (askHosts client n c (byPreference ds)) (step (stop 6) c)
+mxItems client n c ds = cond (leb (length ds) most-hosts) (askHosts client n (byPreference ds) c) (step (stop result-permerror) c)
 
 unfoldable pub mxReply : Address → ℕ → Counts → Reply → Check Step
-mxReply client n c failed = step (stop 5) c
+mxReply client n c failed = step (stop result-temperror) c
 mxReply client n c (items ds) = orVoid c ds (mxItems client n c ds)
 
 unfoldable pub askMx : Address → ℕ → Counts → List ℕ → Check Step
-askMx client n c m = ask 15 m c (mxReply client n c)
+askMx client n c m = ask kind-mx m c (mxReply client n c)
 
 unfoldable pub mxStep : Mail → List ℕ → Optional (List ℕ) → ℕ → Counts → Check Step
-mxStep mail d spec n c = named mail d spec (askMx (mail .client) n) c
+mxStep mail d spec n c = countedStep mail d spec (askMx (mail .client) n) c
 
 -- ptr: "one is validated if its addresses include the client, and a validated name matches if it is the target or below it"; "a failed address
--- question skips its name". The name n, the target m, and the names after n.
-unfoldable pub nameReply : Address → List ℕ → Counts → List ℕ → Check Step → Reply → Check Step
-nameReply client m c n rest r = cond (includesClient client r && atOrBelow n m) (step yes c) rest
+-- question skips its name". The name n and the target m.
+unfoldable pub nameReply : Address → List ℕ → Counts → List ℕ → Reply → Check Step
+nameReply client m c n r = matched (includesClient client r && atOrBelow n m) c
+
+unfoldable pub askName : Address → List ℕ → List ℕ → Counts → Check Step
+askName client m n c = ask (addressKind client) n c (nameReply client m c n)
 
 -- "the first 10 names, asked in order until one matches"
-unfoldable pub askNames : Address → List ℕ → Counts → List (List ℕ) → Check Step
-askNames client m c [] = step no c
-askNames client m c (n ∷ ns) = ask (addressKind client) n c (nameReply client m c n (askNames client m c ns))
+abbrev pub askNames : Address → List ℕ → List (List ℕ) → Counts → Check Step
+askNames client m ns c = untilMatch (askName client m) ns c
 
 -- "A failed PTR question yields no names"; it is no void answer
 unfoldable pub ptrReply : Address → List ℕ → Counts → Reply → Check Step
 ptrReply client m c failed = step no c
-ptrReply client m c (items ds) = orVoid c ds (askNames client m c (take most-names ds))
+ptrReply client m c (items ds) = orVoid c ds (askNames client m (take most-names ds) c)
 
 -- "the reversed name in `in-addr.arpa` or `ip6.arpa`"
 unfoldable pub askPtr : Address → Counts → List ℕ → Check Step
-askPtr client c m = ask 12 (reversedName client) c (ptrReply client m c)
+askPtr client c m = ask kind-ptr (reversedName client) c (ptrReply client m c)
 
 unfoldable pub ptrStep : Mail → List ℕ → Optional (List ℕ) → Counts → Check Step
-ptrStep mail d spec c = named mail d spec (askPtr (mail .client)) c
+ptrStep mail d spec c = countedStep mail d spec (askPtr (mail .client)) c

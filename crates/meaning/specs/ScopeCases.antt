@@ -2,7 +2,7 @@
 use Rattle.address.specs.Examples.{Cases as AddressCases, cases as address-cases}
 use Rattle.macros.specs.Examples.{Cases as MacroCases, cases as macro-cases}
 use Rattle.records.specs.Examples.{Cases as RecordCases, cases as record-cases}
-use Rattle.meaning.specs.Examples.{Cases as EvaluationCases, cases as evaluation-cases}
+use Rattle.meaning.specs.Examples.{Cases as EvaluationCases, computed}
 
 pub record ScopeCases : Type 0 where
   -- `v=spf1`; `v=spf10 -all`; ip4 /32 and /33; ip6 /128 and /129; `ip4=192.0.2.1`; redirect, exp, redirect
@@ -15,4 +15,4 @@ pub record ScopeCases : Type 0 where
   pub of-evaluation : EvaluationCases
 
 pub scope-cases : ScopeCases
-scope-cases = record { of-records = record-cases; of-macros = macro-cases; of-addresses = address-cases; of-evaluation = evaluation-cases }
+scope-cases = record { of-records = record-cases; of-macros = macro-cases; of-addresses = address-cases; of-evaluation = computed .scope }

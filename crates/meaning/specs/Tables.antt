@@ -3,6 +3,7 @@ use Prim.Native.Nat.{ℕ}
 use mathlib.Core.List.{List}
 use mathlib.Core.Bool.{cond}
 use lib.Dec.{eqb}
+use Rattle.table.specs.Layout.{status-failed}
 use Rattle.table.specs.Lookup.{Lookup, lookup}
 use Rattle.table.specs.Reader.{entriesOf}
 use Rattle.records.specs.Readings.{Optional, absent, present}
@@ -10,7 +11,7 @@ use Rattle.meaning.specs.Tree.{Reply, failed, items, Table}
 
 -- "status (0 answered, 2 failed, 3 no such name)"; the last has no items
 unfoldable pub replyBy : ℕ → List (List ℕ) → Reply
-replyBy status ds = cond (eqb status 2) failed (items ds)
+replyBy status ds = cond (eqb status status-failed) failed (items ds)
 
 unfoldable pub replyOf : Lookup → Optional Reply
 replyOf Lookup.absent = absent

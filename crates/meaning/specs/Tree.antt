@@ -2,6 +2,7 @@
 use Prim.Native.Nat.{ℕ}
 use mathlib.Core.Path.{_≡_, refl}
 use mathlib.Core.List.{List}
+use Rattle.table.specs.Layout.{kind-spf}
 use Rattle.records.specs.Readings.{Optional, absent, present}
 use Rattle.meaning.specs.declared.Counts.{Counts}
 
@@ -44,7 +45,7 @@ answered (present r) w f = f r
 unfoldable pub run : {A : Type 0} → Table → Check A → Settled A
 run t (give a) = settled a
 run t (ask k d c g) = answered (t k d) (wanting k d c) (λ r. run t (g r))
-run t (peek d g) = run t (g (t 99 d))
+run t (peek d g) = run t (g (t kind-spf d))
 
 answered-then : {A B : Type 0} (r : Optional Reply) (k : ℕ) (d : List ℕ) (c : Counts) (g : Reply → Settled A) (f : A → Settled B) (h : Reply → Settled B)
     → ((x : Reply) → h x ≡ then (g x) f) → answered r (wanting k d c) h ≡ then (answered r (wanting k d c) g) f
@@ -58,4 +59,4 @@ unfolding run bind then
 run-bind t (give a) f = refl
 run-bind t (ask k d c g) f =
     answered-then (t k d) k d c (λ r. run t (g r)) (λ a. run t (f a)) (λ r. run t (bind (g r) f)) (λ r. run-bind t (g r) f)
-run-bind t (peek d g) f = run-bind t (g (t 99 d)) f
+run-bind t (peek d g) f = run-bind t (g (t kind-spf d)) f

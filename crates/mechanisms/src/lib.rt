@@ -6,7 +6,7 @@ ghost use lib.Dec.{eqb};
 ghost use lib.ListN.{length};
 ghost use Rattle.meaning.specs.Tree.{run};
 ghost use Rattle.meaning.specs.Tables.{tableIn};
-ghost use Rattle.meaning.specs.Mechanisms.{named};
+ghost use Rattle.meaning.specs.Mechanisms.{countedStep};
 ghost use Rattle.meaning.specs.Outcomes.{mailOf, SaysStep};
 ghost use Rattle.mechanisms.specs.Terms.{asker, lengthOf, specIf, TriedIs};
 use address::Address;
@@ -54,7 +54,7 @@ fn ask(
 }
 
 // a, mx, ptr and exists: counts a lookup, makes the target, and asks.
-fn named_step(
+fn counted_step(
     question: Question,
     prefix: usize,
     client: Address,
@@ -70,7 +70,7 @@ fn named_step(
     out: &mut [u8],
 ) -> Stepped
     requires { ⌜ (length (now sender) ≤ 320) × (length (now domain) ≤ 253) × (counts .voids ≤ 2) ⌝ }
-    ensures { λ r. ⌜ SaysStep (run (tableIn (now (table .entry))) (named (mailOf client (now (sender .entry)) (now (helo .entry)) (now (receiver .entry)) seconds) (now (domain .entry)) (specIf given (now (spec .entry))) (asker question client prefix) counts)) r (now (out .entry)) (now (out .exit)) ⌝ }
+    ensures { λ r. ⌜ SaysStep (run (tableIn (now (table .entry))) (countedStep (mailOf client (now (sender .entry)) (now (helo .entry)) (now (receiver .entry)) seconds) (now (domain .entry)) (specIf given (now (spec .entry))) (asker question client prefix) counts)) r (now (out .entry)) (now (out .exit)) ⌝ }
 {
     let used = counts.lookups;
     if 10 <= used {
@@ -164,7 +164,7 @@ pub fn try_plain(
             to,
             four,
             six,
-        } => Tried::Step(named_step(
+        } => Tried::Step(counted_step(
             Question::A,
             length_of(client, four, six),
             client,
@@ -185,7 +185,7 @@ pub fn try_plain(
             to,
             four,
             six,
-        } => Tried::Step(named_step(
+        } => Tried::Step(counted_step(
             Question::Mx,
             length_of(client, four, six),
             client,
@@ -200,7 +200,7 @@ pub fn try_plain(
             counts,
             out,
         )),
-        Term::Ptr { sign: _, from, to } => Tried::Step(named_step(
+        Term::Ptr { sign: _, from, to } => Tried::Step(counted_step(
             Question::Ptr,
             0,
             client,
@@ -225,7 +225,7 @@ pub fn try_plain(
             address::matches(client, address, length as usize),
             counts,
         )),
-        Term::Exists { sign: _, from, to } => Tried::Step(named_step(
+        Term::Exists { sign: _, from, to } => Tried::Step(counted_step(
             Question::Exists,
             0,
             client,

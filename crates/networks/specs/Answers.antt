@@ -26,6 +26,6 @@ pub data DualAnswer (Produced : ℕ → ℕ → Type 0) : Dual → Type 0 where
   none : ((n m : ℕ) → Produced n m → ⊥) → DualAnswer Produced NoLengths
 
 -- an address written as for ip4 or ip6
-pub data Written : List ℕ → Address → Type 0 where
-  four : {w : List ℕ} {a : Address} → Network4 w a → Written w a
-  six : {w : List ℕ} {a : Address} → Network6 w a → Written w a
+pub data AddressText : List ℕ → Address → Type 0 where
+  four : {w : List ℕ} {a : Address} → Network4 w a → AddressText w a
+  six : {w : List ℕ} {a : Address} → Network6 w a → AddressText w a

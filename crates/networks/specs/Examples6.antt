@@ -8,9 +8,9 @@ use Rattle.text.specs.Texts.{bytes}
 use Rattle.address.specs.Octets.{valueFrom, valueOf}
 use Rattle.address.specs.declared.Address.the-variants.{IPv4, IPv6}
 use Rattle.networks.specs.declared.Network.the-variants.{Is, NoNetwork}
-use Rattle.networks.specs.Grammar.{hexValue, hexFrom, groupsFrom}
+use Rattle.networks.specs.Grammar.{hexValue, hexFrom, groupsFrom, addressOf, filled}
 use Rattle.networks.specs.Reader.{octetAt, dotOctetAt, readIp4}
-use Rattle.networks.specs.Reader6.{firstColon, isDoubleColon, doubleColon, readH16, tailOf, lastOf, lastPart, push, rowOf, readRow, readSide, addressOf, filled, fullOf, shortOf, readIp6, firstOf, readAddress}
+use Rattle.networks.specs.Reader6.{firstColon, isDoubleColon, doubleColon, readH16, tailOf, lastOf, lastPart, push, rowOf, readRow, readSide, fullOf, shortOf, readIp6, firstOf, readAddress}
 
 pub record Cases : Type 0 where
   -- 2001:0db8:: is 0x20010db8 and 96 zeros

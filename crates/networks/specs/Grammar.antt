@@ -8,6 +8,7 @@ use lib.ListN.{length, take, drop, replicate}
 use Rattle.text.specs.Bytes.{within, isDigit, isHexDigit, lower}
 use Rattle.text.specs.Lists.{all}
 use Rattle.text.specs.Decimal.{decimal}
+use Rattle.text.specs.Texts.{bytes}
 use Rattle.address.specs.Octets.{valueOf}
 use Rattle.address.specs.declared.Address.{Address}
 use Rattle.address.specs.declared.Address.the-variants.{IPv4, IPv6}
@@ -16,14 +17,14 @@ use Rattle.address.specs.declared.Address.the-variants.{IPv4, IPv6}
 pub data Qnum : List ℕ → ℕ → Type 0 where
   units : {a : ℕ} → isDigit a ≡ true → Qnum (a ∷ []) (decimal (a ∷ []))
   tens : {a b : ℕ} → within 49 57 a ≡ true → isDigit b ≡ true → Qnum (a ∷ b ∷ []) (decimal (a ∷ b ∷ []))
-  hundred : {b c : ℕ} → isDigit b ≡ true → isDigit c ≡ true → Qnum (49 ∷ b ∷ c ∷ []) (decimal (49 ∷ b ∷ c ∷ []))
-  two-hundred : {b c : ℕ} → within 48 52 b ≡ true → isDigit c ≡ true → Qnum (50 ∷ b ∷ c ∷ []) (decimal (50 ∷ b ∷ c ∷ []))
-  two-fifty : {c : ℕ} → within 48 53 c ≡ true → Qnum (50 ∷ 53 ∷ c ∷ []) (decimal (50 ∷ 53 ∷ c ∷ []))
+  hundred : {b c : ℕ} → isDigit b ≡ true → isDigit c ≡ true → Qnum (bytes "1" ++ (b ∷ c ∷ [])) (decimal (bytes "1" ++ (b ∷ c ∷ [])))
+  two-hundred : {b c : ℕ} → within 48 52 b ≡ true → isDigit c ≡ true → Qnum (bytes "2" ++ (b ∷ c ∷ [])) (decimal (bytes "2" ++ (b ∷ c ∷ [])))
+  two-fifty : {c : ℕ} → within 48 53 c ≡ true → Qnum (bytes "25" ++ (c ∷ [])) (decimal (bytes "25" ++ (c ∷ [])))
 
 -- ip4-network = qnum "." qnum "." qnum "." qnum, with its octets
 pub data Ip4Network : List ℕ → List ℕ → Type 0 where
   octets : {p q r s : List ℕ} {a b c d : ℕ} → Qnum p a → Qnum q b → Qnum r c → Qnum s d
-      → Ip4Network (p ++ (46 ∷ (q ++ (46 ∷ (r ++ (46 ∷ s)))))) (a ∷ b ∷ c ∷ d ∷ [])
+      → Ip4Network (p ++ (bytes "." ++ (q ++ (bytes "." ++ (r ++ (bytes "." ++ s)))))) (a ∷ b ∷ c ∷ d ∷ [])
 
 -- the value of a hex digit, and the number of hex digits that stand after those of the number v
 unfoldable pub hexValue : ℕ → ℕ
@@ -41,39 +42,47 @@ pub data Group : List ℕ → ℕ → Type 0 where
 pub data Row : Bool → List ℕ → List ℕ → Type 0 where
   one : {tails : Bool} {w : List ℕ} {g : ℕ} → Group w g → Row tails w (g ∷ [])
   tail : {w : List ℕ} {a b c d : ℕ} → Ip4Network w (a ∷ b ∷ c ∷ d ∷ []) → Row true w ((256 * a + b) ∷ (256 * c + d) ∷ [])
-  more : {tails : Bool} {w rest : List ℕ} {g : ℕ} {gs : List ℕ} → Group w g → Row tails rest gs → Row tails (w ++ (58 ∷ rest)) (g ∷ gs)
+  more : {tails : Bool} {w rest : List ℕ} {g : ℕ} {gs : List ℕ} → Group w g → Row tails rest gs → Row tails (w ++ (bytes ":" ++ rest)) (g ∷ gs)
 
 -- what stands at a side of "::", which may be nothing
 pub data Side (tails : Bool) : List ℕ → List ℕ → Type 0 where
   nothing : Side tails [] []
   row : {w gs : List ℕ} → Row tails w gs → Side tails w gs
 
+-- groups with zeros between them, eight in all
+unfoldable pub filled : List ℕ → List ℕ → List ℕ
+filled ls rs = ls ++ (replicate (8 - (length ls + length rs)) 0 ++ rs)
+
 -- ip6-network (RFC 4291 section 2.2), with its eight groups: "`::` at most once and for at least one group". A tail is the end of the text.
 pub data Ip6Network : List ℕ → List ℕ → Type 0 where
   full : {w gs : List ℕ} → Row true w gs → length gs ≡ 8 → Ip6Network w gs
   short : {u w ls rs : List ℕ} → Side false u ls → Side true w rs → length ls + length rs ≤ 7
-      → Ip6Network (u ++ (58 ∷ 58 ∷ w)) (ls ++ (replicate (8 - (length ls + length rs)) 0 ++ rs))
+      → Ip6Network (u ++ (bytes "::" ++ w)) (filled ls rs)
 
 -- the number that 16-bit groups write
 unfoldable pub groupsFrom : ℕ → List ℕ → ℕ
 groupsFrom v [] = v
 groupsFrom v (g ∷ gs) = groupsFrom (65536 * v + g) gs
 
+-- the address of eight groups
+unfoldable pub addressOf : List ℕ → Address
+addressOf gs = IPv6 (groupsFrom 0 (take 4 gs)) (groupsFrom 0 (drop 4 gs))
+
 -- a network's text with the address that it writes
 pub data Network4 : List ℕ → Address → Type 0 where
-  network : {w os : List ℕ} → Ip4Network w os → Network4 w (IPv4 (valueOf os))
+  of-octets : {w os : List ℕ} → Ip4Network w os → Network4 w (IPv4 (valueOf os))
 
 pub data Network6 : List ℕ → Address → Type 0 where
-  network : {w gs : List ℕ} → Ip6Network w gs → Network6 w (IPv6 (groupsFrom 0 (take 4 gs)) (groupsFrom 0 (drop 4 gs)))
+  of-groups : {w gs : List ℕ} → Ip6Network w gs → Network6 w (addressOf gs)
 
 -- the number of a prefix length: "0" / %x31-39 *DIGIT, up to a limit: "IPv4 lengths 0 to 32 and IPv6 lengths 0 to 128, no leading zero"
 pub data LengthNumber (limit : ℕ) : List ℕ → ℕ → Type 0 where
-  nought : LengthNumber limit (48 ∷ []) 0
+  nought : LengthNumber limit (bytes "0") 0
   number : {a : ℕ} {w : List ℕ} → within 49 57 a ≡ true → all isDigit w ≡ true → decimal (a ∷ w) ≤ limit → LengthNumber limit (a ∷ w) (decimal (a ∷ w))
 
 -- a slash and the number
 pub data CidrLength (limit : ℕ) : List ℕ → ℕ → Type 0 where
-  slash : {w : List ℕ} {n : ℕ} → LengthNumber limit w n → CidrLength limit (47 ∷ w) n
+  slash : {w : List ℕ} {n : ℕ} → LengthNumber limit w n → CidrLength limit (bytes "/" ++ w) n
 
 -- ip6-cidr-length = "/" ("0" / %x31-39 0*2DIGIT) ; value range 0-128
 abbrev pub Ip6CidrLength : List ℕ → ℕ → Type 0
@@ -95,4 +104,4 @@ Length6 w n = OptionalLength 128 w n
 -- dual-cidr-length = [ ip4-cidr-length ] [ "/" ip6-cidr-length ]: "`a` and `mx` take `/n`, `//m` or `/n//m`"
 pub data DualCidrLength : List ℕ → ℕ → ℕ → Type 0 where
   four-only : {w : List ℕ} {n : ℕ} → Length4 w n → DualCidrLength w n 128
-  both : {w v : List ℕ} {n m : ℕ} → Length4 w n → Ip6CidrLength v m → DualCidrLength (w ++ (47 ∷ v)) n m
+  both : {w v : List ℕ} {n m : ℕ} → Length4 w n → Ip6CidrLength v m → DualCidrLength (w ++ (bytes "/" ++ v)) n m

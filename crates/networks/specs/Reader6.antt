@@ -1,19 +1,18 @@
 -- IPv6 networks, and addresses of either family, as the code reads them. The laws say that this is what the productions write.
-use Prim.Native.Nat.{ℕ, suc, _+_, _-_, _/_, _%_}
+use Prim.Native.Nat.{ℕ, suc, _+_, _/_, _%_}
 use mathlib.Core.Path.{_≡_}
-use mathlib.Core.List.{List, [], _∷_, _++_}
+use mathlib.Core.List.{List, [], _∷_}
 use mathlib.Core.Bool.{Bool, true, false, cond, _&&_}
-use lib.ListN.{length, take, drop, replicate}
+use lib.ListN.{length, take, drop}
 use lib.Dec.{leb, ltb, eqb}
 use Rattle.text.specs.Bytes.{at, isColon, isNotColon}
 use Rattle.text.specs.Lists.{all, split}
 use Rattle.text.specs.Runs.{isIn, run}
 use Rattle.text.specs.Writing.{Wrote}
 use Rattle.text.specs.declared.bytes.Class.the-variants.{HexDigit}
-use Rattle.address.specs.declared.Address.{Address}
 use Rattle.address.specs.declared.Address.the-variants.{IPv4, IPv6}
 use Rattle.address.specs.declared.FromOctets.{FromOctets}
-use Rattle.networks.specs.Grammar.{hexFrom, groupsFrom}
+use Rattle.networks.specs.Grammar.{hexFrom, filled, addressOf}
 use Rattle.networks.specs.Reader.{readIp4}
 use Rattle.networks.specs.declared.Network.{Network}
 use Rattle.networks.specs.declared.Network.the-variants.{Is, NoNetwork}
@@ -80,14 +79,6 @@ readRow tail s = rowOf tail (split isColon s)
 -- what stands at a side of "::", which may be nothing
 unfoldable pub readSide : Bool → List ℕ → Reading
 readSide tail s = cond (eqb (length s) 0) (groups []) (readRow tail s)
-
--- the address of eight groups
-unfoldable pub addressOf : List ℕ → Address
-addressOf gs = IPv6 (groupsFrom 0 (take 4 gs)) (groupsFrom 0 (drop 4 gs))
-
--- groups with zeros between them, eight in all
-unfoldable pub filled : List ℕ → List ℕ → List ℕ
-filled ls rs = ls ++ (replicate (8 - (length ls + length rs)) 0 ++ rs)
 
 unfoldable pub fullOf : Reading → Network
 fullOf (groups gs) = cond (eqb (length gs) 8) (Is (addressOf gs)) NoNetwork

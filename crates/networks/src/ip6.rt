@@ -10,7 +10,7 @@ ghost use Rattle.text.specs.Lists.{all};
 ghost use Rattle.text.specs.Writing.{Wrote};
 ghost use Rattle.address.specs.Octets.{fromOctets};
 ghost use Rattle.networks.specs.Grammar.{Network6, hexValue, hexFrom};
-ghost use Rattle.networks.specs.Answers.{NetworkAnswer, Written};
+ghost use Rattle.networks.specs.Answers.{NetworkAnswer, AddressText};
 ghost use Rattle.networks.specs.Reader6.{octetPairs, firstColon, isDoubleColon, doubleColon, readH16, lastPart, tailOf, readRow, readSide, RowWritten, networkOf, fullOf, shortOf, readIp6, readAddress};
 ghost use Rattle.networks.specs.Reader.{readIp4};
 use crate::Network;
@@ -242,7 +242,7 @@ pub fn read_ip6(s: &[u8]) -> Network
 // An address written as for ip4 or ip6, the whole text.
 pub fn read_address(s: &[u8]) -> Network
     ensures { λ r. ⌜ r ≡ readAddress (now (s .entry)) ⌝ }
-    ensures { λ r. ⌜ NetworkAnswer (Written (now (s .entry))) r ⌝ }
+    ensures { λ r. ⌜ NetworkAnswer (AddressText (now (s .entry))) r ⌝ }
 {
     match crate::read_ip4(s) {
         Network::Is(a) => Network::Is(a),

@@ -6,7 +6,7 @@ use Rattle.address.specs.Octets.{octetsOf, octets}
 use Rattle.address.specs.declared.Address.{Address}
 use Rattle.address.specs.declared.Address.the-variants.{IPv4, IPv6}
 use Rattle.notation.specs.Digits.{digit, numeral, inDecimal, inHex}
-use Rattle.notation.specs.Forms.{nibbles, groups, octetTexts, nibbleTexts, dotted, readable, family, reversedName}
+use Rattle.notation.specs.Forms.{nibbles, hexGroups, octetTexts, nibbleTexts, dotted, readable, family, reversedName}
 
 abbrev pub four : Address
 four = IPv4 3221225987
@@ -27,7 +27,7 @@ pub record Cases : Type 0 where
   pub smallest : inDecimal 0 ≡ bytes "0"
 
 pub cases : Cases
-unfolding separatorBefore joinBy octetsOf octets digit numeral inDecimal inHex nibbles groups octetTexts nibbleTexts dotted readable family reversedName
+unfolding separatorBefore joinBy octetsOf octets digit numeral inDecimal inHex nibbles hexGroups octetTexts nibbleTexts dotted readable family reversedName
 cases =
     record {
       dotted-four = refl;

@@ -14,10 +14,10 @@ nibbles [] = []
 nibbles (o ∷ s) = o / 16 ∷ o % 16 ∷ nibbles s
 
 -- the 16-bit groups of octets
-unfoldable pub groups : List ℕ → List ℕ
-groups [] = []
-groups (o ∷ []) = []
-groups (o ∷ u ∷ s) = (256 * o + u) ∷ groups s
+unfoldable pub hexGroups : List ℕ → List ℕ
+hexGroups [] = []
+hexGroups (o ∷ []) = []
+hexGroups (o ∷ u ∷ s) = (256 * o + u) ∷ hexGroups s
 
 -- each octet in decimal; each half of an octet as a hex digit
 unfoldable pub octetTexts : List ℕ → List (List ℕ)
@@ -34,7 +34,7 @@ dotted (IPv6 h l) = join (nibbleTexts (octets (IPv6 h l)))
 -- "c address (IPv6 as eight lower-case hex groups, no leading zeros, no `::`)"
 unfoldable pub readable : Address → List ℕ
 readable (IPv4 v) = join (octetTexts (octets (IPv4 v)))
-readable (IPv6 h l) = joinBy 58 (map inHex (groups (octets (IPv6 h l))))
+readable (IPv6 h l) = joinBy 58 (map inHex (hexGroups (octets (IPv6 h l))))
 
 -- "v `in-addr` or `ip6`"
 unfoldable pub family : Address → List ℕ

@@ -5,7 +5,7 @@ use mathlib.Core.Bool.{Bool, cond}
 use lib.Dec.{ltb, eqb}
 use Rattle.text.specs.Lists.{joinBy}
 use Rattle.notation.specs.Digits.{digit, inDecimal, inHex}
-use Rattle.notation.specs.Forms.{nibbles, groups}
+use Rattle.notation.specs.Forms.{nibbles, hexGroups}
 use Rattle.notation.specs.declared.Parts.{Parts}
 use Rattle.notation.specs.declared.Parts.the-variants.{Octets, Nibbles, Groups}
 
@@ -13,7 +13,7 @@ use Rattle.notation.specs.declared.Parts.the-variants.{Octets, Nibbles, 
 unfoldable pub partsOf : Parts → List ℕ → List ℕ
 partsOf Octets s = s
 partsOf Nibbles s = nibbles s
-partsOf Groups s = groups s
+partsOf Groups s = hexGroups s
 
 unfoldable pub textOf : Parts → ℕ → List ℕ
 textOf Octets n = inDecimal n

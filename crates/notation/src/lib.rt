@@ -4,7 +4,7 @@ ghost use mathlib.Core.Path.{_≡_};
 ghost use lib.ListN.{length, getD};
 ghost use Rattle.text.specs.Writing.{Wrote};
 ghost use Rattle.notation.specs.Digits.{digit, numeral, inDecimal};
-ghost use Rattle.notation.specs.Forms.{nibbles, groups, dotted, readable, family, reversedName};
+ghost use Rattle.notation.specs.Forms.{nibbles, hexGroups, dotted, readable, family, reversedName};
 ghost use Rattle.notation.specs.Rows.{partsOf, textOf, ordered, place, separated, row};
 use address::Address;
 use text::bytes;
@@ -67,7 +67,7 @@ fn nibble(s: &[u8], i: usize) -> u64
 
 // The 16-bit group at i, or 0 past the end.
 fn group(s: &[u8], i: usize) -> u64
-    ensures { λ r. ⌜ (r ≡ getD (groups (now (s .entry))) i 0) × (r < 65536) ⌝ }
+    ensures { λ r. ⌜ (r ≡ getD (hexGroups (now (s .entry))) i 0) × (r < 65536) ⌝ }
 {
     if i < s.len() / 2 {
         return 256 * wide(s[2 * i]) + wide(s[2 * i + 1]);

@@ -2,10 +2,8 @@
 ghost use Prim.Native.Nat.{_≤_};
 ghost use mathlib.Core.Path.{_≡_};
 ghost use Rattle.table.specs.Reader.{itemsOf};
-ghost use Rattle.meaning.specs.Tree.{wanting};
 ghost use Rattle.meaning.specs.Mechanisms.{anyMatches};
-ghost use Rattle.meaning.specs.Outcomes.{SaysStep};
-ghost use Rattle.questions.specs.Steps.{voidAnswer, matchAnswer};
+ghost use Rattle.questions.specs.Steps.{Unanswered, voidAnswer, matchAnswer};
 use address::Address;
 use meaning::Counts;
 use meaning::Ending;
@@ -14,7 +12,7 @@ use meaning::Stepped;
 
 // A question without an entry: its name is written.
 pub fn missing(kind: u16, name: &[u8], counts: Counts, out: &mut [u8]) -> Stepped
-    ensures { λ r. ⌜ SaysStep (wanting kind (now (name .entry)) counts) r (now (out .entry)) (now (out .exit)) ⌝ }
+    ensures { λ r. ⌜ Unanswered kind (now (name .entry)) counts r (now (out .entry)) (now (out .exit)) ⌝ }
 {
     answers::want(name, out);
     Stepped {

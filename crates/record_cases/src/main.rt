@@ -10,6 +10,7 @@
 // Any other line is printed as it is.
 use address::Address;
 use cases::Line;
+use listing::Column;
 use networks::Network;
 use records::Term;
 use records::TermAnswer;
@@ -21,7 +22,16 @@ use text::words;
 fn run_record(line: &[u8]) {
     let mut s = [0u8; 8192];
     let n = cases::unhex(cases::word(line, 1), &mut s);
-    listing::print_reading(part(&s, 0, n));
+    let mut out = [0u8; 64];
+    let size = listing::put_reading(part(&s, 0, n), &mut out);
+    io::write_all(1, part(&out, 0, size));
+}
+
+// Prints a prefix length with a space before it.
+fn print_length(length: u8) {
+    let mut out = [0u8; 8];
+    let size = listing::put_length(Column::Of(length), &mut out, 0);
+    io::write_all(1, part(&out, 0, size));
 }
 
 // Prints a byte string in hex with a space before it.
@@ -56,8 +66,8 @@ fn print_hosts(name: &[u8], sign: u8, argument: &[u8], four: u8, six: u8) {
     print_spaced(name);
     print_sign(sign);
     print_optional(argument);
-    listing::print_length(four);
-    listing::print_length(six);
+    print_length(four);
+    print_length(six);
     io::write_all(1, b" .");
 }
 
@@ -67,7 +77,7 @@ fn print_network(sign: u8, argument: &[u8], address: Address, length: u8) {
             print_spaced(b"ip4");
             print_sign(sign);
             print_spaced(argument);
-            listing::print_length(length);
+            print_length(length);
             io::write_all(1, b" .");
             print_spaced(&address::octets4(v));
         }
@@ -76,7 +86,7 @@ fn print_network(sign: u8, argument: &[u8], address: Address, length: u8) {
             print_sign(sign);
             print_spaced(argument);
             io::write_all(1, b" .");
-            listing::print_length(length);
+            print_length(length);
             print_spaced(&address::octets16(high, low));
         }
     }
@@ -120,9 +130,16 @@ fn print_term(term: Term, w: &[u8], argument: &[u8]) {
     }
 }
 
+// Prints the end or a refusal.
+fn print_no_term(s: &[u8], answer: TermAnswer) {
+    let mut out = [0u8; 64];
+    let size = listing::put_term_answer(s, answer, &mut out);
+    io::write_all(1, part(&out, 0, size));
+}
+
 fn print_term_answer(s: &[u8], answer: TermAnswer) {
     let TermAnswer::Is { at, next, term } = answer else {
-        return listing::print_no_term(answer);
+        return print_no_term(s, answer);
     };
     io::write_all(1, b"term ");
     io::print_decimal(1, at as u64);
@@ -147,10 +164,17 @@ fn run_term(line: &[u8]) {
     print_term_answer(text, records::read_term(text, at as usize));
 }
 
+// Prints a record.
+fn print_record(record: &[u8]) {
+    let mut out = listing::buffer();
+    let size = listing::list_record(record, &mut out);
+    io::write_all(1, part(&out, 0, size));
+}
+
 fn run_print(line: &[u8]) {
     let mut s = [0u8; 8192];
     let n = cases::unhex(cases::word(line, 1), &mut s);
-    listing::print_record(part(&s, 0, n));
+    print_record(part(&s, 0, n));
 }
 
 fn run_address(line: &[u8]) {
@@ -175,7 +199,7 @@ fn run_line(line: &[u8]) {
         return run_print(line);
     }
     if words::equal(kind, b"text") {
-        return listing::print_record(part(line, 5, line.len()));
+        return print_record(part(line, 5, line.len()));
     }
     if words::equal(kind, b"address") {
         return run_address(line);

@@ -5,52 +5,60 @@ use mathlib.Core.Logic.{_⊎_}
 use mathlib.Core.List.{List, [], _∷_, _++_}
 use mathlib.Core.Bool.{true}
 use lib.ListN.{length, drop}
-use Rattle.text.specs.Bytes.{at, isSpace, isNotSpace}
+use Rattle.text.specs.Bytes.{at, part, isSpace, isNotSpace}
 use Rattle.text.specs.Lists.{all}
 use Rattle.text.specs.Texts.{bytes}
-use Rattle.records.specs.Readings.{Said, Placed}
-use Rattle.records.specs.Grammar.{Literal, Term, Terms, Once, Record}
-use Rattle.records.specs.Numbers.{RecordReport, accepted, refused, TermReport, end, term}
+use Rattle.records.specs.Readings.{Said, Placed, argumentBytes}
+use Rattle.records.specs.Grammar.{Literal, TermText, Terms, Once, Record}
+use Rattle.records.specs.Numbers.{RecordReport, accepted, refused, recordReport, saidOf, TermReport, end, term, termReport}
+use Rattle.records.specs.declared.Term.{Term}
+use Rattle.records.specs.declared.TermAnswer.{TermAnswer}
+use Rattle.records.specs.declared.RecordAnswer.{RecordAnswer}
 
 -- 30 "record over 4,096 bytes"
 abbrev pub most-bytes : ℕ
 most-bytes = 4096
 
+-- the end or a space
+abbrev pub Boundary : List ℕ → Type 0
+Boundary rest = (rest ≡ []) ⊎ (at rest 0 ≡ 32)
+
 -- "A term is a longest run of non-spaces": w, with the end or a space after it
 pub record Run (w rest : List ℕ) : Type 0 where
   pub some : 0 < length w
   pub solid : all isNotSpace w ≡ true
-  pub ends : (rest ≡ []) ⊎ (at rest 0 ≡ 32)
+  pub ends : Boundary rest
 
 -- no term of the grammar
-abbrev pub Ill : List ℕ → Type 0
-Ill w = (x : Said) → Term w x → ⊥
+abbrev pub NoTerm : List ℕ → Type 0
+NoTerm w = (x : Said) → TermText w x → ⊥
 
 -- "Version is `v=spf1` in either letter case, then a space or the end."
 pub record Version (s v rest : List ℕ) : Type 0 where
   pub whole : s ≡ v ++ rest
   pub version : Literal (bytes "v=spf1") v
-  pub ends : (rest ≡ []) ⊎ (at rest 0 ≡ 32)
+  pub ends : Boundary rest
 
--- the terms of the grammar at the front of a record, and then, after one space or more, a run of non-spaces
+-- The terms of the grammar at the front of a record, and then, after one space or more, a run of non-spaces. In `v=spf1 mx  moo -all`, whose `moo` is
+-- no term: v is `v=spf1`, front is ` mx`, ts the one term mx at 7, gap the second of the two spaces, w is `moo`, rest is ` -all`, and place is 11.
 pub record Front (s : List ℕ) (ts : List Placed) (w : List ℕ) (place : ℕ) : Type 0 where
   pub v : List ℕ
   pub front : List ℕ
   pub gap : List ℕ
   pub rest : List ℕ
-  pub version : Version s v (front ++ ((32 ∷ gap) ++ (w ++ rest)))
+  pub version : Version s v (front ++ ((bytes " " ++ gap) ++ (w ++ rest)))
   pub terms : Terms (length v) front ts
   pub spaces : all isSpace gap ≡ true
   pub run : Run w rest
-  pub place-is : place ≡ length v + (length front + length (32 ∷ gap))
+  pub place-is : place ≡ length v + (length front + length (bytes " " ++ gap))
 
 -- reading a record: "30, 31, then the earlier of 32 and 33 (32 if equal)"; 32's place is the first byte of the first term outside the grammar, 33's
 -- that of the second redirect or exp
 pub data RecordAnswers (s : List ℕ) : RecordReport → Type 0 where
   too-long : most-bytes < length s → RecordAnswers s (refused 30 0)
   no-version : length s ≤ most-bytes → ((v rest : List ℕ) → Version s v rest → ⊥) → RecordAnswers s (refused 31 0)
-  outside : {ts : List Placed} {w : List ℕ} {p : ℕ} → length s ≤ most-bytes → Front s ts w p → Once ts → Ill w → RecordAnswers s (refused 32 p)
-  repeated : {ts : List Placed} {w : List ℕ} {p : ℕ} {x : Said} → length s ≤ most-bytes → Front s ts w p → Once ts → Term w x
+  outside : {ts : List Placed} {w : List ℕ} {p : ℕ} → length s ≤ most-bytes → Front s ts w p → Once ts → NoTerm w → RecordAnswers s (refused 32 p)
+  repeated : {ts : List Placed} {w : List ℕ} {p : ℕ} {x : Said} → length s ≤ most-bytes → Front s ts w p → Once ts → TermText w x
       → (Once (ts ++ (record { place = p; said = x } ∷ [])) → ⊥) → RecordAnswers s (refused 33 p)
   produced : {v rest : List ℕ} {ts : List Placed} → length s ≤ most-bytes → Version s v rest → Record s ts → RecordAnswers s (accepted (length v))
 
@@ -59,7 +67,19 @@ pub data TermAnswers (s : List ℕ) (i : ℕ) : TermReport → Type 0 where
   too-long : most-bytes < length s → TermAnswers s i (refused 30 0)
   beyond : length s ≤ most-bytes → length s < i → TermAnswers s i (refused 34 i)
   only-spaces : length s ≤ most-bytes → i ≤ length s → all isSpace (drop i s) ≡ true → TermAnswers s i end
-  outside : (u w rest : List ℕ) → length s ≤ most-bytes → i ≤ length s → drop i s ≡ u ++ (w ++ rest) → all isSpace u ≡ true → Run w rest → Ill w
+  outside : (u w rest : List ℕ) → length s ≤ most-bytes → i ≤ length s → drop i s ≡ u ++ (w ++ rest) → all isSpace u ≡ true → Run w rest → NoTerm w
       → TermAnswers s i (refused 32 (i + length u))
   produced : (u w rest : List ℕ) {x : Said} → length s ≤ most-bytes → i ≤ length s → drop i s ≡ u ++ (w ++ rest) → all isSpace u ≡ true → Run w rest
-      → Term w x → TermAnswers s i (term (i + (length u + length w)) (record { place = i + length u; said = x }))
+      → TermText w x → TermAnswers s i (term (i + (length u + length w)) (record { place = i + length u; said = x }))
+
+-- what `read_record` promises of its answer
+abbrev pub ReadsRecord : List ℕ → RecordAnswer → Type 0
+ReadsRecord s r = RecordAnswers s (recordReport r)
+
+-- what `read_term` promises of its answer at a place
+abbrev pub ReadsTerm : List ℕ → ℕ → TermAnswer → Type 0
+ReadsTerm s i r = TermAnswers s i (termReport s r)
+
+-- what `argument` promises: the bytes of what the term's own reading has as argument, none where it has none
+abbrev pub ReadsArgument : List ℕ → ℕ → ℕ → Term → List ℕ → Type 0
+ReadsArgument s at next x bytes = bytes ≡ argumentBytes (saidOf (part s at next) x)

@@ -6,10 +6,11 @@ use Rattle.text.specs.Lists.{same, sameWord, all, split, grow}
 use Rattle.text.specs.Runs.{isIn, run, runEnd}
 use Rattle.text.specs.Texts.{bytes}
 use Rattle.address.specs.Octets.{valueFrom, valueOf}
+use Rattle.domain.specs.Normal.{withoutDot}
 use Rattle.macros.specs.Reader.{isMacroString, endsRight, endsInLabel, lastLabel, isToplabel, endsInMacro, pieces, piecesFrom, piecesAfter, pieceOf, isLiteral, isEscape}
-use Rattle.networks.specs.Grammar.{hexValue, hexFrom, groupsFrom}
+use Rattle.networks.specs.Grammar.{hexValue, hexFrom, groupsFrom, addressOf, filled}
 use Rattle.networks.specs.Reader.{octetAt, dotOctetAt, readIp4, slashNumber, readLength, readLength4, readLength6}
-use Rattle.networks.specs.Reader6.{firstColon, isDoubleColon, doubleColon, readH16, tailOf, lastOf, lastPart, push, rowOf, readRow, readSide, addressOf, filled, fullOf, shortOf, readIp6}
+use Rattle.networks.specs.Reader6.{firstColon, isDoubleColon, doubleColon, readH16, tailOf, lastOf, lastPart, push, rowOf, readRow, readSide, fullOf, shortOf, readIp6}
 use Rattle.records.specs.Grammar.{isQualifier}
 use Rattle.records.specs.Numbers.{end, termReport}
 use Rattle.records.specs.Reader.{readRecord, hasVersion, checkFrom, checkAfter, readTerm, termFrom, tokenAnswer, tokenOf, modifierOf, mechanismOf, mechanismBy, kindOf, laterKind, allOf, networkTerm, networkCut, networkBy, isRedirect, isExplanation}
@@ -33,7 +34,7 @@ pub record Cases : Type 0 where
   pub second-redirect : readRecord (bytes "v=spf1 redirect=a.example exp=b.example redirect=c.example") ≡ RecordAnswer.Refused 33 40
 
 pub cases : Cases
-unfolding within lower isSpace isNotSpace isNotSlash isUpper isAlpha isDigit isAlphanumeric isHexDigit isNameByte isToplabelByte isMacroLiteral decimalFrom decimal isDecimal readDecimal hasNoLeadingZero readNumber same sameWord all split grow isIn run runEnd valueFrom valueOf isMacroString endsRight endsInLabel lastLabel isToplabel endsInMacro pieces piecesFrom piecesAfter pieceOf isLiteral isEscape hexValue hexFrom groupsFrom octetAt dotOctetAt readIp4 slashNumber readLength readLength4 readLength6 firstColon isDoubleColon doubleColon readH16 tailOf lastOf lastPart push rowOf readRow readSide addressOf filled fullOf shortOf readIp6 isQualifier readRecord hasVersion checkFrom checkAfter readTerm termFrom tokenAnswer tokenOf modifierOf mechanismOf mechanismBy kindOf laterKind allOf networkTerm networkCut networkBy isRedirect isExplanation
+unfolding within lower isSpace isNotSpace isNotSlash isUpper isAlpha isDigit isAlphanumeric isHexDigit isNameByte isToplabelByte isMacroLiteral decimalFrom decimal isDecimal readDecimal hasNoLeadingZero readNumber same sameWord all split grow isIn run runEnd valueFrom valueOf isMacroString endsRight withoutDot endsInLabel lastLabel isToplabel endsInMacro pieces piecesFrom piecesAfter pieceOf isLiteral isEscape hexValue hexFrom groupsFrom octetAt dotOctetAt readIp4 slashNumber readLength readLength4 readLength6 firstColon isDoubleColon doubleColon readH16 tailOf lastOf lastPart push rowOf readRow readSide addressOf filled fullOf shortOf readIp6 isQualifier readRecord hasVersion checkFrom checkAfter readTerm termFrom tokenAnswer tokenOf modifierOf mechanismOf mechanismBy kindOf laterKind allOf networkTerm networkCut networkBy isRedirect isExplanation
 cases = record {
   version-alone = refl;
   no-terms = refl;

@@ -9,10 +9,10 @@ use lib.ListN.{length}
 use lib.Dec.{eqb}
 use Rattle.address.specs.declared.Address.{Address}
 use Rattle.text.specs.Bytes.{lower, isSpace, isAlpha, isNameByte}
-use Rattle.text.specs.Lists.{all, same}
+use Rattle.text.specs.Lists.{all, same, sameWord}
 use Rattle.text.specs.Texts.{bytes}
 use Rattle.macros.specs.declared.Form.the-variants.{ModifierValue}
-use Rattle.macros.specs.Grammar.{Piece, MacroString, DomainSpecs}
+use Rattle.macros.specs.Grammar.{Piece, MacroString, DomainSpec}
 use Rattle.networks.specs.Grammar.{Network4, Network6, Length4, Length6, DualCidrLength}
 use Rattle.records.specs.Readings.{Optional, absent, present, Said, Placed, mechanism, hosts, network4, network6, modifier}
 
@@ -23,15 +23,15 @@ pub record Literal (word w : List ℕ) : Type 0 where
 -- [ ":" domain-spec ]
 pub data OptionalSpec : List ℕ → Optional (List ℕ) → Type 0 where
   without : OptionalSpec [] absent
-  with-spec : {d : List ℕ} {ps : List Piece} → DomainSpecs d ps → OptionalSpec (58 ∷ d) (present d)
+  with-spec : {d : List ℕ} {ps : List Piece} → DomainSpec d ps → OptionalSpec (bytes ":" ++ d) (present d)
 
 -- mechanism = ( all / include / a / mx / ptr / ip4 / ip6 / exists ); sign is what stands before it, "`+` if unwritten"
 pub data Mechanism (sign : ℕ) : List ℕ → Said → Type 0 where
   -- all = "all"
   all-term : {w : List ℕ} → Literal (bytes "all") w → Mechanism sign w (mechanism (bytes "all") sign absent)
   -- include = "include" ":" domain-spec
-  include : {w d : List ℕ} {ps : List Piece} → Literal (bytes "include") w → DomainSpecs d ps
-      → Mechanism sign (w ++ (58 ∷ d)) (mechanism (bytes "include") sign (present d))
+  include : {w d : List ℕ} {ps : List Piece} → Literal (bytes "include") w → DomainSpec d ps
+      → Mechanism sign (w ++ (bytes ":" ++ d)) (mechanism (bytes "include") sign (present d))
   -- a = "a" [ ":" domain-spec ] [ dual-cidr-length ]
   a : {w u l : List ℕ} {arg : Optional (List ℕ)} {n m : ℕ} → Literal (bytes "a") w → OptionalSpec u arg → DualCidrLength l n m
       → Mechanism sign (w ++ (u ++ l)) (hosts (bytes "a") sign arg n m)
@@ -42,21 +42,37 @@ pub data Mechanism (sign : ℕ) : List ℕ → Said → Type 0 where
   ptr : {w u : List ℕ} {arg : Optional (List ℕ)} → Literal (bytes "ptr") w → OptionalSpec u arg → Mechanism sign (w ++ u) (mechanism (bytes "ptr") sign arg)
   -- ip4 = "ip4" ":" ip4-network [ ip4-cidr-length ]
   ip4 : {w t l : List ℕ} {x : Address} {n : ℕ} → Literal (bytes "ip4") w → Network4 t x → Length4 l n
-      → Mechanism sign (w ++ (58 ∷ (t ++ l))) (network4 (bytes "ip4") sign t x n)
+      → Mechanism sign (w ++ (bytes ":" ++ (t ++ l))) (network4 (bytes "ip4") sign t x n)
   -- ip6 = "ip6" ":" ip6-network [ ip6-cidr-length ]
   ip6 : {w t l : List ℕ} {x : Address} {n : ℕ} → Literal (bytes "ip6") w → Network6 t x → Length6 l n
-      → Mechanism sign (w ++ (58 ∷ (t ++ l))) (network6 (bytes "ip6") sign t x n)
+      → Mechanism sign (w ++ (bytes ":" ++ (t ++ l))) (network6 (bytes "ip6") sign t x n)
   -- exists = "exists" ":" domain-spec
-  exists : {w d : List ℕ} {ps : List Piece} → Literal (bytes "exists") w → DomainSpecs d ps
-      → Mechanism sign (w ++ (58 ∷ d)) (mechanism (bytes "exists") sign (present d))
+  exists : {w d : List ℕ} {ps : List Piece} → Literal (bytes "exists") w → DomainSpec d ps
+      → Mechanism sign (w ++ (bytes ":" ++ d)) (mechanism (bytes "exists") sign (present d))
+
+-- "+"
+abbrev pub sign-plus : ℕ
+sign-plus = 43
+
+-- "-"
+abbrev pub sign-minus : ℕ
+sign-minus = 45
+
+-- "?"
+abbrev pub sign-question : ℕ
+sign-question = 63
+
+-- "~"
+abbrev pub sign-tilde : ℕ
+sign-tilde = 126
 
 -- qualifier = "+" / "-" / "?" / "~"
 unfoldable pub isQualifier : ℕ → Bool
-isQualifier b = eqb b 43 || (eqb b 45 || (eqb b 63 || eqb b 126))
+isQualifier b = eqb b sign-plus || (eqb b sign-minus || (eqb b sign-question || eqb b sign-tilde))
 
 -- directive = [ qualifier ] mechanism
 pub data Directive : List ℕ → Said → Type 0 where
-  unsigned : {w : List ℕ} {x : Said} → Mechanism 43 w x → Directive w x
+  unsigned : {w : List ℕ} {x : Said} → Mechanism sign-plus w x → Directive w x
   signed : {q : ℕ} {w : List ℕ} {x : Said} → isQualifier q ≡ true → Mechanism q w x → Directive (q ∷ w) x
 
 -- name = ALPHA *( ALPHA / DIGIT / "-" / "_" / "." )
@@ -65,28 +81,31 @@ pub data Name : List ℕ → Type 0 where
 
 -- the known modifiers: "`redirect` and `exp` are never unknown modifiers"
 unfoldable pub isReserved : List ℕ → Bool
-isReserved w = same (map lower w) (bytes "redirect") || same (map lower w) (bytes "exp")
+isReserved w = sameWord w (bytes "redirect") || sameWord w (bytes "exp")
 
 -- modifier = redirect / explanation / unknown-modifier
 pub data Modifier : List ℕ → Said → Type 0 where
   -- redirect = "redirect" "=" domain-spec
-  redirect : {w d : List ℕ} {ps : List Piece} → Literal (bytes "redirect") w → DomainSpecs d ps → Modifier (w ++ (61 ∷ d)) (modifier (bytes "redirect") d)
+  redirect : {w d : List ℕ} {ps : List Piece} → Literal (bytes "redirect") w → DomainSpec d ps
+      → Modifier (w ++ (bytes "=" ++ d)) (modifier (bytes "redirect") d)
   -- explanation = "exp" "=" domain-spec
-  explanation : {w d : List ℕ} {ps : List Piece} → Literal (bytes "exp") w → DomainSpecs d ps → Modifier (w ++ (61 ∷ d)) (modifier (bytes "exp") d)
+  explanation : {w d : List ℕ} {ps : List Piece} → Literal (bytes "exp") w → DomainSpec d ps
+      → Modifier (w ++ (bytes "=" ++ d)) (modifier (bytes "exp") d)
   -- unknown-modifier = name "=" macro-string, where name is not any known modifier
-  unknown : {w v : List ℕ} {ps : List Piece} → Name w → isReserved w ≡ false → MacroString ModifierValue v ps → Modifier (w ++ (61 ∷ v)) (modifier w v)
+  unknown : {w v : List ℕ} {ps : List Piece} → Name w → isReserved w ≡ false → MacroString ModifierValue v ps
+      → Modifier (w ++ (bytes "=" ++ v)) (modifier w v)
 
 -- directive / modifier
-pub data Term : List ℕ → Said → Type 0 where
-  directive : {w : List ℕ} {x : Said} → Directive w x → Term w x
-  modifier-term : {w : List ℕ} {x : Said} → Modifier w x → Term w x
+pub data TermText : List ℕ → Said → Type 0 where
+  directive : {w : List ℕ} {x : Said} → Directive w x → TermText w x
+  modifier-term : {w : List ℕ} {x : Said} → Modifier w x → TermText w x
 
 -- terms = *( 1*SP ( directive / modifier ) ), with the *SP that ends a record; the first byte's place is given, and each term has its own
 pub data Terms : ℕ → List ℕ → List Placed → Type 0 where
   done : {p : ℕ} {w : List ℕ} → all isSpace w ≡ true → Terms p w []
-  term : {p : ℕ} (u w : List ℕ) {rest : List ℕ} {x : Said} {ts : List Placed} → all isSpace u ≡ true → Term w x
-      → Terms (p + length ((32 ∷ u) ++ w)) rest ts
-      → Terms p ((32 ∷ u) ++ (w ++ rest)) (record { place = p + length (32 ∷ u); said = x } ∷ ts)
+  term : {p : ℕ} (u w : List ℕ) {rest : List ℕ} {x : Said} {ts : List Placed} → all isSpace u ≡ true → TermText w x
+      → Terms (p + length ((bytes " " ++ u) ++ w)) rest ts
+      → Terms p ((bytes " " ++ u) ++ (w ++ rest)) (record { place = p + length (bytes " " ++ u); said = x } ∷ ts)
 
 -- how many terms have a name; no mechanism and no unknown modifier is named redirect or exp
 unfoldable pub countOf : List ℕ → List Placed → ℕ

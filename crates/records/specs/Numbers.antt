@@ -1,6 +1,6 @@
 -- 01's number and values for each answer.
 use Prim.Native.Nat.{ℕ, _+_}
-use mathlib.Core.List.{List, []}
+use mathlib.Core.List.{List}
 use mathlib.Core.Bool.{cond}
 use lib.Dec.{eqb}
 use Rattle.address.specs.declared.Address.the-variants.{IPv4, IPv6}
@@ -42,19 +42,6 @@ saidOf w (Term.Exists sign from to) = mechanism (bytes "exists") sign (present (
 saidOf w (Term.Redirect from to) = modifier (bytes "redirect") (part w from to)
 saidOf w (Term.Explanation from to) = modifier (bytes "exp") (part w from to)
 saidOf w (Term.Unknown name to) = modifier (part w 0 name) (part w (name + 1) to)
-
--- the argument's bytes, empty where a term has none; w is the term's text
-unfoldable pub argumentOf : List ℕ → Term → List ℕ
-argumentOf w (Term.All sign) = []
-argumentOf w (Term.Include sign from to) = part w from to
-argumentOf w (Term.A sign from to four six) = part w from to
-argumentOf w (Term.Mx sign from to four six) = part w from to
-argumentOf w (Term.Ptr sign from to) = part w from to
-argumentOf w (Term.Network sign from to address length) = part w from to
-argumentOf w (Term.Exists sign from to) = part w from to
-argumentOf w (Term.Redirect from to) = part w from to
-argumentOf w (Term.Explanation from to) = part w from to
-argumentOf w (Term.Unknown name to) = part w (name + 1) to
 
 -- the end; a refusal by its number and place; or a term with the next place
 pub data TermReport : Type 0 where

@@ -12,7 +12,7 @@ use Rattle.records.specs.declared.TermAnswer.{TermAnswer}
 use Rattle.records.specs.declared.RecordAnswer.{RecordAnswer}
 use Rattle.records.specs.declared.opening.Unaided.{Unaided}
 use Rattle.records.specs.declared.opening.Opening.{Opening}
-use Rattle.records.specs.Reader.{readTerm, checkFrom, readRecord}
+use Rattle.records.specs.Reader.{readTerm, after-version, checkFrom, readRecord}
 
 -- what a term says of a client without a lookup: a network of the client matches, and so does `all`; any other network and a modifier pass. Lookups are
 -- those that 01 counts: "include, a, mx, ptr, exists and a used redirect count one each when begun"
@@ -46,8 +46,8 @@ pub data Leads (client : Address) (s : List ℕ) (i : ℕ) : Opening → Type 0 
 
 -- the record's answer, the same for every client
 unfoldable pub answerOf : Opening → RecordAnswer
-answerOf (Opening.Matched sign) = RecordAnswer.Accepted 6
-answerOf (Opening.Open i) = RecordAnswer.Accepted 6
+answerOf (Opening.Matched sign) = RecordAnswer.Accepted after-version
+answerOf (Opening.Open i) = RecordAnswer.Accepted after-version
 answerOf (Opening.Refused number p) = RecordAnswer.Refused number p
 
 -- all terms from a place on, checked and led
@@ -58,7 +58,7 @@ pub record Opened (client : Address) (s : List ℕ) (i : ℕ) (o : Opening) : Ty
 -- what reading a record for a client answers: the record's answer, and its leading terms are as the opening says
 pub record OpeningOf (client : Address) (s : List ℕ) (o : Opening) : Type 0 where
   pub answer : answerOf o ≡ readRecord s
-  pub leads : Leads client s 6 o
+  pub leads : Leads client s after-version o
 
 -- an opening with one more term, read from i up to next
 unfoldable pub ledBy : Unaided → ℕ → ℕ → Opening
@@ -70,9 +70,3 @@ unfoldable pub ledOn : Address → Opening → ℕ → ℕ → Term → Opening
 ledOn client (Opening.Matched sign) i next x = Opening.Matched sign
 ledOn client (Opening.Open j) i next x = cond (eqb j i) (ledBy (unaided client x) j next) (Opening.Open j)
 ledOn client (Opening.Refused number p) i next x = Opening.Refused number p
-
--- an opening where no term is left to read
-unfoldable pub endedIn : TermAnswer → Opening → Opening
-endedIn TermAnswer.End o = o
-endedIn (TermAnswer.Refused number p) o = Opening.Refused number p
-endedIn (TermAnswer.Is p next x) o = o

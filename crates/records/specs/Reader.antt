@@ -13,17 +13,18 @@ use Rattle.text.specs.Runs.{isIn, runEnd, trailingStart}
 use Rattle.text.specs.declared.bytes.Class.the-variants.{Space, NotSpace, NotSlash, Digit, LengthByte, NameByte}
 use Rattle.macros.specs.declared.Form.the-variants.{DomainSpec, ModifierValue}
 use Rattle.macros.specs.Reader.{isMacroString}
-use Rattle.networks.specs.Reader.{readIp4, readLength4, readLength6, readDual}
+use Rattle.networks.specs.Reader.{onLength, readIp4, readLength4, readLength6, readDual}
 use Rattle.networks.specs.Reader6.{readIp6}
 use Rattle.networks.specs.declared.Network.{Network}
 use Rattle.networks.specs.declared.Length.{Length}
 use Rattle.networks.specs.declared.Dual.{Dual}
-use Rattle.records.specs.Grammar.{isQualifier}
+use Rattle.records.specs.Grammar.{sign-plus, isQualifier}
 use Rattle.records.specs.declared.terms.Kind.{Kind}
 use Rattle.records.specs.declared.terms.Spec.{Spec}
 use Rattle.records.specs.declared.terms.Hosts.{Hosts}
 use Rattle.records.specs.Readings.{Placed}
 use Rattle.records.specs.Numbers.{end, term, termReport}
+use Rattle.records.specs.Answers.{most-bytes}
 use Rattle.records.specs.declared.Term.{Term}
 use Rattle.records.specs.declared.Token.{Token}
 use Rattle.records.specs.declared.TermAnswer.{TermAnswer}
@@ -65,10 +66,6 @@ afterDual Dual.NoLengths f x = x
 abbrev pub afterNetwork : {A : Type 0} → Network → (Address → A) → A → A
 afterNetwork (Network.Is a) f x = f a
 afterNetwork Network.NoNetwork f x = x
-
-abbrev pub afterLength : {A : Type 0} → Length → (ℕ → A) → A → A
-afterLength (Length.Of n) f x = f n
-afterLength Length.NoLength f x = x
 
 abbrev pub afterHosts : {A : Type 0} → Hosts → (ℕ → ℕ → ℕ → ℕ → A) → A → A
 afterHosts (Hosts.Of from to n m) f x = f from to n m
@@ -119,7 +116,7 @@ mxOf sign = withHosts (Term.Mx sign)
 -- the term of a network and its length, as they were read; the network's text stands from one place up to another
 unfoldable pub networkTerm : ℕ → ℕ → ℕ → Network → Length → Token
 networkTerm sign from to network size =
-    afterNetwork network (λ x. afterLength size (λ n. Token.Is (Term.Network sign from to x n)) Token.Outside) Token.Outside
+    afterNetwork network (λ x. onLength size (λ n. Token.Is (Term.Network sign from to x n)) Token.Outside) Token.Outside
 
 -- ":" network [ length ], the network up to the first slash, by a family's readers
 unfoldable pub networkCut : (List ℕ → Network) → (List ℕ → Length) → ℕ → ℕ → List ℕ → ℕ → Token
@@ -163,7 +160,7 @@ modifierOf k w =
 
 -- the sign of a term, and where its name begins, by its first byte
 unfoldable pub signBy : ℕ → ℕ
-signBy b = cond (isQualifier b) b 43
+signBy b = cond (isQualifier b) b sign-plus
 
 unfoldable pub nameBy : ℕ → ℕ
 nameBy b = cond (isQualifier b) 1 0
@@ -172,7 +169,7 @@ nameBy b = cond (isQualifier b) 1 0
 unfoldable pub tokenOf : List ℕ → Token
 tokenOf w =
     cond (isQualifier (at w 0)) (mechanismOf (at w 0) 1 w)
-    (cond (eqb (at w (runEnd (isIn NameByte) w 0)) 61) (modifierOf (runEnd (isIn NameByte) w 0) w) (mechanismOf 43 0 w))
+    (cond (eqb (at w (runEnd (isIn NameByte) w 0)) 61) (modifierOf (runEnd (isIn NameByte) w 0) w) (mechanismOf sign-plus 0 w))
 
 -- the term at a place where no space stands
 unfoldable pub tokenAnswer : ℕ → ℕ → Token → TermAnswer
@@ -187,7 +184,7 @@ termFrom s p =
 -- reading one term
 unfoldable pub readTerm : List ℕ → ℕ → TermAnswer
 readTerm s i =
-    cond (ltb 4096 (length s)) (TermAnswer.Refused 30 0)
+    cond (ltb most-bytes (length s)) (TermAnswer.Refused 30 0)
     (cond (ltb (length s) i) (TermAnswer.Refused 34 i) (termFrom s (runEnd (isIn Space) s i)))
 
 -- whether a term is a redirect, and whether it is an exp
@@ -215,9 +212,13 @@ isExplanation (Term.Exists sign from to) = false
 isExplanation (Term.Redirect from to) = false
 isExplanation (Term.Unknown name to) = false
 
+-- the place just after the version
+abbrev pub after-version : ℕ
+after-version = length (bytes "v=spf1")
+
 -- the record from a place on, with what has stood before it
 unfoldable pub checkAfter : Bool → Bool → TermAnswer → (ℕ → Bool → Bool → RecordAnswer) → RecordAnswer
-checkAfter r e TermAnswer.End rest = RecordAnswer.Accepted 6
+checkAfter r e TermAnswer.End rest = RecordAnswer.Accepted after-version
 checkAfter r e (TermAnswer.Refused number p) rest = RecordAnswer.Refused number p
 checkAfter r e (TermAnswer.Is p next t) rest =
     cond ((r && isRedirect t) || (e && isExplanation t)) (RecordAnswer.Refused 33 p) (rest next (r || isRedirect t) (e || isExplanation t))
@@ -228,13 +229,13 @@ checkFrom (suc f) s i r e = checkAfter r e (readTerm s i) (checkFrom f s)
 
 -- whether the version section stands at the front
 unfoldable pub hasVersion : List ℕ → Bool
-hasVersion s = sameWord (part s 0 6) (bytes "v=spf1") && (eqb (length s) 6 || eqb (at s 6) 32)
+hasVersion s = sameWord (part s 0 after-version) (bytes "v=spf1") && (eqb (length s) after-version || eqb (at s after-version) 32)
 
 -- reading a record
 unfoldable pub readRecord : List ℕ → RecordAnswer
 readRecord s =
-    cond (ltb 4096 (length s)) (RecordAnswer.Refused 30 0)
-    (cond (hasVersion s) (checkFrom (suc (length s)) s 6 false false) (RecordAnswer.Refused 31 0))
+    cond (ltb most-bytes (length s)) (RecordAnswer.Refused 30 0)
+    (cond (hasVersion s) (checkFrom (suc (length s)) s after-version false false) (RecordAnswer.Refused 31 0))
 
 -- term after term, each from the last one's next place, and then the end
 pub data Reads (s : List ℕ) : ℕ → List Placed → Type 0 where

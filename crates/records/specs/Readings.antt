@@ -1,6 +1,6 @@
 -- "A reading is a list of terms": what each says, and its first byte's place.
 use Prim.Native.Nat.{ℕ}
-use mathlib.Core.List.{List}
+use mathlib.Core.List.{List, []}
 use Rattle.address.specs.declared.Address.{Address}
 
 -- a part that a term may have
@@ -18,6 +18,15 @@ pub record Said : Type 0 where
   pub address : Optional Address
   pub four : Optional ℕ
   pub six : Optional ℕ
+
+-- the bytes of a part, none where it is absent
+abbrev pub bytesOr : Optional (List ℕ) → List ℕ
+bytesOr absent = []
+bytesOr (present x) = x
+
+-- the argument's bytes, none where a term has no argument
+abbrev pub argumentBytes : Said → List ℕ
+argumentBytes x = bytesOr (x .argument)
 
 -- a term of a reading: "Each has its first byte's place"
 pub record Placed : Type 0 where

@@ -3,8 +3,7 @@ ghost use mathlib.Core.Path.{_≡_};
 ghost use Prim.Native.Nat.{_+_, _≤_};
 ghost use lib.ListN.{length};
 ghost use Rattle.text.specs.Bytes.{part};
-ghost use Rattle.records.specs.Numbers.{recordReport, termReport, argumentOf};
-ghost use Rattle.records.specs.Answers.{RecordAnswers, TermAnswers};
+ghost use Rattle.records.specs.Answers.{ReadsRecord, ReadsTerm, ReadsArgument};
 ghost use Rattle.records.specs.Reader.{hasVersion, termFrom, readTerm, readRecord};
 ghost use Rattle.records.specs.Opening.{answerOf};
 use address::Address;
@@ -92,6 +91,12 @@ pub enum RecordAnswer {
     Refused { number: u8, at: usize },
 }
 
+// A longer text is refused with 30.
+pub const MOST_BYTES: usize = 4096;
+
+// Where the terms of a record begin: just after its version.
+pub const AFTER_VERSION: usize = 6;
+
 // The term at a place where no space stands, or the end.
 fn term_from(s: &[u8], at: usize) -> TermAnswer
     requires { ⌜ at ≤ length (now s) ⌝ }
@@ -110,9 +115,9 @@ fn term_from(s: &[u8], at: usize) -> TermAnswer
 // Reads one term from a place on: 30, 34, the end, 32, or the term with the next place.
 pub fn read_term(s: &[u8], at: usize) -> TermAnswer
     ensures { λ r. ⌜ r ≡ readTerm (now (s .entry)) at ⌝ }
-    ensures { λ r. ⌜ TermAnswers (now (s .entry)) at (termReport (now (s .entry)) r) ⌝ }
+    ensures { λ r. ⌜ ReadsTerm (now (s .entry)) at r ⌝ }
 {
-    if 4096 < s.len() {
+    if MOST_BYTES < s.len() {
         return TermAnswer::Refused { number: 30, at: 0 };
     }
     if s.len() < at {
@@ -133,7 +138,7 @@ fn value_part(w: &[u8], name: usize, to: usize) -> &[u8]
 
 // The argument of a term that begins at a place, as that part of the record; for a term without one the empty part at the term's end.
 pub fn argument(s: &[u8], at: usize, next: usize, term: Term) -> &[u8]
-    ensures { λ r. ⌜ now r ≡ argumentOf (part (now (s .entry)) at next) term ⌝ }
+    ensures { λ r. ⌜ ReadsArgument (now (s .entry)) at next term (now r) ⌝ }
 {
     let w = bytes::part(s, at, next);
     match term {
@@ -172,17 +177,14 @@ pub fn argument(s: &[u8], at: usize, next: usize, term: Term) -> &[u8]
 pub fn has_version(s: &[u8]) -> bool
     ensures { λ r. ⌜ r ≡ hasVersion (now (s .entry)) ⌝ }
 {
-    if words::equal_word(bytes::part(s, 0, 6), b"v=spf1") {
-        if s.len() == 6 {
+    if words::equal_word(bytes::part(s, 0, AFTER_VERSION), b"v=spf1") {
+        if s.len() == AFTER_VERSION {
             return true;
         }
-        return bytes::peek(s, 6) == 32;
+        return bytes::peek(s, AFTER_VERSION) == 32;
     }
     false
 }
-
-// Where the terms of a record begin: just after its version.
-pub const AFTER_VERSION: usize = 6;
 
 // The answer of a record that was read for a client.
 fn answer_of(opening: Opening) -> RecordAnswer
@@ -199,7 +201,7 @@ fn answer_of(opening: Opening) -> RecordAnswer
 // for every client.
 pub fn read_record(s: &[u8]) -> RecordAnswer
     ensures { λ r. ⌜ r ≡ readRecord (now (s .entry)) ⌝ }
-    ensures { λ r. ⌜ RecordAnswers (now (s .entry)) (recordReport r) ⌝ }
+    ensures { λ r. ⌜ ReadsRecord (now (s .entry)) r ⌝ }
 {
     answer_of(opening::open_record(s, Address::IPv4(0)))
 }

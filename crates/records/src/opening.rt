@@ -4,8 +4,9 @@ ghost use mathlib.Core.Bool.{_&&_, _||_};
 ghost use Prim.Native.Nat.{_≤_};
 ghost use lib.ListN.{length};
 ghost use Rattle.records.specs.Reader.{isRedirect, isExplanation};
-ghost use Rattle.records.specs.Opening.{unaided, ledOn, endedIn, Opened, OpeningOf};
+ghost use Rattle.records.specs.Opening.{unaided, ledOn, Opened, OpeningOf};
 use crate::AFTER_VERSION;
+use crate::MOST_BYTES;
 use crate::Term;
 use crate::TermAnswer;
 use crate::has_version;
@@ -145,21 +146,6 @@ fn repeats(redirect: bool, explanation: bool, term: Term) -> bool
     both(explanation, is_explanation(term))
 }
 
-// What is answered where no term is left to read.
-fn ended(answer: TermAnswer, opening: Opening) -> Opening
-    ensures { λ r. ⌜ r ≡ endedIn answer opening ⌝ }
-{
-    match answer {
-        TermAnswer::Refused { number, at } => Opening::Refused { number, at },
-        TermAnswer::End => opening,
-        TermAnswer::Is {
-            at: _,
-            next: _,
-            term: _,
-        } => opening,
-    }
-}
-
 // The terms of a record, from a place on: the earlier of 32 and 33, or accepted.
 fn check_terms(s: &[u8], first: usize, client: Address) -> Opening
     requires { ⌜ first ≤ length (now s) ⌝ }
@@ -177,7 +163,10 @@ fn check_terms(s: &[u8], first: usize, client: Address) -> Opening
             term,
         } = answer
         else {
-            return ended(answer, opening);
+            let TermAnswer::Refused { number, at: place } = answer else {
+                return opening;
+            };
+            return Opening::Refused { number, at: place };
         };
         if repeats(redirect, explanation, term) {
             return Opening::Refused {
@@ -197,7 +186,7 @@ fn check_terms(s: &[u8], first: usize, client: Address) -> Opening
 pub fn open_record(s: &[u8], client: Address) -> Opening
     ensures { λ r. ⌜ OpeningOf client (now (s .entry)) r ⌝ }
 {
-    if 4096 < s.len() {
+    if MOST_BYTES < s.len() {
         return Opening::Refused { number: 30, at: 0 };
     }
     if has_version(s) {

@@ -1,11 +1,67 @@
-// Checks of whole inputs with lent buffers of some length.
+// Checks of whole inputs: as the check program makes them, and with lent buffers of some length.
+ghost use Prim.Native.Nat.{_≤_};
+ghost use lib.ListN.{length};
+use checking::InputAnswer;
+use checking::keeping::hold;
+use checking::lines;
 use text::bytes::part;
+
+// Prints the answer to what is held.
+fn print_held(input: &[u8]) {
+    let mut out = [0u8; 600];
+    let size = checking::answer_input(input, &mut out);
+    io::write_all(1, part(&out, 0, size));
+}
+
+// Runs the input that a word writes in hex.
+pub fn run(word: &[u8]) {
+    let mut held = [0u8; 132234];
+    let mut input = [0u8; 16384];
+    let n = cases::unhex(word, &mut input);
+    let size = hold(&mut held, 0, &input, n);
+    print_held(part(&held, 0, size));
+}
+
+// Adds so many of a byte to what is held, in chunks of 4,096.
+fn hold_many(held: &mut [u8], n: usize, byte: u8, count: usize) -> usize
+    requires { ⌜ n ≤ 66698 ⌝ }
+    requires { ⌜ 132234 ≤ length (now held) ⌝ }
+    ensures { λ r. ⌜ r ≤ 66698 ⌝ }
+{
+    let chunk = [byte; 4096];
+    let mut size = n;
+    let mut left = count;
+    while 4096 < left {
+        size = hold(held, size, &chunk, 4096);
+        left -= 4096;
+    }
+    hold(held, size, &chunk, left)
+}
+
+// Runs the input that two words write in hex, with so many of a byte between them.
+pub fn run_wide(front: &[u8], rest: &[u8], byte: u8, count: usize) {
+    let mut held = [0u8; 132234];
+    let mut before = [0u8; 8192];
+    let mut after = [0u8; 8192];
+    let n = cases::unhex(front, &mut before);
+    let m = cases::unhex(rest, &mut after);
+    let first = hold(&mut held, 0, &before, n);
+    let middle = hold_many(&mut held, first, byte, count);
+    let size = hold(&mut held, middle, &after, m);
+    print_held(part(&held, 0, size));
+}
+
+fn print_lent(answer: InputAnswer, name: &[u8], text: &[u8]) {
+    let mut out = [0u8; 2048];
+    let size = lines::put_answer(answer, name, text, &mut out, 0);
+    io::write_all(1, part(&out, 0, size));
+}
 
 // The check with the front of the text buffer.
 fn check_text(input: &[u8], name: &mut [u8], text: &mut [u8], text_room: usize) {
     if text_room <= text.len() {
         let answer = checking::check_input(input, name, &mut text[..text_room]);
-        return checking::print(answer, name, text);
+        return print_lent(answer, name, text);
     }
     cases::print_line(b"too long");
 }
@@ -19,7 +75,7 @@ fn check_front(input: &[u8], name: &mut [u8], text: &mut [u8], name_room: usize,
 }
 
 // Runs the check that a word writes in hex, with buffers of at most 1,024 bytes and so many zero bytes after its table.
-pub fn run(word: &[u8], name_room: usize, text_room: usize, zeros: usize) {
+pub fn run_lent(word: &[u8], name_room: usize, text_room: usize, zeros: usize) {
     let mut input = [0u8; 73728];
     let mut name = [0u8; 1024];
     let mut text = [0u8; 1024];

@@ -2,14 +2,16 @@
 // answered to each, led by the case's label. Bytes stand in hex, `-` for none.
 //
 //     record LABEL RECORD               `accepted` and the place after the version, or `refused`, number, `at`, place
+//     listing LABEL INPUT               what the record printer prints
 //     term LABEL RECORD PLACE           `end`; `refused`, number, `at`, place; or place, next place and the term as the record printer shows it
 //     expand LABEL FORM CLIENT DOMAIN SENDER P TEXT
 //                                       `ok` and the expansion, or `refused` and the number; HELO is helo.example, the receiver empty, t 7
 //     match LABEL CLIENT NETWORK LENGTH
 //                                       1 if they match at that prefix length, else 0
-//     check LABEL INPUT                 what a check answers: number, kind or place and both counts, and for 3 and 7 the text or name on a second line;
+//     check LABEL INPUT                 what the check program prints: number, kind or place and both counts, and for 3 and 7 the text or name on a second line;
 //                                       `input` for a client or t that cannot be read. INPUT is client, domain, sender, HELO, receiver and t, a line
 //                                       each, and the table
+//     wide LABEL COUNT BYTE FRONT REST  the same of an input that is FRONT, so many of a byte, and REST, held chunk by chunk
 //     lent LABEL NAME TEXT ZEROS INPUT  the same with buffers of these lengths and so many zero bytes after the table
 //
 // FORM is `domain-spec` or `explanation`. Any other line is printed as it is.
@@ -18,27 +20,31 @@ mod checks;
 use cases::Line;
 use macros::Expanded;
 use macros::Form;
-use records::TermAnswer;
 use text::bytes::part;
 use text::words;
 
 fn run_record(line: &[u8]) {
     let mut s = [0u8; 8192];
+    let mut out = [0u8; 64];
     let n = cases::unhex(cases::word(line, 2), &mut s);
-    listing::print_reading(part(&s, 0, n));
+    let size = listing::put_reading(part(&s, 0, n), &mut out);
+    io::write_all(1, part(&out, 0, size));
+}
+
+// Runs the record printer.
+fn run_listing(line: &[u8]) {
+    let mut input = [0u8; 8192];
+    let mut out = listing::buffer();
+    let n = cases::unhex(cases::word(line, 2), &mut input);
+    let size = listing::list_input(&input, n, &mut out);
+    io::write_all(1, part(&out, 0, size));
 }
 
 // Reads the term of a record at a place and prints what is answered.
 fn print_term_at(s: &[u8], place: usize) {
-    let answer = records::read_term(s, place);
-    let TermAnswer::Is { at, next, term } = answer else {
-        return listing::print_no_term(answer);
-    };
-    io::print_decimal(1, at as u64);
-    io::write_all(1, b" ");
-    io::print_decimal(1, next as u64);
-    io::write_all(1, b" ");
-    listing::print_term(s, at, next, term);
+    let mut out = [0u8; 16384];
+    let size = listing::put_term_answer(s, records::read_term(s, place), &mut out);
+    io::write_all(1, part(&out, 0, size));
 }
 
 fn run_term(line: &[u8]) {
@@ -118,20 +124,34 @@ fn length_of(word: &[u8]) -> usize {
 }
 
 fn run_check(line: &[u8]) {
-    checks::run(cases::word(line, 2), 253, 500, 0);
+    checks::run(cases::word(line, 2));
+}
+
+fn run_wide(line: &[u8]) {
+    let count = cases::number_of(cases::word(line, 2)) % 1000000;
+    let byte = cases::number_of(cases::word(line, 3)) % 256;
+    checks::run_wide(
+        cases::word(line, 4),
+        cases::word(line, 5),
+        byte as u8,
+        count as usize,
+    );
 }
 
 fn run_lent(line: &[u8]) {
     let name = length_of(cases::word(line, 2));
     let text = length_of(cases::word(line, 3));
     let zeros = length_of(cases::word(line, 4));
-    checks::run(cases::word(line, 5), name, text, zeros);
+    checks::run_lent(cases::word(line, 5), name, text, zeros);
 }
 
 // Runs a case of a kind, once its label is printed.
 fn run_case(kind: &[u8], line: &[u8]) {
     if words::equal(kind, b"record") {
         return run_record(line);
+    }
+    if words::equal(kind, b"listing") {
+        return run_listing(line);
     }
     if words::equal(kind, b"term") {
         return run_term(line);
@@ -141,6 +161,9 @@ fn run_case(kind: &[u8], line: &[u8]) {
     }
     if words::equal(kind, b"match") {
         return run_match(line);
+    }
+    if words::equal(kind, b"wide") {
+        return run_wide(line);
     }
     if words::equal(kind, b"lent") {
         return run_lent(line);
@@ -153,10 +176,16 @@ fn is_kind(kind: &[u8]) -> bool {
     if words::equal(kind, b"check") {
         return true;
     }
+    if words::equal(kind, b"wide") {
+        return true;
+    }
     if words::equal(kind, b"lent") {
         return true;
     }
     if words::equal(kind, b"record") {
+        return true;
+    }
+    if words::equal(kind, b"listing") {
         return true;
     }
     if words::equal(kind, b"term") {

@@ -22,14 +22,14 @@ pub record Encoded (t : List ℕ) (es : List Entry) : Type 0 where
   pub once : distinct es ≡ true
 
 -- no well-formed entry begins here
-abbrev pub Ill : List ℕ → Type 0
-Ill rest = (w after : List ℕ) (e : Entry) → rest ≡ w ++ after → Encodes w e → ⊥
+abbrev pub NoEntry : List ℕ → Type 0
+NoEntry rest = (w after : List ℕ) (e : Entry) → rest ≡ w ++ after → Encodes w e → ⊥
 
 -- the answer of a check: 24; the earlier of 25 and 26 with its place (25 if equal); or accepted
 pub data TableAnswers (t : List ℕ) : Report → Type 0 where
   too-long : most-bytes < length t → TableAnswers t (refused 24 nowhere)
   malformed : (front rest : List ℕ) {es : List Entry} → length t ≤ most-bytes → t ≡ front ++ rest → Encoded front es → 0 < length rest
-      → (length es ≡ most-entries) ⊎ Ill rest → TableAnswers t (refused 25 (byte (length front)))
+      → (length es ≡ most-entries) ⊎ NoEntry rest → TableAnswers t (refused 25 (byte (length front)))
   repeated : (front w rest : List ℕ) {es : List Entry} {e : Entry} → length t ≤ most-bytes → t ≡ front ++ (w ++ rest) → Encoded front es
       → length es < most-entries → Encodes w e → holds (e .kind) (e .name) es ≡ true → TableAnswers t (refused 26 (byte (length front)))
   whole : {es : List Entry} → length t ≤ most-bytes → Encoded t es → TableAnswers t (accepted (length es))

@@ -15,26 +15,59 @@ pub record Entry : Type 0 where
   pub name : List ℕ
   pub items : List (List ℕ)
 
--- "2-byte kind, the DNS type asked (1 A, 12 PTR, 15 MX, 16 TXT, 28 AAAA, 99 SPF)"
-unfoldable pub isKind : ℕ → Bool
-isKind k = eqb k 1 || (eqb k 12 || (eqb k 15 || (eqb k 16 || (eqb k 28 || eqb k 99))))
+-- the kinds by name: "the DNS type asked (1 A, 12 PTR, 15 MX, 16 TXT, 28 AAAA, 99 SPF)"
+abbrev pub kind-a : ℕ
+kind-a = 1
 
--- "1-byte status (0 answered, 2 failed, 3 no such name)"
+abbrev pub kind-ptr : ℕ
+kind-ptr = 12
+
+abbrev pub kind-mx : ℕ
+kind-mx = 15
+
+abbrev pub kind-txt : ℕ
+kind-txt = 16
+
+abbrev pub kind-aaaa : ℕ
+kind-aaaa = 28
+
+abbrev pub kind-spf : ℕ
+kind-spf = 99
+
+-- "2-byte kind"
+unfoldable pub isKind : ℕ → Bool
+isKind k = eqb k kind-a || (eqb k kind-ptr || (eqb k kind-mx || (eqb k kind-txt || (eqb k kind-aaaa || eqb k kind-spf))))
+
+-- the statuses by name: "(0 answered, 2 failed, 3 no such name)"
+abbrev pub status-answered : ℕ
+status-answered = 0
+
+abbrev pub status-failed : ℕ
+status-failed = 2
+
+abbrev pub status-no-such-name : ℕ
+status-no-such-name = 3
+
+-- "1-byte status"
 unfoldable pub isStatus : ℕ → Bool
-isStatus s = eqb s 0 || (eqb s 2 || eqb s 3)
+isStatus s = eqb s status-answered || (eqb s status-failed || eqb s status-no-such-name)
 
 -- "MX a 2-byte preference and a name or nothing"
 unfoldable pub isMailExchange : List ℕ → Bool
 isMailExchange d = cond (eqb (length d) 2) true (leb 2 (length d) && isTableName (drop 2 d))
 
+-- "a text of 0 to 4,096 bytes"
+abbrev pub most-text-bytes : ℕ
+most-text-bytes = 4096
+
 -- "A item 4 bytes; AAAA 16; PTR a name; MX ..; TXT and SPF a text of 0 to 4,096 bytes"
 unfoldable pub isItem : ℕ → List ℕ → Bool
 isItem kind d =
-    cond (eqb kind 1) (eqb (length d) 4)
-    (cond (eqb kind 28) (eqb (length d) 16)
-    (cond (eqb kind 12) (isTableName d)
-    (cond (eqb kind 15) (isMailExchange d)
-    (leb (length d) 4096))))
+    cond (eqb kind kind-a) (eqb (length d) 4)
+    (cond (eqb kind kind-aaaa) (eqb (length d) 16)
+    (cond (eqb kind kind-ptr) (isTableName d)
+    (cond (eqb kind kind-mx) (isMailExchange d)
+    (leb (length d) most-text-bytes))))
 
 -- a 2-byte number, little-endian
 pub data Two : List ℕ → ℕ → Type 0 where
@@ -49,11 +82,15 @@ pub data Items (kind : ℕ) : List ℕ → List (List ℕ) → Type 0 where
 -- "Status 2 or 3 has no items."
 unfoldable pub mayHold : ℕ → List (List ℕ) → Bool
 mayHold status [] = true
-mayHold status (d ∷ ds) = eqb status 0
+mayHold status (d ∷ ds) = eqb status status-answered
 
 -- all that follows an entry's length: kind, status, name length, name, items
 unfoldable pub body : List ℕ → ℕ → List ℕ → List ℕ → List ℕ
 body k status name i = k ++ (status ∷ length name ∷ (name ++ i))
+
+-- what stands before an entry's name: its length, kind, status and name length
+abbrev pub header-size : ℕ
+header-size = 6
 
 -- "An entry: 2-byte length of all that follows in it; 2-byte kind ..; 1-byte status ..; 1-byte name length; the name; then items"
 pub data Encodes : List ℕ → Entry → Type 0 where

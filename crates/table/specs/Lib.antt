@@ -11,3 +11,5 @@ pub mod Lookup
 pub mod Reader
 -- Marks: the bits that are set for the pairs that a check has met.
 pub mod Marks
+-- Examples: 01's sentences on the table, computed.
+pub mod Examples

@@ -7,7 +7,8 @@ use lib.Dec.{leb, ltb, eqb}
 use Rattle.text.specs.Bytes.{at}
 use Rattle.text.specs.Lists.{same}
 use Rattle.domain.specs.Names.{isTableName}
-use Rattle.table.specs.Layout.{Entry, isKind, isStatus, isItem}
+use Rattle.table.specs.Layout.{Entry, isKind, status-answered, isStatus, isItem, header-size}
+use Rattle.table.specs.Answers.{most-bytes, most-entries}
 use Rattle.table.specs.declared.entries.Header.{Header}
 use Rattle.table.specs.declared.entries.Header.the-variants.{Whole, Broken}
 use Rattle.table.specs.declared.Found.{Found}
@@ -53,17 +54,17 @@ itemsFit kind s = itemsFitFrom (length s) kind s
 -- the entry at the front: its header is there, its name ends within it and it within the list; not yet whether it is well-formed
 unfoldable pub headerOf : List ℕ → Header
 headerOf s =
-    cond (ltb (length s) 6) Broken
+    cond (ltb (length s) header-size) Broken
     (cond (ltb (length s) (2 + number s)) Broken
-    (cond (ltb (2 + number s) (6 + at s 5)) Broken
+    (cond (ltb (2 + number s) (header-size + at s 5)) Broken
     (Whole (number (drop 2 s)) (at s 4) (at s 5) (2 + number s))))
 
 -- its name and its items' bytes, by the name's length and the entry's size
 unfoldable pub nameOf : List ℕ → ℕ → List ℕ
-nameOf s n = take n (drop 6 s)
+nameOf s n = take n (drop header-size s)
 
 unfoldable pub itemBytes : List ℕ → ℕ → ℕ → List ℕ
-itemBytes s n size = take (size - (6 + n)) (drop (6 + n) s)
+itemBytes s n size = take (size - (header-size + n)) (drop (header-size + n) s)
 
 -- whether the entry at the front, with this header, is well-formed
 unfoldable pub isWell : List ℕ → Header → Bool
@@ -72,7 +73,7 @@ isWell s (Whole kind status n size) =
     isKind kind
     && (isStatus status
     && (isTableName (nameOf s n)
-    && (cond (eqb status 0) (itemsFit kind (itemBytes s n size)) (eqb size (6 + n)))))
+    && (cond (eqb status status-answered) (itemsFit kind (itemBytes s n size)) (eqb size (header-size + n)))))
 
 -- what it holds
 unfoldable pub entryOf : List ℕ → ℕ → ℕ → ℕ → ℕ → Entry
@@ -94,7 +95,7 @@ entriesOf s = entriesFrom (length s) s
 unfoldable pub findAfter : List ℕ → ℕ → List ℕ → ℕ → Header → (ℕ → Found) → Found
 findAfter t kind name i Broken rest = Found.Missing
 findAfter t kind name i (Whole k status n size) rest =
-    cond (eqb k kind && same (nameOf (drop i t) n) name) (Found.Entry status (i + (6 + n)) (i + size)) (rest (i + size))
+    cond (eqb k kind && same (nameOf (drop i t) n) name) (Found.Entry status (i + (header-size + n)) (i + size)) (rest (i + size))
 
 unfoldable pub findFrom : ℕ → List ℕ → ℕ → List ℕ → ℕ → Found
 findFrom zero t kind name i = Found.Missing
@@ -134,8 +135,8 @@ unfoldable pub checkFrom : ℕ → List ℕ → ℕ → ℕ → TableAnswer
 checkFrom zero t i count = Accepted count
 checkFrom (suc f) t i count =
     cond (ltb i (length t))
-    (cond (eqb count 512) (Malformed i) (checkAfter i count (stepAt t i) (checkFrom f t)))
+    (cond (eqb count most-entries) (Malformed i) (checkAfter i count (stepAt t i) (checkFrom f t)))
     (Accepted count)
 
 unfoldable pub checkTable : List ℕ → TableAnswer
-checkTable t = cond (ltb 65535 (length t)) TooLong (checkFrom (suc (length t)) t 0 0)
+checkTable t = cond (ltb most-bytes (length t)) TooLong (checkFrom (suc (length t)) t 0 0)

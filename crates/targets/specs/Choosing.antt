@@ -29,11 +29,11 @@ unfoldable pub choiceWith : Choice → (d n : List ℕ) → ℕ → ℕ → Choi
 choiceWith choice d n from to = cond (same n d) Current (laterChoice choice (atOrBelow n d) from to)
 
 -- the value that the last choice is
-unfoldable pub valueOf : Choice → PValue
-valueOf Current = PValue.Current
-valueOf (Below f u) = PValue.Listed f u
-valueOf (First f u) = PValue.Listed f u
-valueOf Nobody = PValue.Unknown
+unfoldable pub choiceValue : Choice → PValue
+choiceValue Current = PValue.Current
+choiceValue (Below f u) = PValue.Listed f u
+choiceValue (First f u) = PValue.Listed f u
+choiceValue Nobody = PValue.Unknown
 
 -- whether a name is validated
 unfoldable pub givesValid : Address → Reply → Check Bool

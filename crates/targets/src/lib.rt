@@ -8,12 +8,11 @@ ghost use Rattle.table.specs.Reader.{itemsOf};
 ghost use Rattle.macros.specs.Question.{questionName};
 ghost use Rattle.macros.specs.declared.Form.the-variants.{DomainSpec};
 ghost use Rattle.records.specs.Readings.{absent, present};
-ghost use Rattle.meaning.specs.Tree.{items, ask, settled, run};
+ghost use Rattle.meaning.specs.Tree.{items, ask, run};
 ghost use Rattle.meaning.specs.Tables.{tableIn};
 ghost use Rattle.meaning.specs.Mechanisms.{pValue, pReply, expansion, target, targetOr};
-ghost use Rattle.meaning.specs.Outcomes.{mailOf, SaysP, TargetIs, SaysTarget};
-ghost use Rattle.meaning.specs.declared.Counts.{Counts};
-ghost use Rattle.targets.specs.Choosing.{laterChoice, choiceWith, valueOf, valid, SaysValid, targetWithP};
+ghost use Rattle.meaning.specs.Outcomes.{mailOf, SaysP, NamingIs, SaysTarget};
+ghost use Rattle.targets.specs.Choosing.{laterChoice, choiceWith, choiceValue, valid, SaysValid, targetWithP};
 use address::Address;
 use domain::Name;
 use macros::Expanded;
@@ -78,7 +77,7 @@ fn choose(choice: Choice, domain: &[u8], name: &[u8], from: usize, to: usize) ->
 
 // The value that the last choice is.
 fn value_of(choice: Choice) -> PValue
-    ensures { λ r. ⌜ r ≡ valueOf choice ⌝ }
+    ensures { λ r. ⌜ r ≡ choiceValue choice ⌝ }
 {
     match choice {
         Choice::Current => PValue::Current,
@@ -192,7 +191,7 @@ pub fn find_p(
 // The question name that a text is, at the front of `to`.
 fn write_name(text: &[u8], to: &mut [u8]) -> Target
     requires { ⌜ 253 ≤ length (now to) ⌝ }
-    ensures { λ r. ⌜ ((c : Counts) → TargetIs c (settled (questionName (now (text .entry)))) r (now (to .exit))) ⌝ }
+    ensures { λ r. ⌜ NamingIs (questionName (now (text .entry))) r (now (to .exit)) ⌝ }
 {
     match macros::question_name(text, to) {
         Name::Written(n) => Target::Name(n),
@@ -213,7 +212,7 @@ fn write_target(
     to: &mut [u8],
 ) -> Target
     requires { ⌜ (length (now sender) ≤ 320) × (253 ≤ length (now to)) ⌝ }
-    ensures { λ r. ⌜ ((c : Counts) → TargetIs c (settled (questionName (expansion (mailOf client (now (sender .entry)) (now (helo .entry)) (now (receiver .entry)) seconds) (now (domain .entry)) DomainSpec (now (spec .entry)) (now (p .entry))))) r (now (to .exit))) ⌝ }
+    ensures { λ r. ⌜ NamingIs (questionName (expansion (mailOf client (now (sender .entry)) (now (helo .entry)) (now (receiver .entry)) seconds) (now (domain .entry)) DomainSpec (now (spec .entry)) (now (p .entry)))) r (now (to .exit)) ⌝ }
 {
     let mut text = [0u8; 4096];
     match macros::write_expansion(

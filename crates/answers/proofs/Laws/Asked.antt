@@ -1,17 +1,23 @@
--- What a table's bytes answer a question, by what `find` finds, and what a check that asks it comes to. From table's contract of `find`.
+-- What a table's bytes answer a question, by what `find` finds, and what a check that asks it comes to. From table's contract of `find` and from Runs
+-- and Inversions.
 use Prim.Native.Nat.{ℕ}
 use mathlib.Core.Path.{_≡_, refl, _∙_}
 use mathlib.Core.List.{List}
 use borrow.Author.Tests.{eq-eqb, ne-eqb}
+use lib.ListN.{length}
 use Rattle.text.specs.Bytes.{part}
+use Rattle.text.specs.Writing.{overwritten}
 use Rattle.table.specs.declared.Found.{Found}
 use Rattle.table.specs.Lookup.{Lookup, Finds, found, missing}
 use Rattle.table.specs.Reader.{itemsOf, findAt}
 use Rattle.table.proofs.Laws.Finding.{finds}
 use Rattle.records.specs.Readings.{Optional, absent, present}
 use Rattle.meaning.specs.declared.Counts.{Counts}
-use Rattle.meaning.specs.Tree.{Reply, failed, items, Check, ask, peek, wanting, answered, run}
+use Rattle.meaning.specs.Tree.{Reply, failed, items, Check, ask, peek, run}
 use Rattle.meaning.specs.Tables.{replyBy, replyOf, tableIn}
+use Rattle.meaning.specs.Outcomes.{Wants}
+use Rattle.meaning.proofs.Laws.Runs.{ask-present}
+use Rattle.meaning.proofs.Laws.Inversions.{wants-ask}
 
 -- by what was found
 unfoldable pub replyFound : List ℕ → Found → Optional Reply
@@ -37,14 +43,13 @@ module _ (t : List ℕ) (kind : ℕ) (d : List ℕ) (f : Found) (p : f ≡ findA
   unfolding replyFound
   asks-entry status start end e = asks-found t kind d f p ∙ rw e
 
-  pub run-missing : {A : Type 0} (c : Counts) (g : Reply → Check A) → f ≡ Found.Missing → run (tableIn t) (ask kind d c g) ≡ wanting kind d c
-  unfolding run answered
-  run-missing c g e = rw (asks-missing e)
+  pub run-missing : {A : Type 0} (c : Counts) (g : Reply → Check A) → f ≡ Found.Missing
+      → (b a : List ℕ) → a ≡ overwritten d b → Wants (run (tableIn t) (ask kind d c g)) kind (length d) c b a
+  run-missing c g e b a w = wants-ask (tableIn t) kind d c g (asks-missing e) b a w
 
   pub run-entry : {A : Type 0} (c : Counts) (g : Reply → Check A) (status start end : ℕ) → f ≡ Found.Entry status start end
       → run (tableIn t) (ask kind d c g) ≡ run (tableIn t) (g (replyBy status (itemsOf (part t start end))))
-  unfolding run answered
-  run-entry c g status start end e = rw (asks-entry status start end e)
+  run-entry c g status start end e = ask-present (tableIn t) kind d c g _ (asks-entry status start end e)
 
   pub run-failed : {A : Type 0} (c : Counts) (g : Reply → Check A) (status start end : ℕ) → f ≡ Found.Entry status start end → status ≡ 2
       → run (tableIn t) (ask kind d c g) ≡ run (tableIn t) (g failed)

@@ -6,37 +6,19 @@ use Rattle.check_cases.proofs.main.Statement.{statement}
 use Rattle.check_cases.proofs.main.Tie as tie
 
 abbrev Inv-loop : tie.InvT-loop
-Inv-loop input₀ budget₀ input budget = length input ≡ 70000
+Inv-loop held₀ budget₀ held budget = length held ≡ 132234
 
 abbrev μ-loop : tie.MeasureT-loop
-μ-loop input₀ budget₀ input budget = budget
+μ-loop held₀ budget₀ held budget = budget
 
 loop-holds : tie.Need-loop-holds Inv-loop μ-loop
 loop-holds c = search needs
 
-slice-aggregate-read-input : tie.Need-slice-aggregate-read-input Inv-loop μ-loop
-slice-aggregate-read-input c = search needs
+slice-aggregate-run-line : tie.Need-slice-aggregate-run-line Inv-loop μ-loop
+slice-aggregate-run-line c = search needs
 
-read-input-requires : tie.Need-read-input-requires Inv-loop μ-loop
-read-input-requires c κs = search needs
-
-enum-known-n : tie.Need-enum-known-n Inv-loop μ-loop
-enum-known-n c = search needs
-
-enum-told : tie.Need-enum-told Inv-loop μ-loop
-enum-told c = search needs
-
-returns : tie.Need-returns Inv-loop μ-loop
-returns c = search needs
-
-slice-aggregate-part : tie.Need-slice-aggregate-part Inv-loop μ-loop
-slice-aggregate-part c = search needs
-
-part-requires : tie.Need-part-requires Inv-loop μ-loop
-part-requires c κs = search needs
-
-run-input-requires : tie.Need-run-input-requires Inv-loop μ-loop
-run-input-requires c κs = search needs
+run-line-requires : tie.Need-run-line-requires Inv-loop μ-loop
+run-line-requires c κs = search needs
 
 sub-budget : tie.Need-sub-budget Inv-loop μ-loop
 sub-budget c = search needs
@@ -46,6 +28,9 @@ loop-less c = search needs
 
 loop-again : tie.Need-loop-again Inv-loop μ-loop
 loop-again c = search needs
+
+returns : tie.Need-returns Inv-loop μ-loop
+returns c = search needs
 
 returns-2 : tie.Need-returns-2 Inv-loop μ-loop
 returns-2 c = search needs
@@ -57,15 +42,10 @@ main-spec =
     Inv-loop
     μ-loop
     loop-holds
-    slice-aggregate-read-input
-    read-input-requires
-    enum-known-n
-    enum-told
-    returns
-    slice-aggregate-part
-    part-requires
-    run-input-requires
+    slice-aggregate-run-line
+    run-line-requires
     sub-budget
     loop-less
     loop-again
+    returns
     returns-2)

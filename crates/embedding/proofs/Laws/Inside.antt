@@ -1,7 +1,7 @@
 -- The argument of a term that was read stands within the term, so that it is a part of the record. From the reader's definitions, the laws of runs,
 -- and where a term stands in its record (selection).
 use Prim.Native.Nat.{ℕ, _+_, _-_, _≤_, _<_}
-use mathlib.Core.Path.{_≡_, refl, sym, ap, subst, _∙_}
+use mathlib.Core.Path.{_≡_, refl, sym, subst, _∙_}
 use mathlib.Core.List.{List}
 use native.Mathlib.Omega.{arith}
 use native.Mathlib.Nat.{sub-self}
@@ -19,12 +19,14 @@ use Rattle.address.specs.declared.Address.{Address}
 use Rattle.address.specs.declared.Address.the-variants.{IPv4, IPv6}
 use Rattle.networks.specs.declared.Network.{Network}
 use Rattle.networks.specs.declared.Length.{Length}
-use Rattle.networks.specs.Reader.{readIp4, readLength4, readLength6, readDual}
+use Rattle.networks.specs.Reader.{onLength, readIp4, readLength4, readLength6, readDual}
 use Rattle.networks.specs.Reader6.{readIp6}
+use Rattle.networks.proofs.Laws.Readings.{length-elim}
 use Rattle.macros.specs.declared.Form.the-variants.{DomainSpec}
 use Rattle.macros.specs.Reader.{isMacroString}
-use Rattle.records.specs.Numbers.{argumentOf}
-use Rattle.records.specs.Reader.{kindOf, specAt, afterNetwork, afterLength, allOf, withSpec, ptrOf, cutOf, hostsCut, hostsAt, withHosts, networkTerm, networkCut, networkBy, mechanismBy, mechanismOf, modifierOf, tokenOf, readTerm}
+use Rattle.records.specs.Readings.{argumentBytes}
+use Rattle.records.specs.Numbers.{saidOf}
+use Rattle.records.specs.Reader.{kindOf, specAt, afterNetwork, allOf, withSpec, ptrOf, cutOf, hostsCut, hostsAt, withHosts, networkTerm, networkCut, networkBy, mechanismBy, mechanismOf, modifierOf, tokenOf, readTerm}
 use Rattle.records.specs.declared.terms.Kind.{Kind}
 use Rattle.records.specs.declared.terms.Spec.{Spec}
 use Rattle.records.specs.declared.terms.Hosts.{Hosts}
@@ -33,9 +35,10 @@ use Rattle.records.specs.declared.Token.{Token}
 use Rattle.records.specs.declared.TermAnswer.{TermAnswer}
 use Rattle.records.proofs.Laws.Specs.{spec-elim}
 use Rattle.records.proofs.Laws.Hosts.{cut-after, dual-elim, hosts-elim}
-use Rattle.records.proofs.Laws.Networks.{network-elim, length-elim}
+use Rattle.records.proofs.Laws.Networks.{network-elim}
 use Rattle.records.proofs.Laws.Modifiers.{modifier-elim}
 use Rattle.records.proofs.Laws.Tokens.{token-elim}
+use Rattle.records.proofs.Laws.Checking.{optional-bytes}
 use Rattle.selection.proofs.Laws.Arguments.{stands}
 use Rattle.embedding.specs.Numbers.{networkShape, shapeOf, Inside}
 use Rattle.embedding.specs.Calls.{ArgumentStands}
@@ -90,14 +93,14 @@ network-inside size sign from to (IPv4 v) n h l = (h, l)
 network-inside size sign from to (IPv6 x y) n h l = (h, l)
 
 network-within : (w : List ℕ) (sign k : ℕ) (x : Network) (y : Length) → at w k ≡ 58 → Within w
-    (afterNetwork x (λ a. afterLength y (λ n. Token.Is (Term.Network sign (k + 1) (runEnd (isIn NotSlash) w (k + 1)) a n)) Token.Outside) Token.Outside)
+    (afterNetwork x (λ a. onLength y (λ n. Token.Is (Term.Network sign (k + 1) (runEnd (isIn NotSlash) w (k + 1)) a n)) Token.Outside) Token.Outside)
 network-within w sign k x y b =
     let i = nonzero-inside w k (λ e. omega (arith, b, e)) in
     let slash = runEnd (isIn NotSlash) w (k + 1) in
     network-elim (Within w) x _ Token.Outside
     (λ a _. length-elim (Within w) y (λ n. Token.Is (Term.Network sign (k + 1) slash a n)) Token.Outside
     (λ n _. network-inside (length w) sign (k + 1) slash a n (run-end-from (isIn NotSlash) w (k + 1)) (run-end-inside (isIn NotSlash) w (k + 1) (omega arith)))
-    tt)
+    (λ _. tt))
     tt
 
 -- each mechanism, with its name up to k
@@ -139,13 +142,13 @@ token-within w = token-elim w (Within w)
     (mechanism-within 43 0 w (omega arith))
 
 -- the argument's bytes by its shape
-argument-shape : (w : List ℕ) (t : Term) → part w (shapeOf (length w) t .from) (shapeOf (length w) t .to) ≡ argumentOf w t
-unfolding shapeOf networkShape argumentOf
+argument-shape : (w : List ℕ) (t : Term) → part w (shapeOf (length w) t .from) (shapeOf (length w) t .to) ≡ argumentBytes (saidOf w t)
+unfolding shapeOf networkShape saidOf
 argument-shape w (Term.All sign) = rw (sub-self (length w))
 argument-shape w (Term.Include sign from to) = refl
-argument-shape w (Term.A sign from to n m) = refl
-argument-shape w (Term.Mx sign from to n m) = refl
-argument-shape w (Term.Ptr sign from to) = refl
+argument-shape w (Term.A sign from to n m) = sym (optional-bytes w from to)
+argument-shape w (Term.Mx sign from to n m) = sym (optional-bytes w from to)
+argument-shape w (Term.Ptr sign from to) = sym (optional-bytes w from to)
 argument-shape w (Term.Network sign from to (IPv4 v) n) = refl
 argument-shape w (Term.Network sign from to (IPv6 h l) n) = refl
 argument-shape w (Term.Exists sign from to) = refl

@@ -3,12 +3,11 @@ use Prim.Native.Nat.{ℕ, _+_, _-_, _≤_, _<_, _^_}
 use mathlib.Core.Path.{_≡_, sym, ap, _∙_}
 use mathlib.Core.List.{List, [], _∷_, _++_}
 use native.Mathlib.Omega.{arith}
-use lib.ListN.{length, drop}
-use lib.Seq.{take-nil}
+use lib.ListN.{length}
 use types.Run.{OneOf, miss}
 use denote.Enum.Declared.{tagOf, declared}
 use Rattle.text.specs.Writing.{Wrote, overwritten}
-use Rattle.text.proofs.Laws.Writing.{wrote-over}
+use Rattle.text.proofs.Laws.Writing.{wrote-over, over-fits}
 use Rattle.address.specs.declared.Address.{Address}
 use Rattle.address.specs.declared.Address.the-variants.{IPv4, IPv6}
 use Rattle.address.specs.Octets.{octetsOf, octets}
@@ -66,8 +65,7 @@ unfolding networkOf
 network-written t sign from to a n e b d r h = h .1 ∙ rw e
 
 pub nothing-written : (b : List ℕ) → b ≡ overwritten [] b
-unfolding overwritten
-nothing-written b = sym (ap (λ (x : List ℕ). x ++ drop 0 b) (take-nil (length b)))
+nothing-written b = sym (over-fits [] b (omega arith))
 
 pub no-network : (t : Term) → OneOf (0 ∷ 1 ∷ 2 ∷ 3 ∷ 4 ∷ 6 ∷ 7 ∷ 8 ∷ 9 ∷ []) (tagOf (declared term-type.enum) t) → (b : List ℕ) → b ≡ overwritten (networkOf t) b
 unfolding networkOf

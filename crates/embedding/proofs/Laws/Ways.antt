@@ -15,7 +15,7 @@ use Rattle.address.specs.Octets.{octets}
 use Rattle.address.specs.Matching.{matchesAt, Matches}
 use Rattle.networks.specs.declared.Network.{Network}
 use Rattle.networks.specs.Reader6.{readAddress}
-use Rattle.networks.specs.Answers.{NetworkAnswer, Written}
+use Rattle.networks.specs.Answers.{NetworkAnswer, AddressText}
 use Rattle.table.specs.declared.TableAnswer.{TableAnswer}
 use Rattle.table.specs.Numbers.{reported as table-reported}
 use Rattle.table.specs.Reader.{checkTable}
@@ -34,7 +34,7 @@ use Rattle.records.specs.declared.TermAnswer.{TermAnswer}
 use Rattle.evaluation.specs.declared.Answer.{Answer}
 use Rattle.evaluation.specs.Numbers.{Outcome, refused, answerOf, nameAfter, textAfter, Says}
 use Rattle.evaluation.specs.Evaluating.{evaluated}
-use Rattle.evaluation.specs.Answers.{Answered}
+use Rattle.evaluation.specs.Answers.{lent, handed, Evaluates}
 use Rattle.embedding.specs.declared.numbers.FormAnswer.{FormAnswer}
 use Rattle.embedding.specs.Numbers.{encoded, recordNumbers, tableNumbers, expandedNumbers, matchNumber, addressOctets, shapeOf, Inside, networkOf, termRow, termNumbers, termOctets}
 use Rattle.embedding.specs.Calls.{evaluateFor, EvaluateSays, EvaluateOutcome, EvaluateAnswers, RecordSays, ArgumentStands, TermSays, expandFor, ExpandSays, ExpandOutcome, ExpandAnswers, MatchSays, TableSays, AddressSays}
@@ -56,7 +56,7 @@ module _ (client x : FromOctets) (p : x ≡ client) (domain sender helo receiver
       (rw q s, record { outcome = refused 90; answers = EvaluateOutcome.no-client q; says = s })
 
   pub evaluate-for-client : (a : Address) → x ≡ Is a → (r : Answer) (name′ text′ : List ℕ) → Says (outcome-for a) r name name′ text text′
-      → Answered a domain sender helo receiver seconds table r name name′ text text′ → (numbers : List ℕ) → numbers ≡ encoded r
+      → Evaluates (lent a domain sender helo receiver seconds table name text) (handed r name′ text′) → (numbers : List ℕ) → numbers ≡ encoded r
       → EvaluateSays (evaluateFor client outcome-for) numbers name name′ text text′
       × EvaluateAnswers client domain sender helo receiver seconds table numbers name name′ text text′
   evaluate-for-client a e r name′ text′ s h numbers n =
@@ -144,7 +144,7 @@ module _ (t : List ℕ) (x : TableAnswer) (p : x ≡ checkTable t) (h : TableAns
   table-repeated n e = table-says (26 ∷ n ∷ []) (rw e)
 
 -- `talavorn_read_address`
-module _ (s : List ℕ) (x : Network) (p : x ≡ readAddress s) (h : NetworkAnswer (Written s) x) (b : List ℕ) where
+module _ (s : List ℕ) (x : Network) (p : x ≡ readAddress s) (h : NetworkAnswer (AddressText s) x) (b : List ℕ) where
   pub address-none : x ≡ Network.NoNetwork → AddressSays s 0 b b
   unfolding addressOctets
   address-none e = let q : readAddress s ≡ Network.NoNetwork = sym p ∙ e in record { answer = rw q; buffer = rw q (nothing-written b); produced = rw p at h }

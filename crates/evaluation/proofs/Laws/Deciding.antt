@@ -1,8 +1,8 @@
 -- The check of a domain as it was given, the explanation after it, and the refusals before it: one rule for each way out of their functions; and what
 -- the definition says, by the table's list of entries. From the definitions of the evaluation and the inversions of the answers below.
-use Prim.Native.Nat.{ℕ, suc, _+_, _≤_}
+use Prim.Native.Nat.{ℕ, _≤_}
 use mathlib.Core.Path.{_≡_, refl, sym, ap, _∙_}
-use mathlib.Core.List.{List, [], map}
+use mathlib.Core.List.{List, map}
 use mathlib.Core.Bool.{Bool, true, false, cond, _&&_}
 use native.Mathlib.Omega.{arith}
 use lib.Dec.{leb}
@@ -10,6 +10,7 @@ use lib.ListN.{length, take, length-take}
 use borrow.Author.Tests.{leb-true}
 use Rattle.text.specs.Bytes.{part, lower, within, isPrintable}
 use Rattle.text.specs.Lists.{all}
+use Rattle.text.specs.Writing.{overwritten}
 use Rattle.text.proofs.Laws.Spans.{front-part}
 use Rattle.text.proofs.Laws.Tests.{cond-elim, and-left, and-right}
 use Rattle.address.specs.declared.Address.{Address}
@@ -20,7 +21,7 @@ use Rattle.domain.specs.declared.Name.{Name}
 use Rattle.table.specs.declared.TableAnswer.{TableAnswer}
 use Rattle.table.specs.declared.TableAnswer.the-variants.{Accepted, TooLong, Malformed, Repeated}
 use Rattle.table.specs.Numbers.{Place, nowhere, byte, accepted, refused as table-refused, reported as table-reported}
-use Rattle.table.specs.Answers.{TableAnswers, whole}
+use Rattle.table.specs.Answers.{TableAnswers, whole as whole-table}
 use Rattle.table.specs.Reader.{entriesOf, checkTable}
 use Rattle.table.proofs.Laws.Checks.{table-answers, table-answers-is}
 use Rattle.table.proofs.Laws.Entries.{entries-complete}
@@ -28,21 +29,20 @@ use Rattle.macros.specs.Expansion.{isSender, isHost, isShort}
 use Rattle.meaning.specs.declared.Counts.{Counts}
 use Rattle.meaning.specs.declared.Ending.{Ending}
 use Rattle.meaning.specs.declared.Explained.{Explained}
-use Rattle.meaning.specs.declared.Target.{Target}
 use Rattle.meaning.specs.declared.Checked.{Checked}
-use Rattle.meaning.specs.Tree.{Check, give, Settled, settled, wanting, bind, run}
+use Rattle.meaning.specs.Tree.{give, Settled, settled, wanting, bind, run}
 use Rattle.meaning.specs.Tables.{tableIn}
 use Rattle.meaning.specs.Mechanisms.{Mail}
-use Rattle.meaning.specs.Evaluation.{Result, checkName, check, noCounts, evaluation, explanation, Verdict, verdict}
-use Rattle.meaning.specs.Outcomes.{mailOf, wantedBuffer, failingOf, CheckedIs, SaysCheck, SaysText, Wants}
+use Rattle.meaning.specs.Evaluation.{Result, checkName, check, whole, noCounts, evaluation, explanation, Verdict, verdict}
+use Rattle.meaning.specs.Outcomes.{Gives, Wants, mailOf, failingOf, SaysCheck, SaysText}
 use Rattle.meaning.proofs.Laws.Runs.{bind-is}
-use Rattle.meaning.proofs.Laws.Inversions.{wants-bind, target-name, checked-result, checked-wants, text-written, text-wants}
+use Rattle.meaning.proofs.Laws.Inversions.{gives-bind, wants-bind, naming-name, checked-result, checked-wants, checked-give, text-written, text-wants}
 use Rattle.targets.proofs.Laws.Naming.{Short, name-short, naming-written}
 use Rattle.evaluation.specs.declared.Answer.{Answer}
 use Rattle.evaluation.specs.Checks.{endedOf}
 use Rattle.evaluation.specs.Numbers.{Outcome, refused, refused-at, settles, reported, answerOf, reportOf, nameAfter, textAfter, Says}
 use Rattle.evaluation.specs.Evaluating.{mailFor, hasRoom, refusalOf, afterTable, evaluated}
-use Rattle.evaluation.specs.Answers.{tableOf, Fit, refusedBy, Answers, no-sender, no-host, long-domain, no-room, bad-table, decides, Answered}
+use Rattle.evaluation.specs.Answers.{tableOf, Lent, lent, handed, Fit, refusedBy, Answers, no-sender, no-host, long-domain, no-room, bad-table, decides, Evaluates}
 
 -- an answer's report follows from its case
 report-is : (o : Outcome) → reported (answerOf o) ≡ reportOf o
@@ -68,40 +68,37 @@ module _ (domain : List ℕ) (r : Name) (p : r ≡ nameAnswer (normal domain)) w
 
   module _ (n : ℕ) (e : r ≡ Name.Written n) (z to : List ℕ) (w : to ≡ nameBuffer (normal domain) z) (room : 253 ≤ length z) where
     written : (normal domain ≡ name (take n to)) × (n ≤ 253)
-    unfolding wantedBuffer
     written =
-        let g = target-name noCounts (settled (normal domain)) (Target.Name n) to [] []
-        (record { target = naming-written (normal domain) (normal-short domain) z to room r p w n e noCounts; buffer = refl }) n refl in
-        (settled-same (g .0 .is), g .1)
-      where
-        inner : Settled Naming → Naming
-        inner (settled x) = x
-        inner (wanting kind m c) = malformed
-
-        settled-same : settled (normal domain) ≡ settled (name (take n to)) → normal domain ≡ name (take n to)
-        settled-same q = ap inner q
+        let g = naming-name (normal domain) n to (naming-written (normal domain) (normal-short domain) z to room r p w n e) in
+        (g .0, g .1)
 
     pub given-small : (d : List ℕ) → d ≡ part to 0 n → length d ≤ 253
     given-small d i = let k = written .1 in rw (i, front-part to n) (simp length-take (omega arith))
 
     pub given-checked : (t : List ℕ) (mail : Mail) (b : List ℕ) (o : Checked) (d a : List ℕ) → d ≡ part to 0 n
-        → ((k : ℕ) → 10 ≤ k + 0 → SaysCheck t (run (tableIn t) (check (suc k) mail (name d) noCounts)) o b a)
+        → SaysCheck t (run (tableIn t) (whole mail (name d) noCounts)) o b a
         → SaysCheck t (run (tableIn t) (evaluation mail domain)) o b a
     unfolding evaluation
     given-checked t mail b o d a i f =
         let j : d ≡ take n to = i ∙ front-part to n in
-        rw (written .0, ← j) (f 10 (omega arith))
+        rw (written .0, ← j) f
 
   pub given-malformed : (t : List ℕ) (mail : Mail) (b : List ℕ) (o : Checked) → r ≡ Name.Malformed → o ≡ endedOf 0 noCounts → SaysCheck t (run (tableIn t) (evaluation mail domain)) o b b
-  unfolding evaluation check checkName run CheckedIs failingOf wantedBuffer
-  given-malformed t mail b o e h = rw (malformed-is (normal domain) p e, h) (record { checked = (refl, refl, refl); buffer = refl })
+  unfolding evaluation check checkName failingOf
+  given-malformed t mail b o e h = rw (malformed-is (normal domain) p e, h) (checked-give t (tableIn t) _ (endedOf 0 noCounts) b (refl, refl, refl))
 
 -- decide
-module _ (t : List ℕ) (mail : Mail) (domain : List ℕ) (b a : List ℕ) (o : Checked) (s : SaysCheck t (run (tableIn t) (evaluation mail domain)) o b a) where
-  wants-answer : (x : Settled Verdict) (kind n : ℕ) (c : Counts) (b z u v : List ℕ) → Wants x kind n c b z → v ≡ u → Says (settles x) (Answer.Wanting kind n c) b z u v
-  unfolding answerOf nameAfter textAfter
-  wants-answer x kind n c b z u v w e = rw (w .is) (said _ _ _ _ _ _ (ap (λ (m : ℕ). Answer.Wanting kind m c) (w .size-is)) (w .buffer) e)
+gives-answer : (x : Settled Verdict) (y : Verdict) (n : ℕ) (b z u v : List ℕ) → Gives x y b z → n ≡ length (y .text) → v ≡ overwritten (y .text) u
+    → Says (settles x) (Answer.Decided (y .value) (y .counts) n) b z u v
+unfolding answerOf nameAfter textAfter
+gives-answer x y n b z u v g e w = rw (g .is) (said _ _ _ _ _ _ (ap (Answer.Decided (y .value) (y .counts)) e) (g .kept) w)
 
+wants-answer : (x : Settled Verdict) (kind n : ℕ) (c : Counts) (b z u v : List ℕ) → Wants x kind n c b z → v ≡ u
+    → Says (settles x) (Answer.Wanting kind n c) b z u v
+unfolding answerOf nameAfter textAfter
+wants-answer x kind n c b z u v w e = rw (w .is) (said _ _ _ _ _ _ (ap (λ (m : ℕ). Answer.Wanting kind m c) (w .size-is)) (w .buffer) e)
+
+module _ (t : List ℕ) (mail : Mail) (domain : List ℕ) (b a : List ℕ) (o : Checked) (s : SaysCheck t (run (tableIn t) (evaluation mail domain)) o b a) where
   pub decide-wants : (kind n : ℕ) → o .ending ≡ Ending.Wanting kind n → (u : List ℕ) → Says (settles (run (tableIn t) (verdict mail domain))) (Answer.Wanting kind n (o .counts)) b a u u
   unfolding verdict
   decide-wants kind n e u = wants-answer _ kind n (o .counts) b a u u (wants-bind (tableIn t) (evaluation mail domain) _ kind n (o .counts) b a (checked-wants t _ o b a s kind n e)) refl
@@ -117,12 +114,12 @@ module _ (t : List ℕ) (mail : Mail) (domain : List ℕ) (b a : List ℕ) (o : 
     kept = checked-result t _ o b a s v e .kept
 
     pub decide-explained : (n : ℕ) → x ≡ Explained.Text n → Says (settles (run (tableIn t) (verdict mail domain))) (Answer.Decided v (o .counts) n) b z u u′
-    unfolding run answerOf nameAfter textAfter
     decide-explained n f =
         let g = text-written (o .counts) _ x u u′ a z w n f in
-        let f : List ℕ → Check Verdict = λ x. give (record { value = v; counts = o .counts; text = x }) in
-        rw (explained-is, bind-is (tableIn t) (explanation mail (failingOf t (o .failing)) (o .counts)) f (g .0) (g .1))
-        (said _ _ _ _ _ _ (ap (Answer.Decided v (o .counts)) (g .2)) (g .4 ∙ kept) (g .3))
+        rw (explained-is, ← kept)
+        (gives-answer _ (record { value = v; counts = o .counts; text = g .0 }) n a z u u′
+        (gives-bind (tableIn t) (explanation mail (failingOf t (o .failing)) (o .counts)) (λ x. give (record { value = v; counts = o .counts; text = x }))
+        (g .0) _ a z (g .1) refl) (g .2) (g .3))
 
     pub decide-asks : (kind n : ℕ) → x ≡ Explained.Wanting kind n → Says (settles (run (tableIn t) (verdict mail domain))) (Answer.Wanting kind n (o .counts)) b z u u′
     decide-asks kind n f =
@@ -155,20 +152,20 @@ none-refused true false d a b e = absurd (omega arith)
 none-refused false h d a b e = absurd (omega arith)
 
 module _ (client : Address) (domain sender helo receiver : List ℕ) (seconds : ℕ) (table name text : List ℕ) where
-  by-entries : Fit domain sender helo receiver name text → {n : ℕ} → TableAnswers table (accepted n)
-      → Answers client domain sender helo receiver seconds table name text (settles (run (tableIn table) (verdict (mailFor client sender helo receiver seconds) domain)))
-  by-entries f (whole {es = es} h e) =
+  by-entries : Fit (lent client domain sender helo receiver seconds table name text) → {n : ℕ} → TableAnswers table (accepted n)
+      → Answers (lent client domain sender helo receiver seconds table name text) (settles (run (tableIn table) (verdict (mailFor client sender helo receiver seconds) domain)))
+  by-entries f (whole-table {es = es} h e) =
       rw (table-is table, entries-complete (e .entries)) (decides f h e)
 
-  by-table : Fit domain sender helo receiver name text → (a : TableAnswer) → TableAnswers table (table-reported a)
-      → Answers client domain sender helo receiver seconds table name text (afterTable a (run (tableIn table) (verdict (mailFor client sender helo receiver seconds) domain)))
+  by-table : Fit (lent client domain sender helo receiver seconds table name text) → (a : TableAnswer) → TableAnswers table (table-reported a)
+      → Answers (lent client domain sender helo receiver seconds table name text) (afterTable a (run (tableIn table) (verdict (mailFor client sender helo receiver seconds) domain)))
   unfolding afterTable
   by-table f TooLong c = bad-table f c
   by-table f (Malformed p) c = bad-table f c
   by-table f (Repeated p) c = bad-table f c
   by-table f (Accepted n) c = by-entries f c
 
-  pub evaluated-answers : Answers client domain sender helo receiver seconds table name text (evaluated client domain sender helo receiver seconds table name text)
+  pub evaluated-answers : Answers (lent client domain sender helo receiver seconds table name text) (evaluated client domain sender helo receiver seconds table name text)
   unfolding evaluated
   evaluated-answers =
       cond-elim A (isSender sender)
@@ -182,12 +179,12 @@ module _ (client : Address) (domain sender helo receiver : List ℕ) (seconds : 
       (λ s. no-sender s)
     where
       A : Outcome → Type 0
-      A o = Answers client domain sender helo receiver seconds table name text o
+      A o = Answers (lent client domain sender helo receiver seconds table name text) o
 
   module _ (r : Answer) (name′ text′ : List ℕ) where
     both : Says (evaluated client domain sender helo receiver seconds table name text) r name name′ text text′
         → Says (evaluated client domain sender helo receiver seconds table name text) r name name′ text text′
-        × Answered client domain sender helo receiver seconds table r name name′ text text′
+        × Evaluates (lent client domain sender helo receiver seconds table name text) (handed r name′ text′)
     both s = (s, record { outcome = _; answers = evaluated-answers; says = s })
 
     refused-says : (n : ℕ) → evaluated client domain sender helo receiver seconds table name text ≡ refused n → r ≡ Answer.Refused n → name′ ≡ name → text′ ≡ text
@@ -197,7 +194,7 @@ module _ (client : Address) (domain sender helo receiver : List ℕ) (seconds : 
 
   pub evaluated-refused : (n : ℕ) → n ≡ refusalOf domain sender helo receiver (length name) (length text) → (n ≡ 0 → ⊥)
       → Says (evaluated client domain sender helo receiver seconds table name text) (Answer.Refused n) name name text text
-      × Answered client domain sender helo receiver seconds table (Answer.Refused n) name name text text
+      × Evaluates (lent client domain sender helo receiver seconds table name text) (handed (Answer.Refused n) name text)
   unfolding refusalOf evaluated hasRoom
   evaluated-refused n e h =
       both (Answer.Refused n) name text
@@ -205,7 +202,7 @@ module _ (client : Address) (domain sender helo receiver : List ℕ) (seconds : 
       (first-refused _ n (isSender sender) (isHost helo && isHost receiver) (isShort domain) (leb 253 (length name)) (leb 500 (length text)) e h) refl refl refl)
 
   module _ (n : ℕ) (e : n ≡ refusalOf domain sender helo receiver (length name) (length text)) (h : n ≡ 0) where
-    fits : Fit domain sender helo receiver name text
+    fits : Fit (lent client domain sender helo receiver seconds table name text)
     unfolding refusalOf hasRoom
     fits =
         let f = none-refused (isSender sender) (isHost helo && isHost receiver) (isShort domain) (leb 253 (length name)) (leb 500 (length text)) (sym h ∙ e) in
@@ -223,7 +220,7 @@ module _ (client : Address) (domain sender helo receiver : List ℕ) (seconds : 
       after-table = let f = fits in rw (f .sender-fits, f .hosts-fit, f .domain-fits, f .room, ← q)
 
       pub evaluated-long : a ≡ TooLong → Says (evaluated client domain sender helo receiver seconds table name text) (Answer.Refused 24) name name text text
-          × Answered client domain sender helo receiver seconds table (Answer.Refused 24) name name text text
+          × Evaluates (lent client domain sender helo receiver seconds table name text) (handed (Answer.Refused 24) name text)
       unfolding afterTable
       evaluated-long k = both (Answer.Refused 24) name text (refused-says (Answer.Refused 24) name text 24 (after-table ∙ rw k) refl refl refl)
 
@@ -233,19 +230,19 @@ module _ (client : Address) (domain sender helo receiver : List ℕ) (seconds : 
       at-says number p i = rw i (said _ _ _ _ _ _ refl refl refl)
 
       pub evaluated-malformed : (p : ℕ) → a ≡ Malformed p → Says (evaluated client domain sender helo receiver seconds table name text) (Answer.RefusedAt 25 p) name name text text
-          × Answered client domain sender helo receiver seconds table (Answer.RefusedAt 25 p) name name text text
+          × Evaluates (lent client domain sender helo receiver seconds table name text) (handed (Answer.RefusedAt 25 p) name text)
       unfolding afterTable
       evaluated-malformed p k = both (Answer.RefusedAt 25 p) name text (at-says 25 p (after-table ∙ rw k))
 
       pub evaluated-repeated : (p : ℕ) → a ≡ Repeated p → Says (evaluated client domain sender helo receiver seconds table name text) (Answer.RefusedAt 26 p) name name text text
-          × Answered client domain sender helo receiver seconds table (Answer.RefusedAt 26 p) name name text text
+          × Evaluates (lent client domain sender helo receiver seconds table name text) (handed (Answer.RefusedAt 26 p) name text)
       unfolding afterTable
       evaluated-repeated p k = both (Answer.RefusedAt 26 p) name text (at-says 26 p (after-table ∙ rw k))
 
       pub evaluated-decided : (m : ℕ) → a ≡ Accepted m → (c : Address) → c ≡ asClient client → (r : Answer) (name′ text′ : List ℕ)
           → Says (settles (run (tableIn table) (verdict (mailOf c sender helo receiver seconds) domain))) r name name′ text text′
           → Says (evaluated client domain sender helo receiver seconds table name text) r name name′ text text′
-          × Answered client domain sender helo receiver seconds table r name name′ text text′
+          × Evaluates (lent client domain sender helo receiver seconds table name text) (handed r name′ text′)
       unfolding afterTable
       evaluated-decided m k c i r name′ text′ s =
           let f : evaluated client domain sender helo receiver seconds table name text ≡ settles (run (tableIn table) (verdict (mailFor client sender helo receiver seconds) domain)) = after-table ∙ rw k in
@@ -266,7 +263,7 @@ module _ (client : Address) (domain sender helo receiver : List ℕ) (seconds : 
   by-acceptance n (Malformed p) x e = let z : _≡_ {A = ℕ} 0 1 = cc in absurd (omega arith)
   by-acceptance n (Repeated p) x e = let z : _≡_ {A = ℕ} 0 1 = cc in absurd (omega arith)
 
-  pub answers-is : {o : Outcome} → Answers client domain sender helo receiver seconds table name text o → o ≡ evaluated client domain sender helo receiver seconds table name text
+  pub answers-is : {o : Outcome} → Answers (lent client domain sender helo receiver seconds table name text) o → o ≡ evaluated client domain sender helo receiver seconds table name text
   unfolding evaluated
   answers-is (no-sender s) = rw s
   answers-is (no-host s h) = rw (s, h)
@@ -276,4 +273,12 @@ module _ (client : Address) (domain sender helo receiver : List ℕ) (seconds : 
       rw (f .sender-fits, f .hosts-fit, f .domain-fits, f .room) (by-refusal number place (checkTable table) _ (table-answers-is c))
   answers-is (decides {es = es} f h e) =
       rw (f .sender-fits, f .hosts-fit, f .domain-fits, f .room, ← entries-complete (e .entries), ← table-is table)
-      (by-acceptance _ (checkTable table) _ (table-answers-is (whole h e)))
+      (by-acceptance _ (checkTable table) _ (table-answers-is (whole-table h e)))
+
+-- so what is lent determines the outcome
+lent-answers : (a : Lent) {o : Outcome} → Answers a o
+    → o ≡ evaluated (a .client) (a .domain) (a .sender) (a .helo) (a .receiver) (a .seconds) (a .table) (a .name) (a .text)
+lent-answers a p = answers-is (a .client) (a .domain) (a .sender) (a .helo) (a .receiver) (a .seconds) (a .table) (a .name) (a .text) p
+
+pub answers-one : (a : Lent) {o u : Outcome} → Answers a o → Answers a u → o ≡ u
+answers-one a p q = lent-answers a p ∙ sym (lent-answers a q)

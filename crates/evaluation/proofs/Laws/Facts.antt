@@ -18,7 +18,7 @@ use Rattle.meaning.specs.Evaluation.{Verdict}
 use Rattle.meaning.proofs.Laws.Verdicts.{AskedFacts, VerdictFacts, verdict-facts}
 use Rattle.evaluation.specs.Numbers.{Outcome, refused, refused-at, settles}
 use Rattle.evaluation.specs.Evaluating.{mailFor, evaluated}
-use Rattle.evaluation.specs.Answers.{Answers, no-sender, no-host, long-domain, no-room, bad-table, decides}
+use Rattle.evaluation.specs.Answers.{lent, Answers, no-sender, no-host, long-domain, no-room, bad-table, decides}
 use Rattle.evaluation.proofs.Laws.Deciding.{table-is, evaluated-answers}
 
 module _ (client : Address) (domain sender helo receiver : List ℕ) (seconds : ℕ) (table name text : List ℕ) where
@@ -28,7 +28,7 @@ module _ (client : Address) (domain sender helo receiver : List ℕ) (seconds : 
   Sound (refused-at number place) = Unit {0}
   Sound (settles x) = Holds (AskedFacts (tableIn table)) VerdictFacts x × Fitting (tableIn table)
 
-  answers-sound : {o : Outcome} → Answers client domain sender helo receiver seconds table name text o → Sound o
+  answers-sound : {o : Outcome} → Answers (lent client domain sender helo receiver seconds table name text) o → Sound o
   unfolding Sound
   answers-sound (no-sender s) = tt
   answers-sound (no-host s h) = tt

@@ -1,6 +1,6 @@
 -- The leading terms of a record that need no lookup: past those that pass, the walk stands as if it had tried them, and a match decides the record. From
 -- what a term comes to that asks nothing, and the rules of Walking.
-use Prim.Native.Nat.{ℕ, _+_, _≤_, _<_}
+use Prim.Native.Nat.{ℕ, _≤_}
 use mathlib.Core.Path.{_≡_, refl, sym, ap, subst, _∙_}
 use mathlib.Core.Bool.{Bool, true, false, cond}
 use mathlib.Core.List.{List}
@@ -15,7 +15,6 @@ use Rattle.records.specs.Reader.{readTerm, readRecord}
 use Rattle.records.specs.Numbers.{saidOf}
 use Rattle.records.specs.declared.Term.{Term}
 use Rattle.records.specs.declared.TermAnswer.{TermAnswer}
-use Rattle.records.specs.declared.RecordAnswer.{RecordAnswer}
 use Rattle.records.specs.declared.opening.Unaided.{Unaided}
 use Rattle.records.specs.declared.opening.Opening.{Opening}
 use Rattle.records.specs.Opening.{unaided, Passing, Leads, OpeningOf, answerOf}
@@ -28,7 +27,7 @@ use Rattle.meaning.specs.declared.Checked.{Checked}
 use Rattle.meaning.specs.Tree.{Table, run}
 use Rattle.meaning.specs.Tables.{tableIn}
 use Rattle.meaning.specs.Mechanisms.{Mail}
-use Rattle.meaning.specs.Evaluation.{Sub, termStep, tryTerms, termsOf, readOutcome, check}
+use Rattle.meaning.specs.Evaluation.{Sub, termStep, tryTerms, termsOf, readOutcome, whole}
 use Rattle.meaning.specs.Outcomes.{spanOf, SaysStep, SaysCheck}
 use Rattle.questions.specs.Steps.{matchAnswer}
 use Rattle.mechanisms.specs.Terms.{TriedIs}
@@ -104,7 +103,7 @@ module _ (t : List ℕ) (mail : Mail) (d s : List ℕ) (first : ℕ) (b : List �
   walk-led j Passing.none = walk-start t mail d s first b c small few
   walk-led j (Passing.onward {j = i} {at = at} {next = next} {x = x} p q e) =
       walk-no t mail d s first b c b i c (walk-led i p) (readTerm s i) refl at next x q (read-inside s i at next x q) (part s at next) refl (matchAnswer false c) b
-      (λ n k. passing-step (tableIn t) mail d (part s at next) c b x e (check n mail)) refl
+      (passing-step (tableIn t) mail d (part s at next) c b x e (whole mail)) refl
 
   pub walk-opened : (y : List ℕ) → s ≡ y → (j : ℕ) → Passing (mail .client) y first j → Walk t mail d s first b c b j c
   walk-opened y f j p = walk-led j (subst (λ (z : List ℕ). Passing (mail .client) z first j) (sym f) p)
@@ -120,28 +119,26 @@ module _ (t : List ℕ) (mail : Mail) (d s : List ℕ) (c : Counts) (o : Checked
   answered : readRecord s ≡ answerOf r
   answered = ap readRecord (sym f) ∙ sym (g .answer)
 
-  pub record-refused : (number at : ℕ) → r ≡ Opening.Refused number at → o ≡ endedOf 6 c → (n : ℕ) → 10 ≤ n + c .lookups
-      → SaysCheck t (run (tableIn t) (readOutcome mail (check n mail) d s (readRecord s) c)) o b b
+  pub record-refused : (number at : ℕ) → r ≡ Opening.Refused number at → o ≡ endedOf 6 c → SaysCheck t (run (tableIn t) (readOutcome mail (whole mail) d s (readRecord s) c)) o b b
   unfolding readOutcome answerOf
-  record-refused number at q e n k = rw (answered, q) (says-ended t (tableIn t) 6 c o b e)
+  record-refused number at q e = rw (answered, q) (says-ended t (tableIn t) 6 c o b e)
 
   pub record-tried : (j : ℕ) → r ≡ Opening.Open j → (z : List ℕ)
-      → ((n : ℕ) → 10 ≤ n + c .lookups → SaysCheck t (run (tableIn t) (tryTerms mail (check n mail) d (termsOf s 6) (termsOf s 6) c)) o b z)
-      → (n : ℕ) → 10 ≤ n + c .lookups → SaysCheck t (run (tableIn t) (readOutcome mail (check n mail) d s (readRecord s) c)) o b z
+      → SaysCheck t (run (tableIn t) (tryTerms mail (whole mail) d (termsOf s 6) (termsOf s 6) c)) o b z
+      → SaysCheck t (run (tableIn t) (readOutcome mail (whole mail) d s (readRecord s) c)) o b z
   unfolding readOutcome answerOf
-  record-tried j q z h n k = rw (answered, q) (h n k)
+  record-tried j q z h = rw (answered, q) h
 
   -- a term that matches without a lookup, and all before it pass
   module _ (small : c .lookups ≤ 10) (few : c .voids ≤ 2) (sign : ℕ) (q : r ≡ Opening.Matched sign) (domain text : Span) (hd : d ≡ spanOf t domain) (hs : s ≡ spanOf t text)
       (e : o ≡ signedOf sign domain text 6 c) where
-    matched-says : Leads (mail .client) s 6 (Opening.Matched sign) → (n : ℕ) → 10 ≤ n + c .lookups
-        → SaysCheck t (run (tableIn t) (tryTerms mail (check n mail) d (termsOf s 6) (termsOf s 6) c)) o b b
+    matched-says : Leads (mail .client) s 6 (Opening.Matched sign) → SaysCheck t (run (tableIn t) (tryTerms mail (whole mail) d (termsOf s 6) (termsOf s 6) c)) o b b
     matched-says (Leads.matched {j = i} {at = at} {next = next} {x = x} p k h) =
         let m = matching-step (tableIn t) mail d (part s at next) c b x sign h in
         walk-yes t mail d s 6 b c o b x domain text (matchAnswer true c) (e ∙ ap (λ (v : ℕ). signedOf v domain text 6 c) (sym (m .1))) hd hs s b i c
         (walk-led t mail d s 6 b c small few i p) refl (readTerm s i) refl at next k (read-inside s i at next x k) (part s at next) refl
-        (λ n l. m .0 (check n mail)) refl
+        (m .0 (whole mail)) refl
 
-    pub record-matched : (n : ℕ) → 10 ≤ n + c .lookups → SaysCheck t (run (tableIn t) (readOutcome mail (check n mail) d s (readRecord s) c)) o b b
+    pub record-matched : SaysCheck t (run (tableIn t) (readOutcome mail (whole mail) d s (readRecord s) c)) o b b
     unfolding readOutcome answerOf
-    record-matched n k = rw (answered, q) (matched-says (subst (λ (z : List ℕ). Leads (mail .client) z 6 (Opening.Matched sign)) f (subst (Leads (mail .client) u 6) q (g .leads))) n k)
+    record-matched = rw (answered, q) (matched-says (subst (λ (z : List ℕ). Leads (mail .client) z 6 (Opening.Matched sign)) f (subst (Leads (mail .client) u 6) q (g .leads))))

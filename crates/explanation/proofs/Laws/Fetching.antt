@@ -1,13 +1,13 @@
 -- An explanation's questions: a rule for each way out. From answers' laws of what a table answers, table's laws of items, and Inversions.
 use Prim.Native.Nat.{ℕ, _≤_, _<_}
-use mathlib.Core.Path.{_≡_, refl, sym, ap, _∙_}
+use mathlib.Core.Path.{_≡_, refl, ap, _∙_}
 use mathlib.Core.List.{List, [], _∷_}
 use native.Mathlib.Omega.{arith}
 use lib.ListN.{length, take, drop, length-take}
 use Rattle.text.specs.Bytes.{part}
 use Rattle.text.specs.Texts.{bytes}
 use Rattle.text.specs.Writing.{overwritten}
-use Rattle.domain.specs.Normal.{Naming, name, malformed}
+use Rattle.domain.specs.Normal.{name, malformed}
 use Rattle.table.specs.declared.Found.{Found}
 use Rattle.table.specs.Reader.{firstItem, nextItem, itemsOf, findAt}
 use Rattle.table.proofs.Laws.Items.{items-step, items-end, next-further}
@@ -17,18 +17,18 @@ use Rattle.meaning.specs.declared.Target.{Target}
 use Rattle.meaning.specs.declared.Span.{Span}
 use Rattle.meaning.specs.declared.FailingPlace.{FailingPlace}
 use Rattle.meaning.specs.declared.Explained.{Explained}
-use Rattle.meaning.specs.Tree.{Settled, settled, wanting, run}
+use Rattle.meaning.specs.Tree.{run}
 use Rattle.meaning.specs.Tables.{tableIn}
 use Rattle.meaning.specs.Mechanisms.{Mail, target}
 use Rattle.meaning.specs.Evaluation.{modifierOf, failingAt, termsOf, explained, explainReply, explainName, explanation}
-use Rattle.meaning.specs.Outcomes.{failingOf, TargetIs, SaysTarget, SaysText}
+use Rattle.meaning.specs.Outcomes.{failingOf, SaysTarget, SaysText}
 use Rattle.meaning.proofs.Laws.Runs.{bind-is}
-use Rattle.meaning.proofs.Laws.Inversions.{wants-bind, target-name, target-malformed, target-wants}
+use Rattle.meaning.proofs.Laws.Inversions.{gives-give, gives-bind, wants-bind, target-name, target-malformed, target-wants, text-wanted}
 use Rattle.answers.proofs.Laws.Asked.{run-missing, run-failed, run-items}
 use Rattle.selection.specs.Modifiers.{ModifierIs}
 use Rattle.selection.specs.declared.modifiers.Modifier.{Modifier}
 use Rattle.explanation.specs.Stages.{fetched}
-use Rattle.explanation.proofs.Laws.Showing.{text-empty, text-wanted}
+use Rattle.explanation.proofs.Laws.Showing.{text-empty}
 
 -- `explain_name`
 module _ (mail : Mail) (c : Counts) (t d n : List ℕ) (f : Found) (p : f ≡ findAt t 16 n) where
@@ -37,14 +37,14 @@ module _ (mail : Mail) (c : Counts) (t d n : List ℕ) (f : Found) (p : f ≡ fi
   unfolding explainName
   name-missing e u b a w =
       text-wanted c (run (tableIn t) (explainName mail d c (name n))) 16 (length n) u b a
-      (record { asked = n; is = run-missing t 16 n f p c (explainReply mail d c) e; size-is = refl; buffer = w })
+      (run-missing t 16 n f p c (explainReply mail d c) e b a w)
 
   module _ (status start end : ℕ) (e : f ≡ Found.Entry status start end) where
     pub name-failed : status ≡ 2 → (u b : List ℕ) → SaysText c (run (tableIn t) (explainName mail d c (name n))) (Explained.Text 0) u u b b
-    unfolding explainName explainReply run
+    unfolding explainName explainReply
     name-failed h u b =
         text-empty c (run (tableIn t) (explainName mail d c (name n))) u b b
-        (record { is = run-failed t 16 n f p c (explainReply mail d c) status start end e h; kept = refl })
+        (rw (run-failed t 16 n f p c (explainReply mail d c) status start end e h) (gives-give (tableIn t) [] b))
 
     module _ (h : status ≡ 2 → ⊥) (ts : List ℕ) (q : ts ≡ part t start end) where
       name-is : run (tableIn t) (explainName mail d c (name n)) ≡ run (tableIn t) (explained mail d c (itemsOf ts))
@@ -52,10 +52,10 @@ module _ (mail : Mail) (c : Counts) (t d n : List ℕ) (f : Found) (p : f ≡ fi
       name-is = run-items t 16 n f p c (explainReply mail d c) status start end e h ∙ rw (← q)
 
       pub name-void : length ts ≡ 0 → (u b : List ℕ) → SaysText c (run (tableIn t) (explainName mail d c (name n))) (Explained.Text 0) u u b b
-      unfolding explained run
+      unfolding explained
       name-void z u b =
           let i : itemsOf ts ≡ [] = items-end ts 0 (omega arith) in
-          text-empty c (run (tableIn t) (explainName mail d c (name n))) u b b (record { is = name-is ∙ rw i; kept = refl })
+          text-empty c (run (tableIn t) (explainName mail d c (name n))) u b b (rw (name-is, i) (gives-give (tableIn t) [] b))
 
       module _ (some : length ts ≡ 0 → ⊥) (next : ℕ) (m : next ≡ nextItem ts 0) where
         pub name-one : next ≡ length ts → (s : List ℕ) → s ≡ firstItem (drop 0 ts) → (r : Explained) (u u′ b a : List ℕ)
@@ -66,26 +66,20 @@ module _ (mail : Mail) (c : Counts) (t d n : List ℕ) (f : Found) (p : f ≡ fi
             rw (name-is, i) w
 
         pub name-several : (next ≡ length ts → ⊥) → (u b : List ℕ) → SaysText c (run (tableIn t) (explainName mail d c (name n))) (Explained.Text 0) u u b b
-        unfolding explained run
+        unfolding explained
         name-several z u b =
             let l : 0 < length ts = omega arith in
             let o : next ≤ length ts = rw m (next-further ts 0 l .1) in
             let i : itemsOf ts ≡ firstItem ts ∷ firstItem (drop next ts) ∷ itemsOf (drop (nextItem ts next) ts) =
             items-step ts 0 l ∙ rw (← m) (ap (λ (ds : List (List ℕ)). firstItem ts ∷ ds) (items-step ts next (omega arith)))
             in
-            text-empty c (run (tableIn t) (explainName mail d c (name n))) u b b (record { is = name-is ∙ rw i; kept = refl })
+            text-empty c (run (tableIn t) (explainName mail d c (name n))) u b b (rw (name-is, i) (gives-give (tableIn t) [] b))
 
 -- `fetch`: the name at the front of its array
-name-taken : (c : Counts) (x : Settled Naming) (r : Target) (to : List ℕ) → TargetIs c x r to → (n : ℕ) → r ≡ Target.Name n → n ≡ length (take n to)
-unfolding TargetIs
-name-taken c (settled (name s)) r to p n e = let j : n ≡ length s = cc in rw j (sym (ap length (p .1)))
-name-taken c (settled malformed) r to p n e = let z : _≡_ {A = ℕ} 0 1 = cc in absurd (omega arith)
-name-taken c (wanting k m l) r to p n e = let z : _≡_ {A = ℕ} 0 1 = cc in absurd (omega arith)
-
 module _ (mail : Mail) (c : Counts) (t d spec : List ℕ) (r : Target) (to b a : List ℕ)
     (says : SaysTarget c (run (tableIn t) (target mail d spec c)) r to b a) where
   pub name-whole : (n : ℕ) → r ≡ Target.Name n → n ≡ length (take n to)
-  name-whole n e = name-taken c _ r to (says .target) n e
+  name-whole n e = target-name c _ r to b a says n e .2
 
   pub name-inside : (n : ℕ) → r ≡ Target.Name n → n ≤ length to
   name-inside n e = let h = name-whole n e in omega (arith, length-take n to)
@@ -98,15 +92,15 @@ module _ (mail : Mail) (c : Counts) (t d spec : List ℕ) (r : Target) (to b a :
       rw (bind-is (tableIn t) (target mail d spec c) (explainName mail d c) (name (take n to)) (g .is), ← (g .kept)) w
 
   pub fetch-malformed : r ≡ Target.Malformed → (u : List ℕ) → SaysText c (run (tableIn t) (fetched mail d spec c)) (Explained.Text 0) u u b a
-  unfolding fetched explainName run
+  unfolding fetched explainName
   fetch-malformed e u =
-      let g = target-malformed c _ r to b a says e in
       text-empty c (run (tableIn t) (fetched mail d spec c)) u b a
-      (record { is = bind-is (tableIn t) (target mail d spec c) (explainName mail d c) malformed (g .is); kept = g .kept })
+      (gives-bind (tableIn t) (target mail d spec c) (explainName mail d c) malformed [] b a (target-malformed c _ r to b a says e) refl)
 
-  pub fetch-wanting : (kind size : ℕ) → r ≡ Target.Wanting kind size → (u : List ℕ) → SaysText c (run (tableIn t) (fetched mail d spec c)) (Explained.Wanting kind size) u u b a
+  pub fetch-wanted : (kind size : ℕ) → r ≡ Target.Wanting kind size → (u : List ℕ)
+      → SaysText c (run (tableIn t) (fetched mail d spec c)) (Explained.Wanting kind size) u u b a
   unfolding fetched
-  fetch-wanting kind size e u =
+  fetch-wanted kind size e u =
       text-wanted c (run (tableIn t) (fetched mail d spec c)) kind size u b a
       (wants-bind (tableIn t) (target mail d spec c) (explainName mail d c) kind size c b a (target-wants c _ r to b a says kind size e))
 
@@ -128,8 +122,8 @@ modifier-part s (present x) m w from to e =
 -- `explain`
 module _ (mail : Mail) (c : Counts) (t : List ℕ) (f : FailingPlace) where
   pub explain-nowhere : f ≡ FailingPlace.Nowhere → (u b : List ℕ) → SaysText c (run (tableIn t) (explanation mail (failingOf t f) c)) (Explained.Text 0) u u b b
-  unfolding failingOf explanation run
-  explain-nowhere e u b = text-empty c (run (tableIn t) (explanation mail (failingOf t f) c)) u b b (record { is = rw e; kept = refl })
+  unfolding failingOf explanation
+  explain-nowhere e u b = text-empty c (run (tableIn t) (explanation mail (failingOf t f) c)) u b b (rw e (gives-give (tableIn t) [] b))
 
   module _ (domain place : Span) (terms : ℕ) (e : f ≡ FailingPlace.In domain place terms) (s : List ℕ) (q : s ≡ part t (place .from) (place .to)) (m : Modifier)
       (w : ModifierIs s (modifierOf (bytes "exp") (termsOf s terms)) m) where
@@ -138,10 +132,10 @@ module _ (mail : Mail) (c : Counts) (t : List ℕ) (f : FailingPlace) where
     failing-is o h = rw (e, ← q, h)
 
     pub explain-without : m ≡ Modifier.Absent → (u b : List ℕ) → SaysText c (run (tableIn t) (explanation mail (failingOf t f) c)) (Explained.Text 0) u u b b
-    unfolding failingAt explanation run
+    unfolding failingAt explanation
     explain-without h u b =
         let i = failing-is absent (modifier-absent s _ m w h) in
-        text-empty c (run (tableIn t) (explanation mail (failingOf t f) c)) u b b (record { is = rw i; kept = refl })
+        text-empty c (run (tableIn t) (explanation mail (failingOf t f) c)) u b b (rw i (gives-give (tableIn t) [] b))
 
     pub explain-fetched : (from to : ℕ) → m ≡ Modifier.Part from to → (d : List ℕ) → d ≡ part t (domain .from) (domain .to) → (spec : List ℕ) → spec ≡ part s from to
         → (r : Explained) (u u′ b a : List ℕ) → SaysText c (run (tableIn t) (fetched mail d spec c)) r u u′ b a

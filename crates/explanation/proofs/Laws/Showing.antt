@@ -1,20 +1,19 @@
 -- What a text shows, from a value of p on: a rule for each way out. From the contract of macros' `write_expansion` and Inversions.
 use Prim.Native.Nat.{ℕ, _≤_, _<_}
-use mathlib.Core.Path.{_≡_, refl, sym, ap, subst, _∙_}
+use mathlib.Core.Path.{_≡_, refl, sym, subst, _∙_}
 use mathlib.Core.List.{List, [], _∷_}
 use mathlib.Core.Bool.{Bool, true, false}
 use native.Mathlib.Omega.{arith}
 use lib.ListN.{length, take}
-use lib.Seq.{take-nil}
 use borrow.Author.Tests.{le-leb, lt-leb}
 use Rattle.text.specs.Bytes.{part, isPrintable}
 use Rattle.text.specs.Lists.{all}
 use Rattle.text.specs.Runs.{isIn}
 use Rattle.text.specs.Texts.{bytes}
-use Rattle.text.specs.Writing.{Wrote, overwritten}
+use Rattle.text.specs.Writing.{Wrote}
 use Rattle.text.specs.declared.bytes.Class.the-variants.{Printable}
 use Rattle.text.proofs.Laws.Classes.{class-tests}
-use Rattle.text.proofs.Laws.Writing.{wrote-over}
+use Rattle.text.proofs.Laws.Writing.{wrote-over, over-fits}
 use Rattle.address.specs.declared.Address.{Address}
 use Rattle.macros.specs.declared.Form.the-variants.{Explanation}
 use Rattle.macros.specs.declared.Expanded.{Expanded}
@@ -25,33 +24,25 @@ use Rattle.macros.specs.Numbers.{fitted, Says}
 use Rattle.meaning.specs.declared.Counts.{Counts}
 use Rattle.meaning.specs.declared.PValue.{PValue}
 use Rattle.meaning.specs.declared.Explained.{Explained}
-use Rattle.meaning.specs.Tree.{bind, Settled, settled, run}
+use Rattle.meaning.specs.Tree.{bind, Settled, run}
 use Rattle.meaning.specs.Tables.{tableIn}
 use Rattle.meaning.specs.Mechanisms.{pValue, expansion, givesExpansion, expanded}
 use Rattle.meaning.specs.Evaluation.{most-text, shown, givesShown, explained}
-use Rattle.meaning.specs.Outcomes.{mailOf, wantedBuffer, SaysP, ExplainedIs, textBuffer, SaysText, Gives, Wants}
-use Rattle.meaning.proofs.Laws.Inversions.{p-current, p-listed, p-unknown, p-wants}
+use Rattle.meaning.specs.Outcomes.{mailOf, SaysP, SaysText, Gives}
+use Rattle.meaning.proofs.Laws.Inversions.{gives-give, p-current, p-listed, p-unknown, p-wants, text-gives, text-wanted}
 use Rattle.targets.proofs.Laws.Expansions.{text-taken, text-fits, text-over, expansion-given, expansion-wanted}
 use Rattle.explanation.specs.Stages.{Shows, printed, withP}
 
--- an explanation that is settled, one that is empty, and one that is wanted
-pub text-settled : (c : Counts) (x : Settled (List ℕ)) (s : List ℕ) (n : ℕ) (u v b a : List ℕ) → Gives x s b a → Shows s n u v → SaysText c x (Explained.Text n) u v b a
-unfolding ExplainedIs textBuffer wantedBuffer
-text-settled c x s n u v b a g w = rw (g .is) (record { explained = ap Explained.Text (w .size); text-buffer = w .buffer; buffer = g .kept })
-
-over-none : (u : List ℕ) → overwritten [] u ≡ u
-unfolding overwritten
-over-none u = rw (take-nil (length u))
+-- an explanation that shows a text, and one that is empty
+pub text-shows : (c : Counts) (x : Settled (List ℕ)) (s : List ℕ) (n : ℕ) (u v b a : List ℕ) → Gives x s b a → Shows s n u v
+    → SaysText c x (Explained.Text n) u v b a
+text-shows c x s n u v b a g w = text-gives c x s n u v b a g (w .size) (w .buffer)
 
 shows-none : (s u : List ℕ) → s ≡ [] → Shows s 0 u u
-shows-none s u e = rw e (record { size = refl; buffer = sym (over-none u) })
+shows-none s u e = rw e (record { size = refl; buffer = sym (over-fits [] u (omega arith)) })
 
 pub text-empty : (c : Counts) (x : Settled (List ℕ)) (u b a : List ℕ) → Gives x [] b a → SaysText c x (Explained.Text 0) u u b a
-text-empty c x u b a g = text-settled c x [] 0 u u b a g (shows-none [] u refl)
-
-pub text-wanted : (c : Counts) (x : Settled (List ℕ)) (kind size : ℕ) (u b a : List ℕ) → Wants x kind size c b a → SaysText c x (Explained.Wanting kind size) u u b a
-unfolding ExplainedIs textBuffer wantedBuffer
-text-wanted c x kind size u b a w = rw (w .is, w .size-is) (record { explained = (refl, refl); text-buffer = refl; buffer = w .buffer })
+text-empty c x u b a g = text-shows c x [] 0 u u b a g (shows-none [] u refl)
 
 -- what is shown of a text
 shown-short : (s : List ℕ) → length s ≤ most-text → shown s ≡ printed s
@@ -100,7 +91,7 @@ module _ (client : Address) (sender helo receiver : List ℕ) (seconds : ℕ) (c
       → SaysText c (run (tableIn t) (withP (mailOf client sender helo receiver seconds) d s c)) (Explained.Text n) u u′ b a
   unfolding withP givesShown
   with-given p g n u u′ w =
-      text-settled c _ _ n u u′ b a (expansion-given givesShown shown (λ _. refl) (mailOf client sender helo receiver seconds) Explanation c t d s b a p g) w
+      text-shows c _ _ n u u′ b a (expansion-given givesShown shown (λ _. refl) (mailOf client sender helo receiver seconds) Explanation c t d s b a p g) w
 
   pub with-current : v ≡ PValue.Current → (n : ℕ) (u u′ : List ℕ)
       → Shows (shown (expansion (mailOf client sender helo receiver seconds) d Explanation s d)) n u u′
@@ -118,10 +109,10 @@ module _ (client : Address) (sender helo receiver : List ℕ) (seconds : ℕ) (c
       → SaysText c (run (tableIn t) (withP (mailOf client sender helo receiver seconds) d s c)) (Explained.Text n) u u′ b a
   with-unknown e n u u′ w = with-given (bytes "unknown") (p-unknown c d t _ v b a says e) n u u′ w
 
-  pub with-wanting : (kind size : ℕ) → v ≡ PValue.Wanting kind size → (u : List ℕ)
+  pub with-wanted : (kind size : ℕ) → v ≡ PValue.Wanting kind size → (u : List ℕ)
       → SaysText c (run (tableIn t) (withP (mailOf client sender helo receiver seconds) d s c)) (Explained.Wanting kind size) u u b a
   unfolding withP givesShown
-  with-wanting kind size e u =
+  with-wanted kind size e u =
       text-wanted c _ kind size u b a
       (expansion-wanted givesShown shown (λ _. refl) (mailOf client sender helo receiver seconds) Explanation c t d s b a kind size
       (p-wants c d t _ v b a says kind size e))
@@ -129,10 +120,8 @@ module _ (client : Address) (sender helo receiver : List ℕ) (seconds : ℕ) (c
 -- `explain_text`
 module _ (client : Address) (sender helo receiver : List ℕ) (seconds : ℕ) (c : Counts) (t d s : List ℕ) (g : Bool) (e : g ≡ isMacroString Explanation s) where
   pub text-outside : g ≡ false → (u b : List ℕ) → SaysText c (run (tableIn t) (explained (mailOf client sender helo receiver seconds) d c (s ∷ []))) (Explained.Text 0) u u b b
-  unfolding explained run
-  text-outside h u b =
-      let x = run (tableIn t) (explained (mailOf client sender helo receiver seconds) d c (s ∷ [])) in
-      text-empty c x u b b (record { is = rw (← e, h); kept = refl })
+  unfolding explained
+  text-outside h u b = text-empty c _ u b b (rw (← e, h) (gives-give (tableIn t) [] b))
 
   module _ (h : g ≡ true) (w : Bool) (i : w ≡ usesP Explanation s) where
     pub text-uses-p : w ≡ true → (r : Explained) (u u′ b a : List ℕ) → SaysText c (run (tableIn t) (withP (mailOf client sender helo receiver seconds) d s c)) r u u′ b a
@@ -142,8 +131,7 @@ module _ (client : Address) (sender helo receiver : List ℕ) (seconds : ℕ) (c
 
     pub text-without-p : w ≡ false → (n : ℕ) (u u′ b : List ℕ) → Shows (shown (expansion (mailOf client sender helo receiver seconds) d Explanation s [])) n u u′
         → SaysText c (run (tableIn t) (explained (mailOf client sender helo receiver seconds) d c (s ∷ []))) (Explained.Text n) u u′ b b
-    unfolding explained expanded givesExpansion givesShown run bind
+    unfolding explained expanded givesExpansion givesShown bind
     text-without-p k n u u′ b y =
-        let x = run (tableIn t) (explained (mailOf client sender helo receiver seconds) d c (s ∷ [])) in
-        let q : x ≡ settled (shown (expansion (mailOf client sender helo receiver seconds) d Explanation s [])) = rw (← e, h, ← i, k) in
-        text-settled c x (shown (expansion (mailOf client sender helo receiver seconds) d Explanation s [])) n u u′ b b (record { is = q; kept = refl }) y
+        text-shows c (run (tableIn t) (explained (mailOf client sender helo receiver seconds) d c (s ∷ []))) _ n u u′ b b
+        (rw (← e, h, ← i, k) (gives-give (tableIn t) (shown (expansion (mailOf client sender helo receiver seconds) d Explanation s [])) b)) y

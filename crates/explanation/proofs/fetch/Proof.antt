@@ -1,5 +1,5 @@
 -- `explanation::fetch` meets its contract. From the laws of Fetching.
-use Rattle.explanation.proofs.Laws.Fetching.{name-inside, name-whole, fetch-name, fetch-malformed, fetch-wanting}
+use Rattle.explanation.proofs.Laws.Fetching.{name-inside, name-whole, fetch-name, fetch-malformed, fetch-wanted}
 use borrow.Author.Needs.{needs}
 use Rattle.explanation.proofs.fetch.Statement.{statement}
 use Rattle.explanation.proofs.fetch.Tie as tie
@@ -51,7 +51,7 @@ same-length-4 : tie.Need-same-length-4
 same-length-4 c = search needs
 
 returns-3 : tie.Need-returns-3
-returns-3 c = search fetch-wanting
+returns-3 c = search fetch-wanted
 
 pub fetch-spec : {M : Type 1} → statement M
 fetch-spec =

@@ -18,7 +18,7 @@ use Rattle.text.proofs.Laws.Tests.{cond-elim, and-left, or-elim}
 use Rattle.text.proofs.Laws.Classes.{class-test, class-tests, apart, class-inside, nonzero-inside}
 use Rattle.text.proofs.Laws.Spans.{Span, span-join, span-cut, span-byte, span-here, span-none, span-between, span-at, span-word}
 use Rattle.text.proofs.Laws.Runs.{run-span, run-span-all, span-run}
-use Rattle.macros.specs.Grammar.{Piece, literal, escape, expand, isLetter, isCount, Reversal, absent, present, MacroExpand, braces, percent, underscore, hyphen}
+use Rattle.macros.specs.Grammar.{Piece, literal, escape, expand, isLetter, isPartCount, Reversal, absent, present, MacroExpand, braces, percent, underscore, hyphen}
 use Rattle.macros.specs.Reader.{isLiteral, isEscape, isReverse, closedAt, delimitersAt, reversalAt, digitsAt, bracesOf, pieceOf, macroOf, Pieces, push, piecesAfter}
 use Rattle.macros.specs.declared.Form.{Form}
 use Rattle.macros.specs.declared.Form.the-variants.{DomainSpec, ModifierValue, Explanation}
@@ -55,7 +55,7 @@ unfolding isReverse lower isUpper within
 reverse-zero = refl
 
 module _ (form : Form) (s : List ℕ) (front : Span s 0 3 (37 ∷ 123 ∷ at s 2 ∷ [])) (letter : isLetter form (at s 2) ≡ true) where
-  module _ (d : ℕ) (digits : Span s 3 d (part s 3 d)) (count : isCount (part s 3 d) ≡ true) where
+  module _ (d : ℕ) (digits : Span s 3 d (part s 3 d)) (count : isPartCount (part s 3 d) ≡ true) where
     closed-sound : (f t : ℕ) (r : List ℕ) (reversed : Bool) → Span s d f r → Reversal r reversed → Span s f t (part s f t) → all isDelimiter (part s f t) ≡ true
         → FoundRight form s (closedAt s d reversed f t)
     unfolding closedAt macroOf
@@ -83,7 +83,7 @@ module _ (form : Form) (s : List ℕ) (front : Span s 0 3 (37 ∷ 123 ∷ at s 2
 
   digits-sound : (d : ℕ) → Span s 3 d (part s 3 d) → FoundRight form s (digitsAt s d)
   unfolding digitsAt
-  digits-sound d digits = cond-elim (FoundRight form s) (isCount (part s 3 d)) (λ h. reversal-sound d digits h) (λ _. tt)
+  digits-sound d digits = cond-elim (FoundRight form s) (isPartCount (part s 3 d)) (λ h. reversal-sound d digits h) (λ _. tt)
 
 braces-sound : (form : Form) (s : List ℕ) → at s 0 ≡ 37 → at s 1 ≡ 123 → FoundRight form s (bracesOf form s)
 unfolding bracesOf
@@ -153,8 +153,8 @@ brace-no-reverse : isReverse 125 ≡ false
 unfolding isReverse lower isUpper within
 brace-no-reverse = refl
 
-in-digits : (w : List ℕ) → isCount w ≡ true → all (isIn Digit) w ≡ true
-unfolding isCount
+in-digits : (w : List ℕ) → isPartCount w ≡ true → all (isIn Digit) w ≡ true
+unfolding isPartCount
 in-digits w h = class-tests Digit w ∙ and-left (all isDigit w) _ h
 
 is-reverse : (b : ℕ) → eqb (lower b) 114 ≡ true → isReverse b ≡ true
@@ -219,7 +219,7 @@ module _ (form : Form) (letter : ℕ) (digits more delimiters rest : List ℕ) (
   abbrev text : List ℕ
   text = 37 ∷ 123 ∷ letter ∷ ((digits ++ more) ++ rest)
 
-  closed-complete : isLetter form letter ≡ true → isCount digits ≡ true → Closed text (3 + length digits) (3 + length (digits ++ more)) reversed delimiters
+  closed-complete : isLetter form letter ≡ true → isPartCount digits ≡ true → Closed text (3 + length digits) (3 + length (digits ++ more)) reversed delimiters
       → (after : List ℕ → Pieces)
       → piecesAfter text (pieceOf form text) after ≡ push (expand (record { letter = letter; digits = digits; reversed = reversed; delimiters = delimiters })) (after rest)
   unfolding bracesOf digitsAt piecesAfter macroOf

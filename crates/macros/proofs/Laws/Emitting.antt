@@ -18,7 +18,7 @@ use Rattle.text.proofs.Laws.Writing.{wrote-none, wrote-then, length-wrote}
 use Rattle.transformers.specs.Transform.{transformed}
 use Rattle.macros.specs.Grammar.{Piece, literal, escape, expand}
 use Rattle.macros.specs.Reader.{pieceOf, macroOf, Pieces, push, pieces}
-use Rattle.macros.specs.Expansion.{Letters, letters, valueOf, laterValue, escapeText, macroText, pieceText, textOf}
+use Rattle.macros.specs.Expansion.{Letters, letters, letterValue, laterValue, escapeText, macroText, pieceText, textOf}
 use Rattle.macros.specs.declared.Form.{Form}
 use Rattle.macros.specs.declared.pieces.Braces.{Braces}
 use Rattle.macros.specs.declared.pieces.Found.{Found}
@@ -52,13 +52,13 @@ module _ (text : List ℕ) (m : Braces) (b : ℕ) (e : b ≡ lower (m .letter)) 
   later-value g = rw (← e, ← g) w
 
   module _ (s l o d i : List ℕ) where
-    pub macro-value : value ≡ valueOf (letters s l o d i p v h c r t) b → Wrote (pieceText (letters s l o d i p v h c r t) (expand (macroOf text m))) out n a k
+    pub macro-value : value ≡ letterValue (letters s l o d i p v h c r t) b → Wrote (pieceText (letters s l o d i p v h c r t) (expand (macroOf text m))) out n a k
     unfolding pieceText macroText macroOf
     macro-value g = rw (← e, ← g) w
 
     pub macro-later : (b ≡ 115 → ⊥) → (b ≡ 108 → ⊥) → (b ≡ 111 → ⊥) → (b ≡ 100 → ⊥) → (b ≡ 105 → ⊥) → value ≡ laterValue p v h c r t (lower (m .letter))
         → Wrote (pieceText (letters s l o d i p v h c r t) (expand (macroOf text m))) out n a k
-    unfolding valueOf laterValue
+    unfolding letterValue laterValue
     macro-later n₁ n₂ n₃ n₄ n₅ g =
         macro-value (g ∙ simp (← e, ne-eqb b 115 n₁, ne-eqb b 108 n₂, ne-eqb b 111 n₃, ne-eqb b 100 n₄, ne-eqb b 105 n₅))
 

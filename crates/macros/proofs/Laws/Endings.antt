@@ -17,10 +17,10 @@ use Rattle.text.proofs.Laws.Classes.{class-inside}
 use Rattle.text.proofs.Laws.Splitting.{split-some, split-append, join-dots}
 use Rattle.text.proofs.Laws.Orders.{le-or-lt}
 use Rattle.text.proofs.Laws.Parts.{all-none, all-join, all-cons, all-first, all-rest, all-at, all-inside, at-last}
-use Rattle.macros.specs.Grammar.{Piece, literal, escape, expand, MacroExpand, braces, percent, underscore, hyphen, MacroString, DomainEnd, label, label-dot, DomainSpecs, spec}
+use Rattle.macros.specs.Grammar.{Piece, literal, escape, expand, MacroExpand, braces, percent, underscore, hyphen, MacroString, DomainEnd, label, label-dot, DomainSpec, spec}
+use Rattle.domain.specs.Normal.{withoutDot}
 use Rattle.macros.specs.Reader.{isLiteral, endsInMacro, isToplabel, lastLabel, endsInLabel}
 use Rattle.macros.specs.declared.Form.{Form}
-use Rattle.macros.specs.declared.Form.the-variants.{DomainSpec}
 use Rattle.macros.proofs.Laws.Bytes.{alphanumeric-toplabel, toplabel-literal, toplabel-no-dot}
 use Rattle.macros.proofs.Laws.Strings.{Row, none, expands, literals, string-row, row-string}
 use Rattle.macros.proofs.Laws.Braces.{expand-some}
@@ -28,11 +28,11 @@ use Rattle.macros.proofs.Laws.Labels.{last-label, split-undotted}
 use Rattle.macros.proofs.Laws.Toplabels.{passed, empty-no-label, toplabel-complete, toplabel-sound}
 
 -- in a domain-spec the bytes that stand for themselves are the macro-literals
-pub literal-in : (b : ℕ) → isMacroLiteral b ≡ true → isLiteral DomainSpec b ≡ true
+pub literal-in : (b : ℕ) → isMacroLiteral b ≡ true → isLiteral Form.DomainSpec b ≡ true
 unfolding isLiteral
 literal-in b h = h
 
-pub literal-out : (b : ℕ) → isLiteral DomainSpec b ≡ true → isMacroLiteral b ≡ true
+pub literal-out : (b : ℕ) → isLiteral Form.DomainSpec b ≡ true → isMacroLiteral b ≡ true
 unfolding isLiteral
 literal-out b h = h
 
@@ -83,7 +83,7 @@ ending-pieces (expands {w = w} {rest = rest} m r) h =
     absurd (true-false (isEnding 37) (ap isEnding (sym (expand-percent m rest)) ∙ all-at isEnding (w ++ rest) 0 (omega (arith, expand-some m, length-append w rest)) h) percent-no-ending)
 ending-pieces (literals {b = b} {rest = rest} k r) h = ap (λ (t : List Piece). literal b ∷ t) (ending-pieces r (all-rest isEnding b rest h))
 
-ending-row : (v : List ℕ) → all isEnding v ≡ true → Row DomainSpec v (map literal v)
+ending-row : (v : List ℕ) → all isEnding v ≡ true → Row Form.DomainSpec v (map literal v)
 ending-row [] h = none
 ending-row (b ∷ v) h = literals (literal-in b (ending-literal b (all-first isEnding b v h))) (ending-row v (all-rest isEnding b v h))
 
@@ -167,17 +167,17 @@ ends-in-macro {p = p} m (x ∷ []) = ends-next x p [] ∙ ends-in-macro m []
 ends-in-macro {p = p} m (x ∷ y ∷ ps) = ends-next x y (ps ++ (p ∷ [])) ∙ ends-in-macro m (y ∷ ps)
 
 -- a piece before a domain-spec
-spec-at : {s t : List ℕ} {ps : List Piece} → s ≡ t → DomainSpecs t ps → DomainSpecs s ps
-spec-at {s} {t} {ps} e d = subst (λ (x : List ℕ). DomainSpecs x ps) (sym e) d
+spec-at : {s t : List ℕ} {ps : List Piece} → s ≡ t → DomainSpec t ps → DomainSpec s ps
+spec-at {s} {t} {ps} e d = subst (λ (x : List ℕ). DomainSpec x ps) (sym e) d
 
-spec-expand : {w rest : List ℕ} {p : Piece} {ps : List Piece} → MacroExpand DomainSpec w p → DomainSpecs rest ps → DomainSpecs (w ++ rest) (p ∷ ps)
+spec-expand : {w rest : List ℕ} {p : Piece} {ps : List Piece} → MacroExpand Form.DomainSpec w p → DomainSpec rest ps → DomainSpec (w ++ rest) (p ∷ ps)
 spec-expand {w} m (spec {u = u} {w = v} d e) = spec-at (sym (append-assoc w u v)) (spec (MacroString.expands m d) e)
 
-spec-literal : {b : ℕ} {rest : List ℕ} {ps : List Piece} → isMacroLiteral b ≡ true → DomainSpecs rest ps → DomainSpecs (b ∷ rest) (literal b ∷ ps)
+spec-literal : {b : ℕ} {rest : List ℕ} {ps : List Piece} → isMacroLiteral b ≡ true → DomainSpec rest ps → DomainSpec (b ∷ rest) (literal b ∷ ps)
 spec-literal k (spec d e) = spec (MacroString.literals k d) e
 
 -- a row that ends in a macro-expand is a domain-spec
-macro-end : {s : List ℕ} {ps : List Piece} → Row DomainSpec s ps → endsInMacro ps ≡ true → DomainSpecs s ps
+macro-end : {s : List ℕ} {ps : List Piece} → Row Form.DomainSpec s ps → endsInMacro ps ≡ true → DomainSpec s ps
 unfolding endsInMacro
 macro-end none h = absurd (true-false false h refl)
 macro-end (expands {w = w} m none) h = spec-at (append-nil w) (spec MacroString.none (DomainEnd.expands m))
@@ -213,11 +213,11 @@ label-of : (s : List ℕ) → isToplabel (lastLabel (split isDot s)) ≡ true �
 label-of s h = label-before s (lastLabel (split isDot s)) (after-dot s) h
 
 -- a row that ends in a label is a domain-spec
-row-spec : {s : List ℕ} {ps : List Piece} (u v : List ℕ) → Row DomainSpec s ps → s ≡ u ++ (46 ∷ v) → all isEnding v ≡ true
-    → DomainEnd (46 ∷ v) (map literal (46 ∷ v)) → DomainSpecs s ps
+row-spec : {s : List ℕ} {ps : List Piece} (u v : List ℕ) → Row Form.DomainSpec s ps → s ≡ u ++ (46 ∷ v) → all isEnding v ≡ true
+    → DomainEnd (46 ∷ v) (map literal (46 ∷ v)) → DomainSpec s ps
 row-spec {s} {ps} u v r e h d =
     let c = cut r u v e h in
-    spec-at e (subst (λ (x : List Piece). DomainSpecs (u ++ (46 ∷ v)) x) (sym (c .parts)) (spec (row-string literal-out (c .row)) d))
+    spec-at e (subst (λ (x : List Piece). DomainSpec (u ++ (46 ∷ v)) x) (sym (c .parts)) (spec (row-string literal-out (c .row)) d))
 
 last-dot : (s : List ℕ) → isDot (at s (length s - 1)) ≡ true → s ≡ take (length s - 1) s ++ (46 ∷ [])
 last-dot s h =
@@ -225,10 +225,10 @@ last-dot s h =
     let d : drop (suc (length s - 1)) s ≡ [] = drop-of-length-le s {i = suc (length s - 1)} (omega arith) in
     split-at s (length s - 1) 0 k ∙ simp (eqb-true (at s (length s - 1)) 46 h, d)
 
-label-end : {s : List ℕ} {ps : List Piece} → Row DomainSpec s ps → endsInLabel s ≡ true → DomainSpecs s ps
-unfolding endsInLabel
-label-end {s} {ps} r = cond-elim (λ (t : Bool). t ≡ true → DomainSpecs s ps) (isDot (at s (length s - 1)))
-    {x = isToplabel (lastLabel (split isDot (take (length s - 1) s)))} {y = isToplabel (lastLabel (split isDot s))}
+label-end : {s : List ℕ} {ps : List Piece} → Row Form.DomainSpec s ps → endsInLabel s ≡ true → DomainSpec s ps
+unfolding endsInLabel withoutDot
+label-end {s} {ps} r = cond-elim (λ (t : List ℕ). isToplabel (lastLabel (split isDot t)) ≡ true → DomainSpec s ps) (isDot (at s (length s - 1)))
+    {x = take (length s - 1) s} {y = s}
     (λ d h.
     let t = take (length s - 1) s in
     let l = lastLabel (split isDot t) in
@@ -241,16 +241,16 @@ label-end {s} {ps} r = cond-elim (λ (t : Bool). t ≡ true → DomainSpecs s ps
     let x = label-of s h in
     row-spec (x .0) l r (x .1) (label-ending l h) (label (toplabel-sound l h)))
 
-pub ending-sound : {s : List ℕ} {ps : List Piece} → Row DomainSpec s ps → (endsInMacro ps || endsInLabel s) ≡ true → DomainSpecs s ps
+pub ending-sound : {s : List ℕ} {ps : List Piece} → Row Form.DomainSpec s ps → (endsInMacro ps || endsInLabel s) ≡ true → DomainSpec s ps
 ending-sound {s} {ps} r h = or-elim (endsInMacro ps) (endsInLabel s) h (macro-end r) (label-end r)
 
 -- a domain-spec is a row, and ends so
-end-row : {w : List ℕ} {ps : List Piece} → DomainEnd w ps → Row DomainSpec w ps
+end-row : {w : List ℕ} {ps : List Piece} → DomainEnd w ps → Row Form.DomainSpec w ps
 end-row (label {w = w} t) = ending-row (46 ∷ w) (all-cons isEnding 46 w dot-ending (label-ending w (toplabel-complete t)))
 end-row (label-dot {w = w} t) = ending-row (46 ∷ (w ++ (46 ∷ []))) (all-cons isEnding 46 (w ++ (46 ∷ [])) dot-ending (dotted-ending w (toplabel-complete t)))
-end-row (DomainEnd.expands {w = w} {p = p} m) = subst (λ (x : List ℕ). Row DomainSpec x (p ∷ [])) (append-nil w) (expands m none)
+end-row (DomainEnd.expands {w = w} {p = p} m) = subst (λ (x : List ℕ). Row Form.DomainSpec x (p ∷ [])) (append-nil w) (expands m none)
 
-pub spec-row : {s : List ℕ} {ps : List Piece} → DomainSpecs s ps → Row DomainSpec s ps
+pub spec-row : {s : List ℕ} {ps : List Piece} → DomainSpec s ps → Row Form.DomainSpec s ps
 spec-row (spec d e) = string-row literal-in d (end-row e)
 
 split-label : (l : List ℕ) → all isToplabelByte l ≡ true → split isDot l ≡ l ∷ []
@@ -274,16 +274,16 @@ no-dot-last u l h =
     ∙ toplabel-no-dot (at l (length l - 1)) (alphanumeric-toplabel (at l (length l - 1)) (p .last))
 
 label-ends : (u l : List ℕ) → isToplabel l ≡ true → endsInLabel (u ++ (46 ∷ l)) ≡ true
-unfolding endsInLabel
+unfolding endsInLabel withoutDot
 label-ends u l h = simp (no-dot-last u l h, label-found u l h, h)
 
 dotted-ends : (u l : List ℕ) → isToplabel l ≡ true → endsInLabel ((u ++ (46 ∷ l)) ++ (46 ∷ [])) ≡ true
-unfolding endsInLabel
+unfolding endsInLabel withoutDot
 dotted-ends u l h =
     let t = u ++ (46 ∷ l) in
     simp (at-last t 46, take-at t (46 ∷ []) (length (t ++ (46 ∷ [])) - 1) (omega (arith, length-append t (46 ∷ []))), label-found u l h, h)
 
-pub ending-complete : {s : List ℕ} {ps : List Piece} → DomainSpecs s ps → (endsInMacro ps || endsInLabel s) ≡ true
+pub ending-complete : {s : List ℕ} {ps : List Piece} → DomainSpec s ps → (endsInMacro ps || endsInLabel s) ≡ true
 ending-complete (spec {u = u} {ps = ps} d (label {w = w} t)) =
     or-right (endsInMacro (ps ++ map literal (46 ∷ w))) (endsInLabel (u ++ (46 ∷ w))) (label-ends u w (toplabel-complete t))
 ending-complete (spec {u = u} {ps = ps} d (label-dot {w = w} t)) =

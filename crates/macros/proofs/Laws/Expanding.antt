@@ -10,7 +10,7 @@ use lib.Seq.{take-at}
 use borrow.Author.Tests.{eq-eqb, ne-eqb, le-leb, lt-leb}
 use Rattle.text.specs.Texts.{bytes}
 use Rattle.text.specs.Writing.{Wrote}
-use Rattle.text.proofs.Laws.Writing.{wrote-front, wrote-length, length-wrote}
+use Rattle.text.proofs.Laws.Writing.{wrote-front, wrote-over, wrote-length, length-wrote}
 use Rattle.address.specs.declared.Address.{Address}
 use Rattle.address.specs.Octets.{asClient}
 use Rattle.domain.specs.Normal.{Naming, malformed, withoutDot, lowered, nameAnswer, nameBuffer}
@@ -76,7 +76,7 @@ module _ (xs z o : List ℕ) (n : ℕ) (w : Wrote xs z 0 o n) (out : List ℕ) (
   fits h after m v =
       let e : n ≡ length xs = omega (arith, w .next-place) in
       let l : length xs ≤ length out = omega arith in
-      rw (le-leb (length xs) (length out) l) (record { answer = ap Written e; buffer = wrote-front xs out after m v l })
+      rw (le-leb (length xs) (length out) l) (record { answer = ap Written e; buffer = wrote-over xs out after m v })
 
 -- `write_with_receiver`
 module _ (s l o d i p v h c receiver t : List ℕ) (ps : List Piece) (room : ℕ) (r : Expanded) (before after : List ℕ) where

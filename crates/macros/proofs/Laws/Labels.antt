@@ -5,7 +5,7 @@ use mathlib.Core.List.{List, [], _∷_, _++_}
 use mathlib.Core.Bool.{Bool, true, false, not, and-false}
 use native.Mathlib.Omega.{arith}
 use lib.ListN.{length, take, drop}
-use borrow.Author.Tests.{eq-eqb, ne-eqb, not-true}
+use borrow.Author.Tests.{not-true}
 use Rattle.text.specs.Bytes.{at, isDot, isNotDot, isAlphanumeric, isToplabelByte}
 use Rattle.text.specs.Lists.{all, split, grow}
 use Rattle.text.specs.Runs.{isIn, trailingStart}
@@ -16,6 +16,7 @@ use Rattle.text.proofs.Laws.Parts.{all-first, all-rest}
 use Rattle.text.proofs.Laws.Runs.{trailing-all, trailing-le, trailing-first, trailing-next}
 use Rattle.text.proofs.Laws.Spans.{rest-part}
 use Rattle.text.proofs.Laws.Splitting.{Some, some, split-some, Undelimited, undelimited-last, undelimited-whole}
+use Rattle.domain.specs.Normal.{withoutDot}
 use Rattle.macros.specs.Reader.{isToplabel, lastLabel, endsInLabel}
 use Rattle.macros.proofs.Laws.Braces.{empty-of}
 use Rattle.macros.proofs.Laws.Toplabels.{empty-no-label}
@@ -99,16 +100,7 @@ module _ (l : List ℕ) where
           unfolding isToplabel
           top-right qd = simp (bytes ∙ q, first ∙ qa, last ∙ qz, sym (class-tests Digit l) ∙ sym pd ∙ qd)
 
--- the ways out of `ends_in_label`
-pub ends-empty : (s : List ℕ) → length s ≡ 0 → false ≡ endsInLabel s
-unfolding endsInLabel split lastLabel
-ends-empty s h = sym (ap endsInLabel (empty-of s h) ∙ empty-no-label)
-
-module _ (s w : List ℕ) (r : Bool) (e : r ≡ isToplabel w) where
-  pub ends-dot : at s (length s - 1) ≡ 46 → w ≡ lastLabel (split isDot (take (length s - 1) s)) → r ≡ endsInLabel s
-  unfolding endsInLabel
-  ends-dot h p = e ∙ ap isToplabel p ∙ sym (simp (eq-eqb (at s (length s - 1)) 46 h))
-
-  pub ends-plain : (at s (length s - 1) ≡ 46 → ⊥) → w ≡ lastLabel (split isDot s) → r ≡ endsInLabel s
-  unfolding endsInLabel
-  ends-plain h p = e ∙ ap isToplabel p ∙ sym (simp (ne-eqb (at s (length s - 1)) 46 h))
+-- `ends_in_label`
+pub label-at-end : (s w l : List ℕ) (r : Bool) → w ≡ withoutDot s → l ≡ lastLabel (split isDot w) → r ≡ isToplabel l → r ≡ endsInLabel s
+unfolding endsInLabel
+label-at-end s w l r e p q = q ∙ ap isToplabel (p ∙ ap (λ (x : List ℕ). lastLabel (split isDot x)) e)

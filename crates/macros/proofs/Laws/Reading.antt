@@ -20,7 +20,7 @@ use Rattle.text.specs.declared.decimal.Number.{Number}
 use Rattle.text.specs.declared.decimal.Number.the-variants.{Value, Refused}
 use Rattle.text.proofs.Laws.Classes.{class-tests}
 use Rattle.text.proofs.Laws.Runs.{run-end-next, run-end-here, run-end-out, run-end-inside}
-use Rattle.macros.specs.Grammar.{Macro, Piece, literal, escape, expand, Produces, isLetter, isCount}
+use Rattle.macros.specs.Grammar.{Macro, Piece, literal, escape, expand, Produces, isLetter, isPartCount}
 use Rattle.macros.specs.Reader.{isLiteral, isEscape, isReverse, closedAt, delimitersAt, reversalAt, digitsAt, bracesOf, pieceOf, macroOf, Pieces, push, pieces, endsInMacro, endsInLabel, endsRight, isMacroString, isP, anyP, scanOf, usesP}
 use Rattle.macros.specs.declared.Form.{Form}
 use Rattle.macros.specs.declared.Form.the-variants.{DomainSpec, ModifierValue, Explanation}
@@ -35,17 +35,17 @@ module _ (s : List ℕ) (r : Bool) (p : r ≡ all (isIn Digit) s) where
   digits : all isDigit s ≡ r
   digits = sym (class-tests Digit s) ∙ sym p
 
-  pub count-other : r ≡ false → false ≡ isCount s
-  unfolding isCount
+  pub count-other : r ≡ false → false ≡ isPartCount s
+  unfolding isPartCount
   count-other q = simp (digits ∙ q)
 
-  pub count-none : r ≡ true → length s ≡ 0 → true ≡ isCount s
-  unfolding isCount
+  pub count-none : r ≡ true → length s ≡ 0 → true ≡ isPartCount s
+  unfolding isPartCount
   count-none q h = simp (digits ∙ q, eq-eqb (length s) 0 h)
 
   module _ (q : r ≡ true) (some : length s ≡ 0 → ⊥) where
-    counted : isCount s ≡ leb 1 (decimal s)
-    unfolding isCount
+    counted : isPartCount s ≡ leb 1 (decimal s)
+    unfolding isPartCount
     counted = simp (digits ∙ q, ne-eqb (length s) 0 some)
 
     module _ (limit : ℕ) where
@@ -62,10 +62,10 @@ module _ (s : List ℕ) (r : Bool) (p : r ≡ all (isIn Digit) s) where
       over false k e = leb-false (decimal s) limit k
 
       module _ (n : Number) (e : n ≡ readDecimal limit s) where
-        pub count-value : (v : ℕ) → n ≡ Value v → (x : Bool) → x ≡ leb 1 v → x ≡ isCount s
+        pub count-value : (v : ℕ) → n ≡ Value v → (x : Bool) → x ≡ leb 1 v → x ≡ isPartCount s
         count-value v h x g = g ∙ ap (leb 1) (value v (leb (decimal s) limit) (sym read ∙ sym e ∙ h)) ∙ sym counted
 
-        pub count-large : n ≡ Refused → true ≡ isCount s
+        pub count-large : n ≡ Refused → true ≡ isPartCount s
         count-large h = let l = over (leb (decimal s) limit) refl (sym read ∙ sym e ∙ h) in sym (counted ∙ le-leb 1 (decimal s) (omega arith))
 
 -- `is_letter`
@@ -113,9 +113,9 @@ module _ (s : List ℕ) (d b l : ℕ) (p : b ≡ at s d) (q : l ≡ lower b) whe
   reversal-absent e r h = h ∙ sym (simp (reverses, ne-eqb l 114 e))
 
 -- `read_digits`
-module _ (s : List ℕ) (d : ℕ) (w : List ℕ) (p : w ≡ part s 3 d) (x : Bool) (q : x ≡ isCount w) where
-  counts : isCount (part s 3 d) ≡ x
-  counts = ap isCount (sym p) ∙ sym q
+module _ (s : List ℕ) (d : ℕ) (w : List ℕ) (p : w ≡ part s 3 d) (x : Bool) (q : x ≡ isPartCount w) where
+  counts : isPartCount (part s 3 d) ≡ x
+  counts = ap isPartCount (sym p) ∙ sym q
 
   pub digits-counted : x ≡ true → (r : Found) → r ≡ reversalAt s d → r ≡ digitsAt s d
   unfolding digitsAt

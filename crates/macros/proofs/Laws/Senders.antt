@@ -2,14 +2,15 @@
 -- Expansion and the laws of Splitting.
 use Prim.Native.Nat.{ℕ, suc, _-_, _≤_, _<_}
 use mathlib.Core.Path.{_≡_, refl, sym, ap, _∙_}
-use mathlib.Core.List.{List, [], _∷_, _++_}
+use mathlib.Core.List.{List, [], _∷_, _++_, append-nil}
 use mathlib.Core.Bool.{Bool, true, false}
 use native.Mathlib.Omega.{arith}
 use lib.ListN.{length, take, drop, length-append, length-take}
+use lib.Seq.{take-append-seam}
 use lib.Dec.{leb, eqb}
 use borrow.Author.Tests.{eq-eqb, ne-eqb, le-leb, lt-leb}
 use Rattle.text.specs.Bytes.{at, within, isPrintable}
-use Rattle.text.specs.Lists.{all, split, grow}
+use Rattle.text.specs.Lists.{all, split, grow, separatorBefore, joinBy}
 use Rattle.text.specs.Runs.{isIn}
 use Rattle.text.specs.Texts.{bytes}
 use Rattle.text.specs.Writing.{Wrote}
@@ -17,9 +18,9 @@ use Rattle.text.specs.declared.bytes.Class.the-variants.{Visible, Printable}
 use Rattle.text.proofs.Laws.Tests.{cond-elim, and-left}
 use Rattle.text.proofs.Laws.Classes.{within-range}
 use Rattle.text.proofs.Laws.Spans.{rest-part}
-use Rattle.text.proofs.Laws.Splitting.{Some, some, split-some, Undelimited, undelimited-start, undelimited-next, undelimited-last, undelimited-whole}
+use Rattle.text.proofs.Laws.Splitting.{Some, some, split-some, join-snoc, join-again, Undelimited, undelimited-start, undelimited-next, undelimited-last, undelimited-whole}
 use Rattle.text.proofs.Laws.Writing.{wrote-then}
-use Rattle.macros.specs.Expansion.{isAt, lastPart, senderDomain, written, localPart, isSender, isHost, isShort}
+use Rattle.macros.specs.Expansion.{isAt, lastPart, senderDomain, frontParts, localAsWritten, localPart, isSender, isHost, isShort}
 
 -- `is_sender`
 module _ (s : List ℕ) where
@@ -105,18 +106,36 @@ pub domain-length : (s : List ℕ) → length (senderDomain s) ≤ length s
 unfolding senderDomain
 domain-length s = last-length s
 
+-- the parts of a sender, and what stands before the last `@`
+parts-again : (xs : List (List ℕ)) → Some xs → xs ≡ frontParts xs ++ (lastPart xs ∷ [])
+unfolding frontParts lastPart
+parts-again (x ∷ []) some = refl
+parts-again (x ∷ y ∷ r) some = ap (λ (z : List (List ℕ)). x ∷ z) (parts-again (y ∷ r) some)
+
+local-taken : (s : List ℕ) → localAsWritten s ≡ take (length s - suc (length (senderDomain s))) s
+unfolding localAsWritten senderDomain joinBy separatorBefore
+local-taken s = by (frontParts (split isAt s)) (sym (join-again 64 s) ∙ ap (joinBy 64) (parts-again (split isAt s) (split-some isAt s)))
+  where
+    d : List ℕ
+    d = lastPart (split isAt s)
+
+    by : (xs : List (List ℕ)) → s ≡ joinBy 64 (xs ++ (d ∷ [])) → joinBy 64 xs ≡ take (length s - suc (length d)) s
+    by [] e = let n : length s - suc (length d) ≡ 0 = omega (arith, simp append-nil at (ap length e)) in rw n
+    by (x ∷ xs) e =
+        let j = join-snoc 64 (x ∷ xs) d some in
+        let n : length s - suc (length d) ≡ length (joinBy 64 (x ∷ xs)) = omega (arith, ap length (e ∙ j), length-append (joinBy 64 (x ∷ xs)) (64 ∷ d)) in
+        rw n (sym (ap (take (length (joinBy 64 (x ∷ xs)))) (e ∙ j) ∙ take-append-seam (joinBy 64 (x ∷ xs)) (64 ∷ d)))
+
 -- `written_local`
 module _ (s d : List ℕ) (e : d ≡ senderDomain s) where
-  pub local-here : length d < length s → take (length s - length d - 1) s ≡ written s
-  unfolding written
-  local-here h = let n : length s - length d - 1 ≡ length s - suc (length (senderDomain s)) = rw (← e) (omega arith) in rw n
+  pub local-here : length d < length s → take (length s - length d - 1) s ≡ localAsWritten s
+  local-here h = let n : length s - length d - 1 ≡ length s - suc (length (senderDomain s)) = rw (← e) (omega arith) in rw (local-taken s, n)
 
-  pub local-none : length s ≤ length d → [] ≡ written s
-  unfolding written
-  local-none h = let n : length s - suc (length (senderDomain s)) ≡ 0 = rw (← e) (omega arith) in rw n
+  pub local-none : length s ≤ length d → [] ≡ localAsWritten s
+  local-none h = let n : length s - suc (length (senderDomain s)) ≡ 0 = rw (← e) (omega arith) in rw (local-taken s, n)
 
 -- `put_local`
-module _ (s w : List ℕ) (e : w ≡ written s) (out : List ℕ) (n : ℕ) (o : List ℕ) (m : ℕ) where
+module _ (s w : List ℕ) (e : w ≡ localAsWritten s) (out : List ℕ) (n : ℕ) (o : List ℕ) (m : ℕ) where
   pub local-postmaster : length w ≡ 0 → Wrote (bytes "postmaster") out n o m → Wrote (localPart s) out n o m
   unfolding localPart
   local-postmaster h x = rw (← e, eq-eqb (length w) 0 h) x
@@ -134,16 +153,15 @@ sender-parts s d e out n o₁ o₂ o₃ n₁ n₂ n₃ u v w =
 -- how long the local part and the whole sender are
 module _ (s : List ℕ) (bound : length s ≤ 320) where
   pub local-length : length (localPart s) ≤ 320
-  unfolding localPart written
+  unfolding localPart
   local-length =
-      cond-elim (λ (x : List ℕ). length x ≤ 320) (eqb (length (take (length s - suc (length (senderDomain s))) s)) 0)
-      {x = bytes "postmaster"} {y = take (length s - suc (length (senderDomain s))) s}
-      (λ _. omega arith) (λ _. simp length-take (omega arith))
+      cond-elim (λ (x : List ℕ). length x ≤ 320) (eqb (length (localAsWritten s)) 0) {x = bytes "postmaster"} {y = localAsWritten s}
+      (λ _. omega arith) (λ _. simp (local-taken, length-take) (omega arith))
 
   pub sender-length : length (localPart s ++ (64 ∷ senderDomain s)) ≤ 331
-  unfolding localPart written
+  unfolding localPart
   sender-length =
       let d = domain-length s in
-      cond-elim (λ (x : List ℕ). length (x ++ (64 ∷ senderDomain s)) ≤ 331) (eqb (length (take (length s - suc (length (senderDomain s))) s)) 0)
-      {x = bytes "postmaster"} {y = take (length s - suc (length (senderDomain s))) s}
-      (λ _. omega arith) (λ _. simp (length-append, length-take) (omega arith))
+      cond-elim (λ (x : List ℕ). length (x ++ (64 ∷ senderDomain s)) ≤ 331) (eqb (length (localAsWritten s)) 0)
+      {x = bytes "postmaster"} {y = localAsWritten s}
+      (λ _. omega arith) (λ _. simp (local-taken, length-append, length-take) (omega arith))

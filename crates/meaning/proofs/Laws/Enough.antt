@@ -8,7 +8,7 @@ use Rattle.domain.specs.Normal.{Naming, normal}
 use Rattle.meaning.specs.declared.Counts.{Counts}
 use Rattle.meaning.specs.Tree.{Table, run}
 use Rattle.meaning.specs.Mechanisms.{Mail}
-use Rattle.meaning.specs.Evaluation.{check, noCounts, evaluation}
+use Rattle.meaning.specs.Evaluation.{checkName, check, whole, noCounts, evaluation}
 use Rattle.meaning.proofs.Laws.Kept.{bounded-self, checkName-fine, check-fine}
 
 pub enough : (t : Table) (n m : ℕ) (mail : Mail) (d : Naming) (c : Counts) → 10 < n + c .lookups → 10 < m + c .lookups → c .lookups ≤ 10
@@ -23,7 +23,12 @@ enough t (suc n) (suc m) mail d c h k s =
       holds = check-fine t ⊥ (λ z. absurd z) c n mail x e b (λ z. absurd z) .holds;
     }) d c (bounded-self c) (λ z. absurd z) .same
 
--- so the eleven in `evaluation` might be any greater number
+-- So the check of a domain is its own unfolding: no number is left in what is said of it.
+pub whole-unfolds : (t : Table) (mail : Mail) (x : Naming) (c : Counts) → c .lookups ≤ 10 → run t (whole mail x c) ≡ run t (checkName mail (whole mail) x c)
+unfolding check
+whole-unfolds t mail x c h = enough t 11 12 mail x c (omega arith) (omega arith) h
+
+-- and the eleven might be any greater number
 pub evaluation-enough : (t : Table) (n : ℕ) (mail : Mail) (domain : List ℕ) → 10 < n → run t (evaluation mail domain) ≡ run t (check n mail (normal domain) noCounts)
 unfolding evaluation
 evaluation-enough t n mail domain h = enough t 11 n mail (normal domain) noCounts (omega arith) (omega arith) (omega arith)

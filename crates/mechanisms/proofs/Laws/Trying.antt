@@ -16,8 +16,8 @@ use Rattle.records.specs.declared.Term.{Term}
 use Rattle.meaning.specs.declared.Counts.{Counts}
 use Rattle.meaning.specs.declared.Stepped.{Stepped}
 use Rattle.meaning.specs.Tree.{Table, run}
-use Rattle.meaning.specs.Mechanisms.{Mail, Step, matched, named, aStep, mxStep, ptrStep, existsStep}
-use Rattle.meaning.specs.Evaluation.{Sub, bytesOr, numberOr, lengthFor, networkStep, mechanismStep, termStep}
+use Rattle.meaning.specs.Mechanisms.{Mail, Step, matched, countedStep, aStep, mxStep, ptrStep, existsStep}
+use Rattle.meaning.specs.Evaluation.{Sub, having, lengthFor, networkStep, plainStep, mechanismStep, termStep}
 use Rattle.meaning.specs.Outcomes.{SaysStep}
 use Rattle.questions.specs.Steps.{matchAnswer}
 use Rattle.questions.proofs.Laws.Replies.{match-says}
@@ -32,7 +32,7 @@ test-says t c b o m e = rw e (match-says t m c b)
 module _ (t : Table) (mail : Mail) (d w : List ℕ) (x : Term) (c : Counts) (b : List ℕ) where
   module _ (o : Stepped) where
     pub tried-all : (sign : ℕ) → x ≡ Term.All sign → o ≡ matchAnswer true c → TriedIs t mail d w x c b b (Tried.Step o)
-    unfolding TriedIs termStep mechanismStep saidOf same
+    unfolding TriedIs termStep mechanismStep plainStep saidOf same
     tried-all sign e h sub = rw e (test-says t c b o true h)
 
     pub tried-redirect : (from to : ℕ) → x ≡ Term.Redirect from to → o ≡ matchAnswer false c → TriedIs t mail d w x c b b (Tried.Step o)
@@ -49,7 +49,7 @@ module _ (t : Table) (mail : Mail) (d w : List ℕ) (x : Term) (c : Counts) (b :
 
     network-says : (sign from to n : ℕ) (a : Address) (sub : Sub) → o ≡ matchAnswer (matchesAt (mail .client) a n) c
         → SaysStep (run t (termStep mail sub d (saidOf w (Term.Network sign from to a n)) (saidOf w (Term.Network sign from to a n) .sign) c)) o b b
-    unfolding termStep mechanismStep networkStep numberOr saidOf same
+    unfolding termStep mechanismStep plainStep networkStep having saidOf same
     network-says sign from to n (IPv4 v) sub h = test-says t c b o (matchesAt (mail .client) (IPv4 v) n) h
     network-says sign from to n (IPv6 g l) sub h = test-says t c b o (matchesAt (mail .client) (IPv6 g l) n) h
 
@@ -59,7 +59,7 @@ module _ (t : Table) (mail : Mail) (d w : List ℕ) (x : Term) (c : Counts) (b :
     tried-network sign from to n a e m i h sub = rw e (network-says sign from to n a sub (h ∙ rw i))
 
   pub tried-include : (sign from to : ℕ) → x ≡ Term.Include sign from to → TriedIs t mail d w x c b b (Tried.Include from to)
-  unfolding TriedIs termStep mechanismStep bytesOr saidOf same
+  unfolding TriedIs termStep mechanismStep having saidOf same
   tried-include sign from to e = (refl, λ sub. rw e)
 
 -- those that ask for a name
@@ -67,30 +67,30 @@ given-is : (b : Bool) (y : List ℕ) → specIf (cond b false true) y ≡ cond b
 given-is true y = refl
 given-is false y = refl
 
-length-is : (client : Address) (w name : List ℕ) (sign from to four six : ℕ) → lengthFor client (hosts name (sign) (optional w from to) four six) ≡ lengthOf client four six
-unfolding lengthFor lengthOf numberOr
+length-is : (client : Address) (w name : List ℕ) (sign from to four six : ℕ) → lengthFor client (hosts name sign (optional w from to) four six) ≡ present (lengthOf client four six)
+unfolding lengthFor lengthOf
 length-is (IPv4 v) w name sign from to four six = refl
 length-is (IPv6 h l) w name sign from to four six = refl
 
 module _ (t : Table) (mail : Mail) (d w : List ℕ) (x : Term) (c : Counts) (b : List ℕ) (o : Stepped) (a : List ℕ) where
   module _ (sign from to four six : ℕ) (g : Bool) (i : g ≡ cond (eqb from to) false true) (y : List ℕ) (j : y ≡ part w from to) (n : ℕ) (k : n ≡ lengthOf (mail .client) four six) where
     pub tried-a : x ≡ Term.A sign from to four six
-        → SaysStep (run t (named mail d (specIf g y) (asker Question.A (mail .client) n) c)) o b a → TriedIs t mail d w x c b a (Tried.Step o)
-    unfolding TriedIs termStep mechanismStep saidOf same aStep asker
+        → SaysStep (run t (countedStep mail d (specIf g y) (asker Question.A (mail .client) n) c)) o b a → TriedIs t mail d w x c b a (Tried.Step o)
+    unfolding TriedIs termStep mechanismStep plainStep having saidOf same aStep asker
     tried-a e s sub = rw (e, length-is (mail .client) w (bytes "a") sign from to four six, ← given-is (eqb from to) (part w from to), ← i, ← j, ← k) s
 
     pub tried-mx : x ≡ Term.Mx sign from to four six
-        → SaysStep (run t (named mail d (specIf g y) (asker Question.Mx (mail .client) n) c)) o b a → TriedIs t mail d w x c b a (Tried.Step o)
-    unfolding TriedIs termStep mechanismStep saidOf same mxStep asker
+        → SaysStep (run t (countedStep mail d (specIf g y) (asker Question.Mx (mail .client) n) c)) o b a → TriedIs t mail d w x c b a (Tried.Step o)
+    unfolding TriedIs termStep mechanismStep plainStep having saidOf same mxStep asker
     tried-mx e s sub = rw (e, length-is (mail .client) w (bytes "mx") sign from to four six, ← given-is (eqb from to) (part w from to), ← i, ← j, ← k) s
 
   module _ (sign from to n : ℕ) (y : List ℕ) (j : y ≡ part w from to) where
     pub tried-ptr : x ≡ Term.Ptr sign from to → (g : Bool) → g ≡ cond (eqb from to) false true
-        → SaysStep (run t (named mail d (specIf g y) (asker Question.Ptr (mail .client) n) c)) o b a → TriedIs t mail d w x c b a (Tried.Step o)
-    unfolding TriedIs termStep mechanismStep saidOf same ptrStep asker
+        → SaysStep (run t (countedStep mail d (specIf g y) (asker Question.Ptr (mail .client) n) c)) o b a → TriedIs t mail d w x c b a (Tried.Step o)
+    unfolding TriedIs termStep mechanismStep plainStep saidOf same ptrStep asker
     tried-ptr e g i s sub = rw (e, ← given-is (eqb from to) (part w from to), ← i, ← j) s
 
     pub tried-exists : x ≡ Term.Exists sign from to
-        → SaysStep (run t (named mail d (specIf true y) (asker Question.Exists (mail .client) n) c)) o b a → TriedIs t mail d w x c b a (Tried.Step o)
-    unfolding TriedIs termStep mechanismStep saidOf same existsStep bytesOr asker
+        → SaysStep (run t (countedStep mail d (specIf true y) (asker Question.Exists (mail .client) n) c)) o b a → TriedIs t mail d w x c b a (Tried.Step o)
+    unfolding TriedIs termStep mechanismStep plainStep having saidOf same existsStep asker
     tried-exists e s sub = rw (e, ← j) s

@@ -1,14 +1,8 @@
--- `mechanisms::ask` meets its contract. From the rules of Laws.Naming, one for each mechanism.
-use Rattle.mechanisms.proofs.Laws.Naming.{by-a, by-mx, by-ptr, by-exists}
+-- `mechanisms::ask` meets its contract. From the rules of Laws.Counted, one for each mechanism.
+use Rattle.mechanisms.proofs.Laws.Counted.{by-a, by-mx, by-ptr, by-exists}
 use borrow.Author.Needs.{needs}
 use Rattle.mechanisms.proofs.ask.Statement.{statement}
 use Rattle.mechanisms.proofs.ask.Tie as tie
-use Rattle.mechanisms.proofs.ask.Reads as reads
-use Rattle.mechanisms.proofs.ask.Lts as lts
-use Rattle.questions.proofs.ask_a.Reads as ask-a-reads
-use Rattle.questions.proofs.ask_exists.Reads as ask-exists-reads
-use Rattle.questions.proofs.ask_mx.Reads as ask-mx-reads
-use Rattle.questions.proofs.ask_ptr.Reads as ask-ptr-reads
 
 enum-told : tie.Need-enum-told
 enum-told c = search needs

@@ -2,8 +2,6 @@
 use Rattle.text.proofs.Laws.Tests.{ways}
 use Rattle.mechanisms.proofs.differ.Statement.{statement}
 use Rattle.mechanisms.proofs.differ.Tie as tie
-use Rattle.mechanisms.proofs.differ.Reads as reads
-use Rattle.mechanisms.proofs.differ.Lts as lts
 
 returns : tie.Need-returns
 returns c = search ways

@@ -4,8 +4,6 @@ use Rattle.text.proofs.Laws.Tests.{ways}
 use borrow.Author.Needs.{needs}
 use Rattle.mechanisms.proofs.length_of.Statement.{statement}
 use Rattle.mechanisms.proofs.length_of.Tie as tie
-use Rattle.mechanisms.proofs.length_of.Reads as reads
-use Rattle.mechanisms.proofs.length_of.Lts as lts
 
 enum-told : tie.Need-enum-told
 enum-told c = search needs

@@ -3,14 +3,6 @@ use Rattle.mechanisms.proofs.Laws.Trying.{tried-all, tried-include, tri
 use borrow.Author.Needs.{needs}
 use Rattle.mechanisms.proofs.try_plain.Statement.{statement}
 use Rattle.mechanisms.proofs.try_plain.Tie as tie
-use Rattle.mechanisms.proofs.try_plain.Reads as reads
-use Rattle.mechanisms.proofs.try_plain.Lts as lts
-use Rattle.address.proofs.matches.Reads as matches-reads
-use Rattle.mechanisms.proofs.differ.Reads as differ-reads
-use Rattle.mechanisms.proofs.length_of.Reads as length-of-reads
-use Rattle.mechanisms.proofs.named_step.Reads as named-step-reads
-use Rattle.questions.proofs.matched.Reads as matched-reads
-use Rattle.text.proofs.bytes.part.Reads as part-reads
 
 enum-told : tie.Need-enum-told
 enum-told c = search needs
@@ -33,8 +25,8 @@ differ-requires c κs = search needs
 part-requires : tie.Need-part-requires
 part-requires c κs = search needs
 
-named-step-requires : tie.Need-named-step-requires
-named-step-requires c κs = search needs
+counted-step-requires : tie.Need-counted-step-requires
+counted-step-requires c κs = search needs
 
 enum-known-term-3 : tie.Need-enum-known-term-3
 enum-known-term-3 c = search needs
@@ -48,8 +40,8 @@ differ-requires-2 c κs = search needs
 part-requires-2 : tie.Need-part-requires-2
 part-requires-2 c κs = search needs
 
-named-step-requires-2 : tie.Need-named-step-requires-2
-named-step-requires-2 c κs = search needs
+counted-step-requires-2 : tie.Need-counted-step-requires-2
+counted-step-requires-2 c κs = search needs
 
 enum-known-term-4 : tie.Need-enum-known-term-4
 enum-known-term-4 c = search needs
@@ -60,8 +52,8 @@ differ-requires-3 c κs = search needs
 part-requires-3 : tie.Need-part-requires-3
 part-requires-3 c κs = search needs
 
-named-step-requires-3 : tie.Need-named-step-requires-3
-named-step-requires-3 c κs = search needs
+counted-step-requires-3 : tie.Need-counted-step-requires-3
+counted-step-requires-3 c κs = search needs
 
 enum-known-term-5 : tie.Need-enum-known-term-5
 enum-known-term-5 c = search needs
@@ -81,8 +73,8 @@ enum-known-term-6 c = search needs
 part-requires-4 : tie.Need-part-requires-4
 part-requires-4 c κs = search needs
 
-named-step-requires-4 : tie.Need-named-step-requires-4
-named-step-requires-4 c κs = search needs
+counted-step-requires-4 : tie.Need-counted-step-requires-4
+counted-step-requires-4 c κs = search needs
 
 enum-told-2 : tie.Need-enum-told-2
 enum-told-2 c = search needs
@@ -155,23 +147,23 @@ try-plain-spec =
     length-of-requires
     differ-requires
     part-requires
-    named-step-requires
+    counted-step-requires
     enum-known-term-3
     length-of-requires-2
     differ-requires-2
     part-requires-2
-    named-step-requires-2
+    counted-step-requires-2
     enum-known-term-4
     differ-requires-3
     part-requires-3
-    named-step-requires-3
+    counted-step-requires-3
     enum-known-term-5
     cast-matches
     matches-requires
     matched-requires-2
     enum-known-term-6
     part-requires-4
-    named-step-requires-4
+    counted-step-requires-4
     enum-told-2
     matched-requires-3
     enum-told-3

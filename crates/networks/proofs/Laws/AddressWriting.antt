@@ -12,7 +12,8 @@ use borrow.Author.Tests.{leb-true, leb-false, eq-eqb, ne-eqb, le-leb, lt-leb}
 use Rattle.text.specs.Writing.{Wrote}
 use Rattle.text.proofs.Laws.Writing.{wrote-front}
 use Rattle.address.specs.Octets.{fromOctets}
-use Rattle.networks.specs.Reader6.{Reading, groups, refused, octetPairs, filled, fullOf, shortOf, networkOf, RowWritten, written, none}
+use Rattle.networks.specs.Grammar.{filled}
+use Rattle.networks.specs.Reader6.{Reading, groups, refused, octetPairs, fullOf, shortOf, networkOf, RowWritten, written, none}
 use Rattle.networks.specs.declared.Network.{Network}
 use Rattle.networks.specs.declared.Network.the-variants.{NoNetwork}
 use Rattle.networks.specs.declared.ip6.RowEnd.{RowEnd}

@@ -10,8 +10,8 @@ use Rattle.text.specs.Bytes.{isNotColon}
 use Rattle.text.specs.Lists.{all}
 use Rattle.text.proofs.Laws.Parts.{all-between}
 use Rattle.address.specs.declared.Address.{Address}
-use Rattle.networks.specs.Grammar.{Row, Ip6Network, full, short, Network4, Network6, network}
-use Rattle.networks.specs.Answers.{NetworkAnswer, Written, four, six}
+use Rattle.networks.specs.Grammar.{Row, Ip6Network, full, short, Network4, of-octets, Network6, of-groups}
+use Rattle.networks.specs.Answers.{NetworkAnswer, AddressText, four, six}
 use Rattle.networks.specs.Reader.{readIp4}
 use Rattle.networks.specs.Reader6.{readIp6, firstOf, readAddress}
 use Rattle.networks.specs.declared.Network.{Network}
@@ -38,25 +38,25 @@ ip6-colon (full r e) h = omega (arith, row-two r h)
 ip6-colon (short {u = u} {w = w} b a k) h = colon-between u (58 ∷ w) h
 
 colon-six : {s : List ℕ} {a : Address} → Network6 s a → all isNotColon s ≡ true → ⊥
-colon-six (network n) h = ip6-colon n h
+colon-six (of-groups n) h = ip6-colon n h
 
 colonless-four : {s : List ℕ} {a : Address} → Network4 s a → all isNotColon s ≡ true
-colonless-four (network n) = ip4-colonless n
+colonless-four (of-octets n) = ip4-colonless n
 
 -- no text is both
 pub not-both : {s : List ℕ} {a b : Address} → Network4 s a → Network6 s b → ⊥
 not-both p q = colon-six q (colonless-four p)
 
 -- the reader against the productions
-pub address-sound : (s : List ℕ) (a : Address) → readAddress s ≡ Is a → Written s a
+pub address-sound : (s : List ℕ) (a : Address) → readAddress s ≡ Is a → AddressText s a
 unfolding readAddress firstOf
 address-sound s a e = by (readIp4 s) refl e
   where
-    by : (x : Network) → readIp4 s ≡ x → firstOf x (readIp6 s) ≡ Is a → Written s a
+    by : (x : Network) → readIp4 s ≡ x → firstOf x (readIp6 s) ≡ Is a → AddressText s a
     by (Is b) p q = let same : b ≡ a = cc in four (ip4-sound s a (p ∙ ap Is same))
     by NoNetwork p q = six (ip6-sound s a q)
 
-pub address-complete : (s : List ℕ) (a : Address) → Written s a → readAddress s ≡ Is a
+pub address-complete : (s : List ℕ) (a : Address) → AddressText s a → readAddress s ≡ Is a
 unfolding readAddress firstOf
 address-complete s a (four p) = rw (ip4-complete s a p)
 address-complete s a (six p) = by (readIp4 s) refl
@@ -66,12 +66,12 @@ address-complete s a (six p) = by (readIp4 s) refl
     by NoNetwork q = ip6-complete s a p
 
 -- a text writes one address of either family
-pub address-one : (s : List ℕ) (a b : Address) → Written s a → Written s b → a ≡ b
+pub address-one : (s : List ℕ) (a b : Address) → AddressText s a → AddressText s b → a ≡ b
 address-one s a b p q = let f = address-complete s a p in let g = address-complete s b q in cc
 
 -- the answer of `read_address`
-pub address-answer : (s : List ℕ) (r : Network) → r ≡ readAddress s → (r ≡ readAddress s) × NetworkAnswer (Written s) r
-address-answer s r e = (e, subst (NetworkAnswer (Written s)) (sym e) (network-answer (Written s) (readAddress s) (address-sound s) (address-complete s)))
+pub address-answer : (s : List ℕ) (r : Network) → r ≡ readAddress s → (r ≡ readAddress s) × NetworkAnswer (AddressText s) r
+address-answer s r e = (e, subst (NetworkAnswer (AddressText s)) (sym e) (network-answer (AddressText s) (readAddress s) (address-sound s) (address-complete s)))
 
 -- its ways out
 module _ (s : List ℕ) (x : Network) (p : x ≡ readIp4 s) where

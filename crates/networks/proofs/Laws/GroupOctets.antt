@@ -8,8 +8,8 @@ use lib.Seq.{take-at, drop-at, sets, sets-eq}
 use Rattle.address.specs.Octets.{valueFrom, valueOf, fromOctets}
 use Rattle.address.specs.declared.Address.{Address}
 use Rattle.address.specs.declared.FromOctets.{FromOctets}
-use Rattle.networks.specs.Grammar.{groupsFrom}
-use Rattle.networks.specs.Reader6.{octetPairs, addressOf, filled, networkOf}
+use Rattle.networks.specs.Grammar.{groupsFrom, addressOf, filled}
+use Rattle.networks.specs.Reader6.{octetPairs, networkOf}
 use Rattle.networks.specs.declared.Network.the-variants.{Is, NoNetwork}
 
 pub length-pairs : (gs : List ℕ) → length (octetPairs gs) ≡ 2 * length gs

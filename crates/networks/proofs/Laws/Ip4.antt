@@ -23,7 +23,7 @@ use Rattle.networks.specs.declared.Network.{Network}
 use Rattle.networks.specs.declared.Network.the-variants.{Is, NoNetwork}
 use Rattle.networks.specs.declared.ip4.Octet.{Octet}
 use Rattle.networks.specs.declared.ip4.Octet.the-variants.{Ends, NoOctet}
-use Rattle.networks.specs.Grammar.{Qnum, Ip4Network, octets, Network4, network}
+use Rattle.networks.specs.Grammar.{Qnum, Ip4Network, octets, Network4, of-octets}
 use Rattle.networks.specs.Answers.{NetworkAnswer}
 use Rattle.networks.specs.Reader.{octetAt, dotOctetAt, readIp4}
 use Rattle.networks.proofs.Laws.Readings.{number-elim, octet-elim, network-answer}
@@ -122,7 +122,7 @@ pub ip4-made : (s : List ℕ) (a : Address) → readIp4 s ≡ Is a → Ip4Made s
 ip4-made s a e = subst (Ip4Right s) e (ip4-right s)
 
 pub ip4-sound : (s : List ℕ) (a : Address) → readIp4 s ≡ Is a → Network4 s a
-ip4-sound s a e = let m = ip4-made s a e in subst (Network4 s) (sym (m .value)) (network (m .written))
+ip4-sound s a e = let m = ip4-made s a e in subst (Network4 s) (sym (m .value)) (of-octets (m .written))
 
 -- what the grammar makes is read
 module _ {s : List ℕ} {i j : ℕ} {w : List ℕ} {o : ℕ} (q : Qnum w o) (stops : isIn Digit (at s j) ≡ false) where
@@ -160,7 +160,7 @@ ip4-octets (octets {p = p} {q = q} {r = r} {s = t} {a = a} {b = b} {c = c} {d = 
     )
 
 pub ip4-complete : (s : List ℕ) (a : Address) → Network4 s a → readIp4 s ≡ Is a
-ip4-complete s a (network n) = ip4-octets n
+ip4-complete s a (of-octets n) = ip4-octets n
 
 -- the answer of `read_ip4`
 pub ip4-answer : (s : List ℕ) (r : Network) → r ≡ readIp4 s → (r ≡ readIp4 s) × NetworkAnswer (Network4 s) r

@@ -11,9 +11,9 @@ use borrow.Author.Tests.{eq-eqb, eqb-true, leb-true, ltb-true, lt-ltb, le-ltb, l
 use Rattle.text.proofs.Laws.Tests.{cond-elim}
 use Rattle.text.proofs.Laws.Spans.{rest-part}
 use Rattle.address.specs.declared.Address.{Address}
-use Rattle.networks.specs.Grammar.{Side, Ip6Network, full, short, Network6, network}
+use Rattle.networks.specs.Grammar.{Side, Ip6Network, full, short, Network6, of-groups, addressOf}
 use Rattle.networks.specs.Answers.{NetworkAnswer}
-use Rattle.networks.specs.Reader6.{doubleColon, Reading, groups, refused, readRow, readSide, addressOf, filled, fullOf, shortOf, readIp6}
+use Rattle.networks.specs.Reader6.{doubleColon, Reading, groups, refused, readRow, readSide, fullOf, shortOf, readIp6}
 use Rattle.networks.specs.declared.Network.{Network}
 use Rattle.networks.specs.declared.Network.the-variants.{Is, NoNetwork}
 use Rattle.networks.proofs.Laws.Readings.{network-answer}
@@ -26,16 +26,16 @@ Ip6Right s (Is a) = Network6 s a
 Ip6Right s NoNetwork = Unit {0}
 
 full-right : (s : List ℕ) (x : Reading) → RowRight true s x → Ip6Right s (fullOf x)
-unfolding fullOf addressOf
+unfolding fullOf
 full-right s (groups gs) r =
-    cond-elim (Ip6Right s) (eqb (length gs) 8) (λ e. network (full r (eqb-true (length gs) 8 e))) (λ _. tt)
+    cond-elim (Ip6Right s) (eqb (length gs) 8) (λ e. of-groups (full r (eqb-true (length gs) 8 e))) (λ _. tt)
 full-right s refused r = tt
 
 short-right : (u w : List ℕ) (x y : Reading) → SideRight false u x → SideRight true w y → Ip6Right (u ++ (58 ∷ 58 ∷ w)) (shortOf x y)
-unfolding shortOf addressOf filled
+unfolding shortOf
 short-right u w (groups ls) (groups rs) b a =
     cond-elim (Ip6Right (u ++ (58 ∷ 58 ∷ w))) (leb (length ls + length rs) 7)
-    (λ e. network (short {u = u} {w = w} {ls = ls} {rs = rs} b a (leb-true (length ls + length rs) 7 e))) (λ _. tt)
+    (λ e. of-groups (short {u = u} {w = w} {ls = ls} {rs = rs} b a (leb-true (length ls + length rs) 7 e))) (λ _. tt)
 short-right u w (groups ls) refused b a = tt
 short-right u w refused y b a = tt
 
@@ -59,7 +59,7 @@ side-double Side.nothing t = double-at t
 side-double (Side.row r) t = row-double r (58 ∷ 58 ∷ t) (double-at t) .place
 
 pub groups-read : {w gs : List ℕ} → Ip6Network w gs → readIp6 w ≡ Is (addressOf gs)
-unfolding readIp6 fullOf shortOf filled
+unfolding readIp6 fullOf shortOf
 groups-read (full {w = w} {gs = gs} r e) =
     let d : doubleColon w ≡ length w = rw append-nil at (row-double r [] double-empty .place) in
     rw (le-ltb (doubleColon w) (length w) (omega arith), row-complete r, eq-eqb (length gs) 8 e)
@@ -72,8 +72,7 @@ groups-read (short {u = u} {w = w} {ls = ls} {rs = rs} b a h) =
     rw (d, lt-ltb (length u) (length s) inside, left, right, side-complete b, side-complete a, le-leb (length ls + length rs) 7 h)
 
 pub ip6-complete : (s : List ℕ) (a : Address) → Network6 s a → readIp6 s ≡ Is a
-unfolding addressOf
-ip6-complete s a (network n) = groups-read n
+ip6-complete s a (of-groups n) = groups-read n
 
 -- a text writes one address, which tells a reader that the production isn't ambiguous
 pub ip6-one : (s : List ℕ) (a b : Address) → Network6 s a → Network6 s b → a ≡ b

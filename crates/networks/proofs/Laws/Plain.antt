@@ -13,7 +13,7 @@ use Rattle.text.specs.Bytes.{at, within, isDigit, isHexDigit, isNotSlash, isNot
 use Rattle.text.specs.Lists.{all}
 use Rattle.text.proofs.Laws.Parts.{all-none, all-cons, all-join-by, all-inside}
 use Rattle.text.proofs.Laws.Classes.{apart, within-range, range-within}
-use Rattle.networks.specs.Grammar.{Qnum, Ip4Network, octets, Group, digits, Row, Side, Ip6Network, full, short, Network4, Network6, CidrLength, slash, OptionalLength, absent, present, DualCidrLength, four-only, both}
+use Rattle.networks.specs.Grammar.{Qnum, Ip4Network, octets, Group, digits, Row, Side, Ip6Network, full, short, Network4, Network6, CidrLength, slash, OptionalLength, absent, present, DualCidrLength, four-only, both, addressOf}
 use Rattle.networks.proofs.Laws.Numbers.{number-digits, qnum-number}
 
 pub record Plain (w : List ℕ) : Type 0 where
@@ -67,24 +67,25 @@ hex-not-space b h = ap not (apart isHexDigit b 32 h refl)
 
 pub network4-plain : {w : List ℕ} {a : Address} → Network4 w a → Plain w
 unfolding isNotSlash isNotSpace
-network4-plain (Network4.network n) = record {
+network4-plain (Network4.of-octets n) = record {
   no-slash = ip4-bytes isNotSlash hex-not-slash refl n;
   no-space = ip4-bytes isNotSpace hex-not-space refl n;
 }
 
 pub network6-plain : {w : List ℕ} {a : Address} → Network6 w a → Plain w
 unfolding isNotSlash isNotSpace
-network6-plain (Network6.network n) = record {
+network6-plain (Network6.of-groups n) = record {
   no-slash = ip6-bytes isNotSlash hex-not-slash refl refl n;
   no-space = ip6-bytes isNotSpace hex-not-space refl refl n;
 }
 
 -- the family of a network's address
 pub network4-family : {w : List ℕ} {a : Address} → Network4 w a → (v : ℕ) × (a ≡ IPv4 v)
-network4-family (Network4.network {os = os} n) = (valueOf os, refl)
+network4-family (Network4.of-octets {os = os} n) = (valueOf os, refl)
 
 pub network6-family : {w : List ℕ} {a : Address} → Network6 w a → (h : ℕ) × (l : ℕ) × (a ≡ IPv6 h l)
-network6-family (Network6.network n) = (_, _, refl)
+unfolding addressOf
+network6-family (Network6.of-groups n) = (_, _, refl)
 
 -- a slash and then a number
 pub digit-length : (b : ℕ) → isDigit b ≡ true → isLengthByte b ≡ true

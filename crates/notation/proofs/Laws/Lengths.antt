@@ -13,7 +13,7 @@ use Rattle.address.specs.Octets.{octetsOf, octets}
 use Rattle.address.specs.declared.Address.{Address}
 use Rattle.address.specs.declared.Address.the-variants.{IPv4, IPv6}
 use Rattle.notation.specs.Digits.{digit, numeral, inDecimal, inHex}
-use Rattle.notation.specs.Forms.{nibbles, groups, octetTexts, nibbleTexts, dotted, readable, family, reversedName}
+use Rattle.notation.specs.Forms.{nibbles, hexGroups, octetTexts, nibbleTexts, dotted, readable, family, reversedName}
 use Rattle.notation.proofs.Laws.Numerals.{quotient-small}
 
 -- a numeral has at most the digits that it is given, and at most those that its number needs
@@ -74,7 +74,7 @@ length-dotted (IPv4 v) = let h = length-four (v / 256 / 256 / 256) (v / 256 / 25
 length-dotted (IPv6 high low) = let h = length-nibbles high low in omega arith
 
 pub length-readable : (a : Address) → length (readable a) ≤ 39
-unfolding readable octets octetsOf octetTexts groups
+unfolding readable octets octetsOf octetTexts hexGroups
 length-readable (IPv4 v) = let h = length-four (v / 256 / 256 / 256) (v / 256 / 256) (v / 256) v in omega arith
 length-readable (IPv6 high low) = length-groups _ _ _ _ _ _ _ _
 

@@ -20,7 +20,7 @@ use Rattle.address.specs.Octets.{octetsOf, octets}
 use Rattle.address.specs.declared.Address.{Address}
 use Rattle.address.specs.declared.Address.the-variants.{IPv4, IPv6}
 use Rattle.notation.specs.Digits.{digit, numeral, inDecimal, inHex}
-use Rattle.notation.specs.Forms.{nibbles, groups, octetTexts, nibbleTexts, dotted, readable, family, reversedName}
+use Rattle.notation.specs.Forms.{nibbles, hexGroups, octetTexts, nibbleTexts, dotted, readable, family, reversedName}
 use Rattle.notation.specs.Rows.{partsOf, textOf, ordered, place, separated, row}
 use Rattle.notation.specs.declared.Parts.{Parts}
 use Rattle.notation.specs.declared.Parts.the-variants.{Octets, Nibbles, Groups}
@@ -46,14 +46,14 @@ nibble-odd (o ∷ s) (suc zero) h = refl
 nibble-odd (o ∷ s) (suc (suc i)) h = let e : suc (suc i) / 2 ≡ suc (i / 2) = omega arith in rw e (nibble-odd s i (λ z. h (omega arith)))
 
 -- groups
-pub length-groups : (s : List ℕ) → length (groups s) ≡ length s / 2
-unfolding groups
+pub length-groups : (s : List ℕ) → length (hexGroups s) ≡ length s / 2
+unfolding hexGroups
 length-groups [] = refl
 length-groups (o ∷ []) = refl
 length-groups (o ∷ u ∷ s) = let h = length-groups s in omega arith
 
-group-at : (s : List ℕ) (i : ℕ) → i < length s / 2 → getD (groups s) i 0 ≡ 256 * getD s (2 * i) 0 + getD s (2 * i + 1) 0
-unfolding groups
+group-at : (s : List ℕ) (i : ℕ) → i < length s / 2 → getD (hexGroups s) i 0 ≡ 256 * getD s (2 * i) 0 + getD s (2 * i + 1) 0
+unfolding hexGroups
 group-at [] i h = absurd (omega arith)
 group-at (o ∷ []) i h = absurd (omega arith)
 group-at (o ∷ u ∷ s) zero h = refl
@@ -72,11 +72,11 @@ module _ (s : List ℕ) (i b o : ℕ) (e : b ≡ getD s (i / 2) 0) (w : (o ≡ b
 
 module _ (s : List ℕ) (i : ℕ) where
   pub group-here : i < length s / 2 → (x y : ℕ) → (x ≡ getD s (2 * i) 0) × (x < 256) → (y ≡ getD s (2 * i + 1) 0) × (y < 256)
-      → (256 * x + y ≡ getD (groups s) i 0) × (256 * x + y < 65536)
+      → (256 * x + y ≡ getD (hexGroups s) i 0) × (256 * x + y < 65536)
   group-here h x y p q = (rw (group-at s i h, ← (p .0), ← (q .0)), omega arith)
 
-  pub group-past : length s / 2 ≤ i → (0 ≡ getD (groups s) i 0) × (0 < 65536)
-  group-past h = (sym (List·getD-eq-default (groups s) 0 (rw length-groups h)), omega arith)
+  pub group-past : length s / 2 ≤ i → (0 ≡ getD (hexGroups s) i 0) × (0 < 65536)
+  group-past h = (sym (List·getD-eq-default (hexGroups s) 0 (rw length-groups h)), omega arith)
 
 -- `count`
 module _ (parts : Parts) (s : List ℕ) where
@@ -104,7 +104,7 @@ module _ (parts : Parts) (s : List ℕ) (i : ℕ) (out : List ℕ) (at : ℕ) (a
   unfolding partsOf textOf
   part-nibble e p d q w = rw (e, ← (p .0), ← q) w
 
-  pub part-group : parts ≡ Groups → (v ≡ getD (groups s) i 0) × (v < 65536)
+  pub part-group : parts ≡ Groups → (v ≡ getD (hexGroups s) i 0) × (v < 65536)
       → ((f : ℕ) → v < 16 ^ suc f → Wrote (numeral f 16 v) out at after next)
       → Wrote (textOf parts (getD (partsOf parts s) i 0)) out at after next
   unfolding partsOf textOf inHex

@@ -8,25 +8,27 @@ use native.Mathlib.Omega.{arith}
 use native.Mathlib.Nat.{sub-self}
 use lib.ListN.{length, length-drop, length-append}
 use lib.Dec.{eqb}
-use borrow.Author.Tests.{eq-eqb, ne-eqb, le-ltb}
+use borrow.Author.Tests.{eq-eqb, ne-eqb, eqb-true, le-ltb}
 use types.Run.{OneOf, miss}
 use denote.Enum.Declared.{tagOf, declared}
+use Rattle.address.specs.declared.Address.{Address}
+use Rattle.address.specs.declared.Address.the-variants.{IPv4, IPv6}
 use Rattle.text.specs.Bytes.{at, part}
 use Rattle.text.specs.Lists.{sameWord}
 use Rattle.text.specs.Texts.{bytes}
 use Rattle.text.specs.Runs.{isIn, runEnd}
 use Rattle.text.specs.declared.bytes.Class.the-variants.{Space, NotSpace}
+use Rattle.text.proofs.Laws.Tests.{cond-elim}
 use Rattle.text.proofs.Laws.Spans.{part-past}
-use Rattle.records.specs.Readings.{Placed}
+use Rattle.records.specs.Readings.{Optional, absent, present, Placed, bytesOr, argumentBytes}
 use Rattle.records.specs.declared.Term.{Term}
 use Rattle.records.specs.declared.Token.{Token}
 use Rattle.records.specs.declared.TermAnswer.{TermAnswer}
 use Rattle.records.specs.declared.RecordAnswer.{RecordAnswer}
-use Rattle.records.specs.Numbers.{argumentOf, TermReport, term, termReport, recordReport}
-use Rattle.records.specs.Answers.{TermAnswers, RecordAnswers}
-use Rattle.records.specs.Reader.{tokenOf, tokenAnswer, termFrom, readTerm, isRedirect, isExplanation, checkAfter, checkFrom, hasVersion, readRecord}
+use Rattle.records.specs.Numbers.{optional, networkSaid, saidOf, TermReport, term, termReport}
+use Rattle.records.specs.Answers.{most-bytes, TermAnswers, ReadsRecord, ReadsTerm, ReadsArgument}
+use Rattle.records.specs.Reader.{tokenOf, tokenAnswer, termFrom, readTerm, isRedirect, isExplanation, checkAfter, checkFrom, hasVersion, readRecord, after-version}
 use Rattle.records.proofs.Term as term-type
-use Rattle.records.proofs.TermAnswer as answer-type
 use Rattle.records.proofs.Laws.Terms.{read-long, read-past, term-answers}
 use Rattle.records.proofs.Laws.Walks.{check-twice, check-on}
 use Rattle.records.proofs.Laws.Records.{read-record-long, read-record-other, read-record-terms, record-answers}
@@ -52,19 +54,19 @@ module _ (s : List ℕ) (p : ℕ) (some : p ≡ length s → ⊥) (e : ℕ) (q :
 
 -- `read_term`
 module _ (s : List ℕ) (i : ℕ) where
-  pub term-answered : (r : TermAnswer) → r ≡ readTerm s i → (r ≡ readTerm s i) × TermAnswers s i (termReport s r)
-  term-answered r e = (e, subst (λ (x : TermAnswer). TermAnswers s i (termReport s x)) (sym e) (term-answers s i))
+  pub term-answered : (r : TermAnswer) → r ≡ readTerm s i → (r ≡ readTerm s i) × ReadsTerm s i r
+  term-answered r e = (e, subst (ReadsTerm s i) (sym e) (term-answers s i))
 
-  pub term-long : 4096 < length s → TermAnswer.Refused 30 0 ≡ readTerm s i
+  pub term-long : most-bytes < length s → TermAnswer.Refused 30 0 ≡ readTerm s i
   term-long h = sym (read-long s i h)
 
-  module _ (short : length s ≤ 4096) where
+  module _ (short : length s ≤ most-bytes) where
     pub term-past : length s < i → TermAnswer.Refused 34 i ≡ readTerm s i
     term-past h = sym (read-past s i short h)
 
     pub term-found : i ≤ length s → (p : ℕ) → p ≡ runEnd (isIn Space) s i → (r : TermAnswer) → r ≡ termFrom s p → r ≡ readTerm s i
     unfolding readTerm
-    term-found h p q r e = e ∙ sym (simp (le-ltb 4096 (length s) short, le-ltb (length s) i h, q))
+    term-found h p q r e = e ∙ sym (simp (le-ltb most-bytes (length s) short, le-ltb (length s) i h, q))
 
 -- the next place of a term lies further on and inside
 term-next : (s : List ℕ) (i : ℕ) (r : TermAnswer) → r ≡ readTerm s i → (p e : ℕ) (t : Term) → r ≡ TermAnswer.Is p e t → (i < e) × (e ≤ length s)
@@ -92,33 +94,59 @@ part-none w = simp (sub-self (length w))
 pub value-none : (w : List ℕ) (name to : ℕ) → length w ≤ name → (r : List ℕ) → r ≡ part w (length w) (length w) → r ≡ part w (name + 1) to
 value-none w name to h r e = e ∙ part-none w ∙ part-past w (name + 1) (omega arith) to
 
--- `argument`
+-- `argument`: the bytes of an argument that may be absent, and of a network's text
+pub optional-bytes : (w : List ℕ) (from to : ℕ) → bytesOr (optional w from to) ≡ part w from to
+optional-bytes w from to = cond-elim (λ (x : Optional (List ℕ)). bytesOr x ≡ part w from to) (eqb from to) {x = absent} {y = present (part w from to)}
+    (λ q. let e = eqb-true from to q in sym (rw (e, sub-self to) refl)) (λ _. refl)
+
+pub network-bytes : (sign : ℕ) (text : List ℕ) (a : Address) (n : ℕ) → argumentBytes (networkSaid sign text a n) ≡ text
+network-bytes sign text (IPv4 v) n = refl
+network-bytes sign text (IPv6 h l) n = refl
+
 module _ (s : List ℕ) (i next : ℕ) (w : List ℕ) (p : w ≡ part s i next) (t : Term) (r : List ℕ) where
-  pub argument-by : (x : Term) → t ≡ x → r ≡ argumentOf w x → r ≡ argumentOf (part s i next) t
+  pub argument-by : (x : Term) → t ≡ x → r ≡ argumentBytes (saidOf w x) → ReadsArgument s i next t r
   argument-by x e h = h ∙ simp (p, e)
 
-  pub argument-none : (sign : ℕ) → t ≡ Term.All sign → r ≡ part w (length w) (length w) → r ≡ argumentOf (part s i next) t
-  unfolding argumentOf
-  argument-none sign e h = h ∙ part-none w ∙ sym (simp e)
+  module _ (sign : ℕ) where
+    pub argument-all : t ≡ Term.All sign → r ≡ part w (length w) (length w) → ReadsArgument s i next t r
+    unfolding saidOf
+    argument-all e h = argument-by (Term.All sign) e (h ∙ part-none w)
+
+    module _ (from to : ℕ) where
+      pub argument-a : (n m : ℕ) → t ≡ Term.A sign from to n m → r ≡ part w from to → ReadsArgument s i next t r
+      unfolding saidOf
+      argument-a n m e h = argument-by (Term.A sign from to n m) e (h ∙ sym (optional-bytes w from to))
+
+      pub argument-mx : (n m : ℕ) → t ≡ Term.Mx sign from to n m → r ≡ part w from to → ReadsArgument s i next t r
+      unfolding saidOf
+      argument-mx n m e h = argument-by (Term.Mx sign from to n m) e (h ∙ sym (optional-bytes w from to))
+
+      pub argument-ptr : t ≡ Term.Ptr sign from to → r ≡ part w from to → ReadsArgument s i next t r
+      unfolding saidOf
+      argument-ptr e h = argument-by (Term.Ptr sign from to) e (h ∙ sym (optional-bytes w from to))
+
+      pub argument-network : (a : Address) (n : ℕ) → t ≡ Term.Network sign from to a n → r ≡ part w from to → ReadsArgument s i next t r
+      unfolding saidOf
+      argument-network a n e h = argument-by (Term.Network sign from to a n) e (h ∙ sym (network-bytes sign (part w from to) a n))
 
 -- `has_version`
-module _ (s t : List ℕ) (p : t ≡ part s 0 6) (x : Bool) (q : x ≡ sameWord t (bytes "v=spf1")) where
-  version : sameWord (part s 0 6) (bytes "v=spf1") ≡ x
+module _ (s t : List ℕ) (p : t ≡ part s 0 after-version) (x : Bool) (q : x ≡ sameWord t (bytes "v=spf1")) where
+  version : sameWord (part s 0 after-version) (bytes "v=spf1") ≡ x
   version = ap (λ (u : List ℕ). sameWord u (bytes "v=spf1")) (sym p) ∙ sym q
 
-  pub version-alone : x ≡ true → length s ≡ 6 → true ≡ hasVersion s
+  pub version-alone : x ≡ true → length s ≡ after-version → true ≡ hasVersion s
   unfolding hasVersion
-  version-alone h e = sym (simp (version ∙ h, eq-eqb (length s) 6 e))
+  version-alone h e = sym (simp (version ∙ h, eq-eqb (length s) after-version e))
 
-  pub version-space : x ≡ true → (length s ≡ 6 → ⊥) → (b : ℕ) → b ≡ at s 6 → eqb b 32 ≡ hasVersion s
+  pub version-space : x ≡ true → (length s ≡ after-version → ⊥) → (b : ℕ) → b ≡ at s after-version → eqb b 32 ≡ hasVersion s
   unfolding hasVersion
-  version-space h e b g = sym (simp (version ∙ h, ne-eqb (length s) 6 e, g))
+  version-space h e b g = sym (simp (version ∙ h, ne-eqb (length s) after-version e, g))
 
   pub version-other : x ≡ false → false ≡ hasVersion s
   unfolding hasVersion
   version-other h = sym (simp (version ∙ h))
 
-pub version-read : (s : List ℕ) (x : Bool) → x ≡ hasVersion s → x ≡ true → 6 ≤ length s
+pub version-read : (s : List ℕ) (x : Bool) → x ≡ hasVersion s → x ≡ true → after-version ≤ length s
 version-read s x p q = version-inside (version-of s (sym p ∙ q))
 
 -- `is_redirect`, `is_explanation`, where a term is of another case
@@ -197,10 +225,6 @@ pub checking-start : (s : List ℕ) (i : ℕ) → i ≤ length s → Checking s 
 checking-start s i h = record { inside = h; rest = λ x g. g }
 
 module _ (s : List ℕ) (i₀ i : ℕ) (r e : Bool) (w : Checking s i₀ i r e) where
-  -- the place never passes the record's end
-  pub checking-past : length s < i → (x : RecordAnswer) → (f : ℕ) → length s < f + i₀ → x ≡ checkFrom f s i₀ false false
-  checking-past h = absurd (omega (arith, w .inside))
-
   module _ (a : TermAnswer) (p : a ≡ readTerm s i) where
     pub checking-ended : (x : RecordAnswer) → ((rest : ℕ → Bool → Bool → RecordAnswer) → x ≡ checkAfter r e a rest)
         → (f : ℕ) → length s < f + i₀ → x ≡ checkFrom f s i₀ false false
@@ -223,15 +247,15 @@ module _ (s : List ℕ) (i₀ i : ℕ) (r e : Bool) (w : Checking s i₀ i r e) 
 
 -- `read_record`
 module _ (s : List ℕ) where
-  pub record-answered : (r : RecordAnswer) → r ≡ readRecord s → (r ≡ readRecord s) × RecordAnswers s (recordReport r)
-  record-answered r e = (e, subst (λ (x : RecordAnswer). RecordAnswers s (recordReport x)) (sym e) (record-answers s))
+  pub record-answered : (r : RecordAnswer) → r ≡ readRecord s → (r ≡ readRecord s) × ReadsRecord s r
+  record-answered r e = (e, subst (ReadsRecord s) (sym e) (record-answers s))
 
-  pub record-long : 4096 < length s → RecordAnswer.Refused 30 0 ≡ readRecord s
+  pub record-long : most-bytes < length s → RecordAnswer.Refused 30 0 ≡ readRecord s
   record-long h = sym (read-record-long s h)
 
-  module _ (short : length s ≤ 4096) (x : Bool) (p : x ≡ hasVersion s) where
+  module _ (short : length s ≤ most-bytes) (x : Bool) (p : x ≡ hasVersion s) where
     pub record-other : x ≡ false → RecordAnswer.Refused 31 0 ≡ readRecord s
     record-other h = sym (read-record-other s short (sym p ∙ h))
 
-    pub record-checked : x ≡ true → (r : RecordAnswer) → ((f : ℕ) → length s < f + 6 → r ≡ checkFrom f s 6 false false) → r ≡ readRecord s
+    pub record-checked : x ≡ true → (r : RecordAnswer) → ((f : ℕ) → length s < f + after-version → r ≡ checkFrom f s after-version false false) → r ≡ readRecord s
     record-checked h r g = g (suc (length s)) (omega arith) ∙ sym (read-record-terms s short (sym p ∙ h))

@@ -1,18 +1,104 @@
--- Reading a record and then its terms, as one claim: from soundness, completeness and the walk (Records).
-use Prim.Native.Nat.{ℕ, _≤_}
-use mathlib.Core.Path.{sym, subst}
-use mathlib.Core.List.{List}
-use lib.ListN.{length}
-use Rattle.records.specs.Readings.{Placed}
-use Rattle.records.specs.Reader.{Reads}
-use Rattle.records.specs.Claim.{Claim}
-use Rattle.records.proofs.Laws.Records.{record-complete, record-sound, reads-one, one-reading}
+-- Reading a record, its terms and their arguments, as one claim of any answers that meet the three promises, and that there are such answers. From
+-- what the promises determine (Records, Terms), completeness and the one walk (Records).
+use Prim.Native.Nat.{ℕ}
+use mathlib.Core.Path.{_≡_, refl, sym, ap, subst, _∙_}
+use mathlib.Core.List.{List, [], _∷_}
+use native.Mathlib.Omega.{arith}
+use Rattle.text.specs.Bytes.{part}
+use Rattle.records.specs.Readings.{Placed, argumentBytes}
+use Rattle.records.specs.Grammar.{Record}
+use Rattle.records.specs.Numbers.{accepted, recordReport, saidOf, end, term, termReport}
+use Rattle.records.specs.Answers.{ReadsRecord}
+use Rattle.records.specs.Reader.{readRecord, readTerm, Reads, after-version}
+use Rattle.records.specs.Claim.{Calls, Told, Walks, told, Claim}
+use Rattle.records.specs.declared.Term.{Term}
+use Rattle.records.specs.declared.TermAnswer.{TermAnswer}
+use Rattle.records.specs.declared.RecordAnswer.{RecordAnswer}
+use Rattle.records.proofs.Laws.Terms.{term-answers, term-answers-is}
+use Rattle.records.proofs.Laws.Records.{record-complete, reads-one, one-reading, record-answers, Accepting, accepting, record-answers-is}
 
-pub claim : (s : List ℕ) → length s ≤ 4096 → Claim s
-claim s h = record {
-  accepts = ((λ e. record-sound s 6 e), (λ d. record-complete (d .1) h .accepted));
-  one = λ ts us d e. one-reading h d e;
-  walks = λ ts us d.
-      let w = record-complete d h .walk in
-      ((λ t. reads-one t w), (λ e. subst (λ (x : List Placed). Reads s 6 x) (sym e) w));
+-- answers by what is reported of them
+accepted-of : (r : RecordAnswer) (n : ℕ) → recordReport r ≡ accepted n → r ≡ RecordAnswer.Accepted n
+accepted-of (RecordAnswer.Accepted m) n e = cc
+accepted-of (RecordAnswer.Refused number p) n e = let z : _≡_ {A = ℕ} 0 1 = cc in absurd (omega arith)
+
+end-of : (s : List ℕ) (r : TermAnswer) → termReport s r ≡ end → r ≡ TermAnswer.End
+end-of s TermAnswer.End e = refl
+end-of s (TermAnswer.Refused number p) e = let z : _≡_ {A = ℕ} 0 1 = cc in absurd (omega arith)
+end-of s (TermAnswer.Is at next x) e = let z : _≡_ {A = ℕ} 0 1 = cc in absurd (omega arith)
+
+record TermOf (s : List ℕ) (r : TermAnswer) (next : ℕ) (t : Placed) : Type 0 where
+  at : ℕ
+  found : Term
+  is : r ≡ TermAnswer.Is at next found
+  says : t ≡ record { place = at; said = saidOf (part s at next) found }
+
+term-of : (s : List ℕ) (r : TermAnswer) (next : ℕ) (t : Placed) → termReport s r ≡ term next t → TermOf s r next t
+term-of s TermAnswer.End next t e = let z : _≡_ {A = ℕ} 0 1 = cc in absurd (omega arith)
+term-of s (TermAnswer.Refused number p) next t e = let z : _≡_ {A = ℕ} 0 1 = cc in absurd (omega arith)
+term-of s (TermAnswer.Is at e x) next t q =
+    let n : e ≡ next = cc in
+    let p : t ≡ record { place = at; said = saidOf (part s at e) x } = cc in
+    record { at = at; found = x; is = ap (λ (k : ℕ). TermAnswer.Is at k x) n; says = p ∙ ap (λ (k : ℕ). record { place = at; said = saidOf (part s at k) x }) n }
+
+module _ {s : List ℕ} (calls : Calls s) where
+  -- a term's report is the reader's
+  report-is : (i : ℕ) → termReport s (calls .term-answer i) ≡ termReport s (readTerm s i)
+  report-is i = term-answers-is s i _ (calls .terms-promised i)
+
+  -- a walk of the calls is one of the reader, with the arguments
+  walks-reads : {i : ℕ} {us : List Told} → Walks calls i us → (ts : List Placed) × (Reads s i ts × (us ≡ told ts))
+  walks-reads {i} (Walks.stop e) = ([], (Reads.stop (sym (report-is i) ∙ ap (termReport s) e), refl))
+  walks-reads {i} (Walks.step {at = at} {next = next} {x = x} {ts = us} e w) =
+      let t : Placed = record { place = at; said = saidOf (part s at next) x } in
+      let r = walks-reads w in (
+        t ∷ r .0,
+        (
+          Reads.step (sym (report-is i) ∙ ap (termReport s) e) (r .1 .0),
+          ap (λ (bytes : List ℕ). record { term = t; argument = bytes } ∷ us) (calls .arguments-promised at next x)
+              ∙ ap (λ (vs : List Told). record { term = t; argument = argumentBytes (t .said) } ∷ vs) (r .1 .1),
+        ),
+      )
+
+  reads-walks : {i : ℕ} {ts : List Placed} → Reads s i ts → Walks calls i (told ts)
+  reads-walks {i} (Reads.stop e) = Walks.stop (end-of s (calls .term-answer i) (report-is i ∙ e))
+  reads-walks {i} (Reads.step {next = next} {t = t} {ts = ts} e r) =
+      let o = term-of s (calls .term-answer i) next t (report-is i ∙ e) in
+      let a = calls .arguments-promised (o .at) next (o .found) in
+      subst (λ (u : Told). Walks calls i (u ∷ told ts))
+      (ap (λ (bytes : List ℕ). record { term = record { place = o .at; said = saidOf (part s (o .at) next) (o .found) }; argument = bytes }) a
+      ∙ ap (λ (y : Placed). record { term = y; argument = argumentBytes (y .said) }) (sym (o .says)))
+      (Walks.step (o .is) (reads-walks r))
+
+  accepted-by : (first : ℕ) → calls .record-answer ≡ RecordAnswer.Accepted first → Accepting s first
+  accepted-by first e = accepting s first (subst (ReadsRecord s) e (calls .record-promised))
+
+  walks-of : (first : ℕ) → calls .record-answer ≡ RecordAnswer.Accepted first → (ts : List Placed) → Record s ts → Reads s first ts
+  walks-of first e ts d =
+      let p = accepted-by first e in
+      subst (λ (i : ℕ). Reads s i ts) (sym (p .first)) (record-complete d (p .short) .walk)
+
+pub claim : (s : List ℕ) (calls : Calls s) → Claim s calls
+claim s calls = record {
+  accepts = (
+    (λ a. let p = accepted-by calls (a .0) (a .1) in (p .short, (p .terms, p .reading))),
+    (λ d. (after-version, accepted-of (calls .record-answer) after-version (record-answers-is s _ (calls .record-promised) ∙ ap recordReport (record-complete (d .1 .1) (d .0) .accepted)))),
+  );
+  one = λ h ts us d e. one-reading h d e;
+  walks = λ first a ts d us.
+      let r = walks-of calls first a ts d in (
+        (λ w. let x = walks-reads calls w in x .1 .1 ∙ ap told (reads-one (x .1 .0) r)),
+        (λ e. subst (Walks calls first) (sym e) (reads-walks calls r)),
+      );
+}
+
+-- there are such answers: the reader's
+pub calls-of : (s : List ℕ) → Calls s
+calls-of s = record {
+  record-answer = readRecord s;
+  record-promised = record-answers s;
+  term-answer = readTerm s;
+  terms-promised = term-answers s;
+  argument-answer = λ at next x. argumentBytes (saidOf (part s at next) x);
+  arguments-promised = λ at next x. refl;
 }

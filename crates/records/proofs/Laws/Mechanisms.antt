@@ -19,7 +19,7 @@ use Rattle.text.proofs.Laws.Tests.{cond-elim}
 use Rattle.text.proofs.Laws.Spans.{Span, span-join, span-word}
 use Rattle.text.proofs.Laws.Runs.{run-span, run-end-inside}
 use Rattle.text.proofs.Laws.Parts.{all-none, all-join}
-use Rattle.macros.specs.Grammar.{Piece, DomainSpecs}
+use Rattle.macros.specs.Grammar.{Piece, DomainSpec}
 use Rattle.networks.proofs.Laws.Plain.{LengthText, dual-text}
 use Rattle.records.specs.Readings.{Optional, absent, present, Said, mechanism, hosts}
 use Rattle.records.specs.Grammar.{Literal, OptionalSpec, without, with-spec, Mechanism}
@@ -28,7 +28,7 @@ use Rattle.records.specs.Reader.{kindOf, specAt, hostsAt, allOf, withSpe
 use Rattle.records.specs.declared.terms.Kind.{Kind}
 use Rattle.records.specs.declared.Term.{Term}
 use Rattle.records.specs.declared.Token.{Token}
-use Rattle.records.proofs.Laws.Names.{Word, literal-word, KindRight, kind-sound, Known, all-known, include-known, a-known, mx-known, ptr-known, ip4-known, ip6-known, exists-known, named, Unreserved}
+use Rattle.records.proofs.Laws.Names.{Word, literal-word, KindRight, kind-sound, Known, all-known, include-known, a-known, mx-known, ptr-known, ip4-known, ip6-known, exists-known, name-at, Unreserved}
 use Rattle.records.proofs.Laws.Specs.{solid-one, solid-bytes, solid-spec, Argument, spec-right, Optionally, argument-given, argument-absent, spec-absent, spec-given, spec-elim}
 use Rattle.records.proofs.Laws.Hosts.{hosts-elim, HostsMade, hosts-right, HostsRead, hosts-complete}
 use Rattle.records.proofs.Laws.Networks.{Family, four, six, network-sound, network-complete}
@@ -185,7 +185,7 @@ module _ {w name u rest : List ℕ} {i sign : ℕ} {x : Said} {kind : Kind} (kno
   read-by : ((k : ℕ) → Span w k (length w) rest → After (mechanismBy kind sign k w) w x) → MechanismRead w i sign x
   unfolding mechanismOf
   read-by f =
-      let r = named (literal-word (known .word) l) p (stops .no-name) in
+      let r = name-at (literal-word (known .word) l) p (stops .no-name) in
       let a = f (i + length u) (r .after) in
       record {
         term = a .term;
@@ -203,7 +203,7 @@ unfolding allOf saidOf
 all-after {w} {k} sign p = record { term = Term.All sign; read = simp (eq-eqb k (length w) (omega (arith, p .size))); says = refl }
 
 spec-after : {w d : List ℕ} {k : ℕ} {ps : List Piece} (term : ℕ → ℕ → Term) (say : List ℕ → Said)
-    → saidOf w (term (k + 1) (length w)) ≡ say (part w (k + 1) (length w)) → DomainSpecs d ps → Span w k (length w) (58 ∷ d)
+    → saidOf w (term (k + 1) (length w)) ≡ say (part w (k + 1) (length w)) → DomainSpec d ps → Span w k (length w) (58 ∷ d)
     → After (withSpec term k w) w (say d)
 unfolding withSpec
 spec-after {w} {d} {k} term say e s p =

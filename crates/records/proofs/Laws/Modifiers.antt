@@ -19,8 +19,9 @@ use Rattle.text.proofs.Laws.Words.{false-same, same-false}
 use Rattle.text.proofs.Laws.Spans.{Span, span-all, span-whole, span-join, span-cut, span-byte, span-word, span-part}
 use Rattle.text.proofs.Laws.Runs.{run-span, run-span-all}
 use Rattle.text.proofs.Laws.Parts.{all-cons, all-rest}
-use Rattle.macros.specs.declared.Form.the-variants.{DomainSpec, ModifierValue}
-use Rattle.macros.specs.Grammar.{Piece, MacroString, DomainSpecs}
+use Rattle.macros.specs.declared.Form.{Form}
+use Rattle.macros.specs.declared.Form.the-variants.{ModifierValue}
+use Rattle.macros.specs.Grammar.{Piece, MacroString, DomainSpec}
 use Rattle.macros.specs.Reader.{isMacroString}
 use Rattle.macros.proofs.Laws.Soundness.{sound}
 use Rattle.macros.proofs.Laws.Completeness.{complete}
@@ -30,18 +31,18 @@ use Rattle.records.specs.Numbers.{saidOf}
 use Rattle.records.specs.Reader.{modifierOf}
 use Rattle.records.specs.declared.Term.{Term}
 use Rattle.records.specs.declared.Token.{Token}
-use Rattle.records.proofs.Laws.Names.{alpha-name, Word, literal-word, redirect-word, exp-word, literal-of, literal-same, Named, named, Unreserved}
+use Rattle.records.proofs.Laws.Names.{alpha-name, Word, literal-word, redirect-word, exp-word, literal-of, literal-same, NameAt, name-at, Unreserved}
 use Rattle.records.proofs.Laws.Specs.{solid-spec, solid-string}
 use Rattle.records.proofs.Laws.Mechanisms.{solid-after}
 
 unreserved : (u : List ℕ) → sameWord u (bytes "redirect") ≡ false → sameWord u (bytes "exp") ≡ false → isReserved u ≡ false
-unfolding isReserved sameWord
+unfolding isReserved
 unreserved u h k = simp (h, k)
 
 -- the ways out of a modifier with its name up to k
 pub modifier-elim : (k : ℕ) (w : List ℕ) (P : Token → Type 0)
-    → (sameWord (part w 0 k) (bytes "redirect") ≡ true → isMacroString DomainSpec (part w (k + 1) (length w)) ≡ true → P (Token.Is (Term.Redirect (k + 1) (length w))))
-    → (sameWord (part w 0 k) (bytes "exp") ≡ true → isMacroString DomainSpec (part w (k + 1) (length w)) ≡ true → P (Token.Is (Term.Explanation (k + 1) (length w))))
+    → (sameWord (part w 0 k) (bytes "redirect") ≡ true → isMacroString Form.DomainSpec (part w (k + 1) (length w)) ≡ true → P (Token.Is (Term.Redirect (k + 1) (length w))))
+    → (sameWord (part w 0 k) (bytes "exp") ≡ true → isMacroString Form.DomainSpec (part w (k + 1) (length w)) ≡ true → P (Token.Is (Term.Explanation (k + 1) (length w))))
     → (isAlpha (at w 0) ≡ true → isReserved (part w 0 k) ≡ false → isMacroString ModifierValue (part w (k + 1) (length w)) ≡ true → P (Token.Is (Term.Unknown k (length w))))
     → P Token.Outside → P (modifierOf k w)
 unfolding modifierOf
@@ -50,9 +51,9 @@ modifier-elim k w P redirects explains others outside =
     let value = part w (k + 1) (length w) in
     cond-elim P (isAlpha (at w 0))
     (λ a. cond-elim P (sameWord name (bytes "redirect"))
-    (λ h. cond-elim P (isMacroString DomainSpec value) (redirects h) (λ _. outside))
+    (λ h. cond-elim P (isMacroString Form.DomainSpec value) (redirects h) (λ _. outside))
     (λ h. cond-elim P (sameWord name (bytes "exp"))
-    (λ q. cond-elim P (isMacroString DomainSpec value) (explains q) (λ _. outside))
+    (λ q. cond-elim P (isMacroString Form.DomainSpec value) (explains q) (λ _. outside))
     (λ q. cond-elim P (isMacroString ModifierValue value) (others a (unreserved name h q)) (λ _. outside))))
     (λ _. outside)
 
@@ -87,11 +88,11 @@ module _ (w : List ℕ) (k : ℕ) (p : Span w 0 k (part w 0 k)) (names : all isN
   unfolding saidOf
   modifier-made = modifier-elim k w (ModifierRight w)
       (λ h m. record {
-        made = at-whole (Modifier.redirect {w = part w 0 k} (literal-of (bytes "redirect") (part w 0 k) h) (sound DomainSpec (part w (k + 1) (length w)) m));
+        made = at-whole (Modifier.redirect {w = part w 0 k} (literal-of (bytes "redirect") (part w 0 k) h) (sound Form.DomainSpec (part w (k + 1) (length w)) m));
         other = tt;
       })
       (λ h m. record {
-        made = at-whole (Modifier.explanation {w = part w 0 k} (literal-of (bytes "exp") (part w 0 k) h) (sound DomainSpec (part w (k + 1) (length w)) m));
+        made = at-whole (Modifier.explanation {w = part w 0 k} (literal-of (bytes "exp") (part w 0 k) h) (sound Form.DomainSpec (part w (k + 1) (length w)) m));
         other = tt;
       })
       (λ a n m. record {
@@ -127,9 +128,9 @@ equals-no-name : isNameByte 61 ≡ false
 unfolding isNameByte isAlphanumeric isAlpha isUpper isDigit within
 equals-no-name = refl
 
-read-by : {u v : List ℕ} {x : Said} → Word u → ((k : ℕ) → Named (u ++ (61 ∷ v)) 0 k u (61 ∷ v) → After (u ++ (61 ∷ v)) k x) → ModifierRead (u ++ (61 ∷ v)) x
+read-by : {u v : List ℕ} {x : Said} → Word u → ((k : ℕ) → NameAt (u ++ (61 ∷ v)) 0 k u (61 ∷ v) → After (u ++ (61 ∷ v)) k x) → ModifierRead (u ++ (61 ∷ v)) x
 read-by {u} {v} {x} word f =
-    let r = named word (span-all (u ++ (61 ∷ v))) equals-no-name in
+    let r = name-at word (span-all (u ++ (61 ∷ v))) equals-no-name in
     let a = f (0 + length u) r in
     record {
       term = a .term;
@@ -139,40 +140,40 @@ read-by {u} {v} {x} word f =
       equals = eq-eqb (at (u ++ (61 ∷ v)) (runEnd (isIn NameByte) (u ++ (61 ∷ v)) 0)) 61 (ap (at (u ++ (61 ∷ v))) (r .ends) ∙ r .follows);
     }
 
-value-part : {w u v : List ℕ} {k : ℕ} → Named w 0 k u (61 ∷ v) → part w (k + 1) (length w) ≡ v
+value-part : {w u v : List ℕ} {k : ℕ} → NameAt w 0 k u (61 ∷ v) → part w (k + 1) (length w) ≡ v
 value-part {v = v} r = span-word (span-cut (61 ∷ []) v (r .after) .1)
 
 exp-no-redirect : (u : List ℕ) → Literal (bytes "exp") u → sameWord u (bytes "redirect") ≡ false
 unfolding sameWord same
 exp-no-redirect u l = rw (l .lowered)
 
-redirect-after : {w u d : List ℕ} {k : ℕ} {ps : List Piece} → Literal (bytes "redirect") u → DomainSpecs d ps → Named w 0 k u (61 ∷ d)
+redirect-after : {w u d : List ℕ} {k : ℕ} {ps : List Piece} → Literal (bytes "redirect") u → DomainSpec d ps → NameAt w 0 k u (61 ∷ d)
     → After w k (modifier (bytes "redirect") d)
 unfolding modifierOf saidOf
 redirect-after {w} {u} {d} {k} {ps} l s r = record {
   term = Term.Redirect (k + 1) (length w);
-  read = simp (r .first, span-word (r .front), literal-same (bytes "redirect") u l, value-part r, complete DomainSpec d ps s .0);
+  read = simp (r .first, span-word (r .front), literal-same (bytes "redirect") u l, value-part r, complete Form.DomainSpec d ps s .0);
   says = simp (value-part r);
 }
 
-explanation-after : {w u d : List ℕ} {k : ℕ} {ps : List Piece} → Literal (bytes "exp") u → DomainSpecs d ps → Named w 0 k u (61 ∷ d)
+explanation-after : {w u d : List ℕ} {k : ℕ} {ps : List Piece} → Literal (bytes "exp") u → DomainSpec d ps → NameAt w 0 k u (61 ∷ d)
     → After w k (modifier (bytes "exp") d)
 unfolding modifierOf saidOf
 explanation-after {w} {u} {d} {k} {ps} l s r = record {
   term = Term.Explanation (k + 1) (length w);
-  read = simp (r .first, span-word (r .front), exp-no-redirect u l, literal-same (bytes "exp") u l, value-part r, complete DomainSpec d ps s .0);
+  read = simp (r .first, span-word (r .front), exp-no-redirect u l, literal-same (bytes "exp") u l, value-part r, complete Form.DomainSpec d ps s .0);
   says = simp (value-part r);
 }
 
 no-redirect : (u : List ℕ) → isReserved u ≡ false → sameWord u (bytes "redirect") ≡ false
-unfolding isReserved sameWord
-no-redirect u h = or-false-left (same (map lower u) (bytes "redirect")) (same (map lower u) (bytes "exp")) h
+unfolding isReserved
+no-redirect u h = or-false-left (sameWord u (bytes "redirect")) (sameWord u (bytes "exp")) h
 
 no-exp : (u : List ℕ) → isReserved u ≡ false → sameWord u (bytes "exp") ≡ false
-unfolding isReserved sameWord
-no-exp u h = or-false-right (same (map lower u) (bytes "redirect")) (same (map lower u) (bytes "exp")) h
+unfolding isReserved
+no-exp u h = or-false-right (sameWord u (bytes "redirect")) (sameWord u (bytes "exp")) h
 
-unknown-after : {w u v : List ℕ} {k : ℕ} {ps : List Piece} → isReserved u ≡ false → MacroString ModifierValue v ps → Named w 0 k u (61 ∷ v)
+unknown-after : {w u v : List ℕ} {k : ℕ} {ps : List Piece} → isReserved u ≡ false → MacroString ModifierValue v ps → NameAt w 0 k u (61 ∷ v)
     → After w k (modifier u v)
 unfolding modifierOf saidOf
 unknown-after {w} {u} {v} {k} {ps} n m r = record {

@@ -147,7 +147,7 @@ unfolding kindOf laterKind sameWord same all isNameByte isAlphanumeric isAlpha i
 exists-known = record { word = record { letter = refl; names = refl }; is = λ w l. rw (l .lowered) }
 
 -- a name that begins at i and ends before k, and what stands from there on
-pub record Named (w : List ℕ) (i k : ℕ) (name rest : List ℕ) : Type 0 where
+pub record NameAt (w : List ℕ) (i k : ℕ) (name rest : List ℕ) : Type 0 where
   pub front : Span w i k name
   pub after : Span w k (length w) rest
   pub ends : runEnd (isIn NameByte) w i ≡ k
@@ -167,8 +167,8 @@ first-at : (u rest : List ℕ) → isAlpha (at u 0) ≡ true → isAlpha (at (u 
 first-at [] rest h = absurd (true-false (isAlpha 0) h alpha-zero)
 first-at (b ∷ u) rest h = h
 
-pub named : {w u rest : List ℕ} {i : ℕ} → Word u → Span w i (length w) (u ++ rest) → isNameByte (at rest 0) ≡ false → Named w i (i + length u) u rest
-named {w} {u} {rest} {i} k p n =
+pub name-at : {w u rest : List ℕ} {i : ℕ} → Word u → Span w i (length w) (u ++ rest) → isNameByte (at rest 0) ≡ false → NameAt w i (i + length u) u rest
+name-at {w} {u} {rest} {i} k p n =
     let c = span-cut u rest p in
     let f = last-at rest (c .1) in
     record {

@@ -22,6 +22,7 @@ use Rattle.text.proofs.Laws.Runs.{span-run, span-run-end, run-end-from, run-end
 use Rattle.networks.specs.Grammar.{Network4, Network6, Length4, Length6}
 use Rattle.networks.specs.Reader.{readIp4, readLength4, readLength6}
 use Rattle.networks.specs.Reader6.{readIp6}
+use Rattle.networks.proofs.Laws.Readings.{length-elim}
 use Rattle.networks.specs.declared.Network.{Network}
 use Rattle.networks.specs.declared.Length.{Length}
 use Rattle.networks.proofs.Laws.Ip4.{ip4-sound, ip4-complete}
@@ -31,20 +32,16 @@ use Rattle.networks.proofs.Laws.Plain.{Plain, LengthText, network4-plain, netwo
 use Rattle.records.specs.Readings.{Said, network4, network6}
 use Rattle.records.specs.Grammar.{Literal, Mechanism}
 use Rattle.records.specs.Numbers.{networkSaid}
-use Rattle.records.specs.Reader.{afterNetwork, afterLength, networkTerm, networkCut, networkBy}
+use Rattle.records.specs.Reader.{afterNetwork, networkTerm, networkCut, networkBy}
 use Rattle.records.specs.declared.Term.{Term}
 use Rattle.records.specs.declared.Token.{Token}
 use Rattle.records.proofs.Laws.Names.{last-at}
 
--- the ways out of a network and of a length
+-- the ways out of a network
 pub network-elim {κ} : {A : Type 0} (P : A → Type κ) (x : Network) (f : Address → A) (z : A)
     → ((a : Address) → x ≡ Network.Is a → P (f a)) → P z → P (afterNetwork x f z)
 network-elim P (Network.Is a) f z g h = g a refl
 network-elim P Network.NoNetwork f z g h = h
-
-pub length-elim {κ} : {A : Type 0} (P : A → Type κ) (x : Length) (f : ℕ → A) (z : A) → ((n : ℕ) → x ≡ Length.Of n → P (f n)) → P z → P (afterLength x f z)
-length-elim P (Length.Of n) f z g h = g n refl
-length-elim P Length.NoLength f z g h = h
 
 -- a family: its mechanism's name, what such a term says, its networks and lengths as productions, and their readers
 pub record Family : Type 1 where
@@ -138,7 +135,7 @@ network-sound f P sign k w g z =
       made = f .sound (part w (k + 1) slash) x d;
       sized = f .size-sound (part w slash (length w)) n e;
     }))
-    z)
+    (λ _. z))
     z)
     (λ _. z)
 

@@ -1,7 +1,7 @@
 -- From a place on, spaces and then a run of non-spaces: as the productions have them, and as the reader finds them. From the laws of runs.
 use Prim.Native.Nat.{ℕ, _+_, _≤_, _<_}
 use mathlib.Core.Path.{_≡_, refl, sym, ap, subst, _∙_}
-use mathlib.Core.Logic.{_⊎_, inl, inr, ⊎-elim}
+use mathlib.Core.Logic.{inl, inr, ⊎-elim}
 use mathlib.Core.List.{List, [], _∷_, _++_}
 use mathlib.Core.Bool.{true, false, not}
 use native.Mathlib.Omega.{arith}
@@ -19,15 +19,11 @@ use Rattle.text.proofs.Laws.Orders.{le-or-lt}
 use Rattle.text.proofs.Laws.Spans.{Span, span-at, span-word, rest-part}
 use Rattle.text.proofs.Laws.Runs.{run-nil, run-zero, run-span, run-span-all, span-run, span-run-end, run-end-from, run-end-inside, run-end-next, run-up-to, run-end-stops}
 use Rattle.text.proofs.Laws.Classes.{class-tests, space-is}
-use Rattle.records.specs.Answers.{Run}
+use Rattle.records.specs.Answers.{most-bytes, Boundary, Run}
 use Rattle.records.specs.Reader.{tokenOf, tokenAnswer, termFrom, readTerm}
 use Rattle.records.specs.declared.Term.{Term}
 use Rattle.records.specs.declared.Token.{Token}
 use Rattle.records.specs.declared.TermAnswer.{TermAnswer}
-
--- a space or the end
-abbrev pub Boundary : List ℕ → Type 0
-Boundary rest = (rest ≡ []) ⊎ (at rest 0 ≡ 32)
 
 pub record NextRun (s : List ℕ) (i a e : ℕ) (u w : List ℕ) : Type 0 where
   pub spaces : Span s i a u
@@ -82,17 +78,17 @@ module _ {s : List ℕ} {i a e : ℕ} {u w : List ℕ} (n : NextRun s i a e u w)
   pub word-end : runEnd (isIn NotSpace) s a ≡ e
   word-end = run-up-to (isIn NotSpace) (n .word) (class-tests NotSpace w ∙ n .is-run .solid) (boundary-run (drop e s) (n .is-run .ends))
 
-  pub read-run : length s ≤ 4096 → readTerm s i ≡ tokenAnswer a e (tokenOf w)
+  pub read-run : length s ≤ most-bytes → readTerm s i ≡ tokenAnswer a e (tokenOf w)
   unfolding readTerm termFrom
   read-run h =
       let f = run-forward in
-      simp (le-ltb 4096 (length s) h, le-ltb (length s) i (omega arith), spaces-end, word-end, span-word (n .word), ne-eqb a (length s) (omega arith))
+      simp (le-ltb most-bytes (length s) h, le-ltb (length s) i (omega arith), spaces-end, word-end, span-word (n .word), ne-eqb a (length s) (omega arith))
 
 -- only spaces left
-pub read-spaces : {s : List ℕ} {i : ℕ} {u : List ℕ} → length s ≤ 4096 → Span s i (length s) u → all isSpace u ≡ true → readTerm s i ≡ TermAnswer.End
+pub read-spaces : {s : List ℕ} {i : ℕ} {u : List ℕ} → length s ≤ most-bytes → Span s i (length s) u → all isSpace u ≡ true → readTerm s i ≡ TermAnswer.End
 unfolding readTerm termFrom
 read-spaces {s} {i} {u} h p m =
-    simp (le-ltb 4096 (length s) h, le-ltb (length s) i (omega (arith, p .size)), span-run-end (isIn Space) p (class-tests Space u ∙ m), eq-eqb (length s) (length s) refl)
+    simp (le-ltb most-bytes (length s) h, le-ltb (length s) i (omega (arith, p .size)), span-run-end (isIn Space) p (class-tests Space u ∙ m), eq-eqb (length s) (length s) refl)
 
 -- the run that the reader finds, with a the first place of no space and e the run's end
 run-of : (s : List ℕ) (i a e : ℕ) → a ≡ runEnd (isIn Space) s i → e ≡ runEnd (isIn NotSpace) s a → a < length s → NextRun s i a e (part s i a) (part s a e)
@@ -150,10 +146,10 @@ unfolding tokenAnswer
 view-token s i a e n (Token.Is t) q = is n q
 view-token s i a e n Token.Outside q = outside n q
 
-pub term-view : (s : List ℕ) (i : ℕ) → length s ≤ 4096 → i ≤ length s → View s i (readTerm s i)
+pub term-view : (s : List ℕ) (i : ℕ) → length s ≤ most-bytes → i ≤ length s → View s i (readTerm s i)
 unfolding readTerm termFrom
 term-view s i h k =
-    simp (le-ltb 4096 (length s) h, le-ltb (length s) i k)
+    simp (le-ltb most-bytes (length s) h, le-ltb (length s) i k)
     (cond-elim (View s i) (eqb (runEnd (isIn Space) s i) (length s))
     (λ q. only-spaces (sym (class-tests Space (drop i s)) ∙ (simp (eqb-true (runEnd (isIn Space) s i) (length s) q, rest-part) at (run-span-all (isIn Space) s i))))
     (λ q.

@@ -8,10 +8,9 @@ use native.Mathlib.Omega.{arith}
 use Rattle.address.specs.declared.Address.{Address}
 use Rattle.records.specs.declared.Term.{Term}
 use Rattle.records.specs.declared.TermAnswer.{TermAnswer}
-use Rattle.records.specs.declared.RecordAnswer.{RecordAnswer}
 use Rattle.records.specs.declared.opening.Unaided.{Unaided}
 use Rattle.records.specs.declared.opening.Opening.{Opening}
-use Rattle.records.specs.Reader.{readTerm}
+use Rattle.records.specs.Reader.{readTerm, after-version}
 use Rattle.records.specs.Opening.{unaided, Passing, Asking, Leads, OpeningOf, answerOf}
 use Rattle.records.proofs.Laws.Openings.{one-term}
 
@@ -88,4 +87,4 @@ module _ (client : Address) (s : List ℕ) where
   leads-one i o o′ (Leads.matched p q e) Leads.refused g = absurd (let z : _≡_ {A = ℕ} 0 1 = cc in omega arith)
 
   pub opening-one : (o o′ : Opening) → OpeningOf client s o → OpeningOf client s o′ → o ≡ o′
-  opening-one o o′ f g = leads-one 6 o o′ (f .leads) (g .leads) (f .answer ∙ sym (g .answer))
+  opening-one o o′ f g = leads-one after-version o o′ (f .leads) (g .leads) (f .answer ∙ sym (g .answer))

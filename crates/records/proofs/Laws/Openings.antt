@@ -17,11 +17,12 @@ use Rattle.records.specs.declared.TermAnswer.{TermAnswer}
 use Rattle.records.specs.declared.RecordAnswer.{RecordAnswer}
 use Rattle.records.specs.declared.opening.Unaided.{Unaided}
 use Rattle.records.specs.declared.opening.Opening.{Opening}
-use Rattle.records.specs.Reader.{readTerm, isRedirect, isExplanation, checkAfter, checkFrom, hasVersion, readRecord}
-use Rattle.records.specs.Opening.{unaided, Passing, Leads, Opened, OpeningOf, answerOf, ledBy, ledOn, endedIn}
+use Rattle.records.specs.Answers.{most-bytes}
+use Rattle.records.specs.Reader.{readTerm, isRedirect, isExplanation, checkAfter, hasVersion, readRecord, after-version}
 use Rattle.records.proofs.TermAnswer as answer-type
+use Rattle.records.specs.Opening.{unaided, Passing, Leads, Opened, OpeningOf, answerOf, ledBy, ledOn}
 use Rattle.records.proofs.opening.Opening as opening-type
-use Rattle.records.proofs.Laws.Checking.{Checking, checking-start, checking-past, checking-ended, checking-repeats, checking-less, checking-next, record-long, record-other, record-checked}
+use Rattle.records.proofs.Laws.Checking.{Checking, checking-start, checking-ended, checking-repeats, checking-less, checking-next, record-long, record-other, record-checked}
 
 -- `try_unaided`
 module _ (client : Address) (x : Term) (sign from to : ℕ) (a : Address) (n : ℕ) (e : x ≡ Term.Network sign from to a n) (m : Bool) (p : m ≡ matchesAt client a n) where
@@ -65,10 +66,6 @@ module _ (client : Address) (o : Opening) (j : ℕ) (e : o ≡ Opening.Open j) (
     unfolding ledBy
     lead-asks q = sym (led ∙ simp q)
 
--- `ended`
-pub ended-by : (a x : TermAnswer) (o r : Opening) → a ≡ x → r ≡ endedIn x o → r ≡ endedIn a o
-ended-by a x o r e h = h ∙ ap (λ (y : TermAnswer). endedIn y o) (sym e)
-
 -- `answer_of`
 pub answer-by : (o x : Opening) (r : RecordAnswer) → o ≡ x → r ≡ answerOf x → r ≡ answerOf o
 answer-by o x r e h = h ∙ ap answerOf (sym e)
@@ -110,14 +107,14 @@ led-last client s i₀ i o (passing p) q = Leads.opened p (λ at n x r. absurd (
 led-last client s i₀ i o (known l) q = l
 
 -- one more term leaves a record that was accepted so far
-accepted-by : (j n : ℕ) (t : Bool) (u : Unaided) → answerOf (cond t (ledBy u j n) (Opening.Open j)) ≡ RecordAnswer.Accepted 6
+accepted-by : (j n : ℕ) (t : Bool) (u : Unaided) → answerOf (cond t (ledBy u j n) (Opening.Open j)) ≡ RecordAnswer.Accepted after-version
 unfolding ledBy answerOf
 accepted-by j n true (Unaided.Matches sign) = refl
 accepted-by j n true Unaided.Passes = refl
 accepted-by j n true Unaided.Asks = refl
 accepted-by j n false u = refl
 
-accepted-on : (client : Address) (o : Opening) → answerOf o ≡ RecordAnswer.Accepted 6 → (i n : ℕ) (x : Term) → answerOf (ledOn client o i n x) ≡ RecordAnswer.Accepted 6
+accepted-on : (client : Address) (o : Opening) → answerOf o ≡ RecordAnswer.Accepted after-version → (i n : ℕ) (x : Term) → answerOf (ledOn client o i n x) ≡ RecordAnswer.Accepted after-version
 unfolding ledOn answerOf
 accepted-on client (Opening.Matched sign) h i n x = refl
 accepted-on client (Opening.Refused number p) h i n x = h
@@ -126,7 +123,7 @@ accepted-on client (Opening.Open j) h i n x = accepted-by j n (eqb j i) (unaided
 -- part way through the terms, with the opening so far
 pub record Opens (client : Address) (s : List ℕ) (i₀ i : ℕ) (r e : Bool) (o : Opening) : Type 0 where
   pub checks : Checking s i₀ i r e
-  pub accepted : answerOf o ≡ RecordAnswer.Accepted 6
+  pub accepted : answerOf o ≡ RecordAnswer.Accepted after-version
   pub leads : Led client s i₀ i o
 
 pub opens-start : (client : Address) (s : List ℕ) (i : ℕ) → i ≤ length s → Opens client s i i false false (Opening.Open i)
@@ -138,17 +135,23 @@ module _ (client : Address) (s : List ℕ) (i₀ i : ℕ) (r e : Bool) (o : Open
   opens-past h = absurd (omega (arith, w .checks .inside))
 
   module _ (a : TermAnswer) (p : a ≡ readTerm s i) where
-    pub opens-ended : OneOf (1 ∷ 2 ∷ []) (tagOf (declared answer-type.enum) a) → (x : Opening) → x ≡ endedIn a o → Opened client s i₀ x
-    unfolding endedIn answerOf checkAfter
-    opens-ended h x g = subst (Opened client s i₀) (sym g) (by a p h)
+    pub opens-end : OneOf (1 ∷ 2 ∷ []) (tagOf (declared answer-type.enum) a) → OneOf (0 ∷ 1 ∷ []) (tagOf (declared answer-type.enum) a) → Opened client s i₀ o
+    unfolding checkAfter
+    opens-end h k = by a p h k
       where
-        by : (b : TermAnswer) → b ≡ readTerm s i → OneOf (1 ∷ 2 ∷ []) (tagOf (declared answer-type.enum) b) → Opened client s i₀ (endedIn b o)
-        by (TermAnswer.Is at n t) q k = absurd (miss (1 ∷ 2 ∷ []) 0 tt k)
-        by TermAnswer.End q k = record { checks = checking-ended s i₀ i r e (w .checks) TermAnswer.End q (answerOf o) (λ rest. w .accepted); leads = led-last client s i₀ i o (w .leads) q }
-        by (TermAnswer.Refused number at) q k = record {
-          checks = checking-ended s i₀ i r e (w .checks) (TermAnswer.Refused number at) q (RecordAnswer.Refused number at) (λ rest. refl);
-          leads = Leads.refused;
-        }
+        by : (b : TermAnswer) → b ≡ readTerm s i → OneOf (1 ∷ 2 ∷ []) (tagOf (declared answer-type.enum) b) → OneOf (0 ∷ 1 ∷ []) (tagOf (declared answer-type.enum) b)
+            → Opened client s i₀ o
+        by (TermAnswer.Is at n t) q h k = absurd (miss (1 ∷ 2 ∷ []) 0 tt h)
+        by TermAnswer.End q h k =
+            record { checks = checking-ended s i₀ i r e (w .checks) TermAnswer.End q (answerOf o) (λ rest. w .accepted); leads = led-last client s i₀ i o (w .leads) q }
+        by (TermAnswer.Refused number at) q h k = absurd (miss (0 ∷ 1 ∷ []) 2 tt k)
+
+    pub opens-refused : (number at : ℕ) → a ≡ TermAnswer.Refused number at → Opened client s i₀ (Opening.Refused number at)
+    unfolding answerOf checkAfter
+    opens-refused number at q = record {
+      checks = checking-ended s i₀ i r e (w .checks) (TermAnswer.Refused number at) (sym q ∙ p) (RecordAnswer.Refused number at) (λ rest. refl);
+      leads = Leads.refused;
+    }
 
     module _ (at n : ℕ) (t : Term) (q : a ≡ TermAnswer.Is at n t) where
       pub opens-less : length s + 1 - n < length s + 1 - i
@@ -169,16 +172,16 @@ module _ (client : Address) (s : List ℕ) (i₀ i : ℕ) (r e : Bool) (o : Open
 
 -- `open_record`
 module _ (client : Address) (s : List ℕ) where
-  pub open-long : 4096 < length s → OpeningOf client s (Opening.Refused 30 0)
+  pub open-long : most-bytes < length s → OpeningOf client s (Opening.Refused 30 0)
   unfolding answerOf
   open-long h = record { answer = record-long s h; leads = Leads.refused }
 
-  module _ (short : length s ≤ 4096) (x : Bool) (p : x ≡ hasVersion s) where
+  module _ (short : length s ≤ most-bytes) (x : Bool) (p : x ≡ hasVersion s) where
     pub open-other : x ≡ false → OpeningOf client s (Opening.Refused 31 0)
     unfolding answerOf
     open-other h = record { answer = record-other s short x p h; leads = Leads.refused }
 
-    pub open-checked : x ≡ true → (r : Opening) → Opened client s 6 r → OpeningOf client s r
+    pub open-checked : x ≡ true → (r : Opening) → Opened client s after-version r → OpeningOf client s r
     open-checked h r g = record { answer = record-checked s short x p h (answerOf r) (g .checks); leads = g .leads }
 
 -- `read_record`

@@ -17,13 +17,13 @@ use Rattle.text.proofs.Laws.Orders.{le-or-lt}
 use Rattle.text.proofs.Laws.Parts.{all-append}
 use Rattle.text.proofs.Laws.Spans.{Span, span-rest}
 use Rattle.records.specs.Readings.{Said, Placed}
-use Rattle.records.specs.Grammar.{Literal, Term as Produced, Terms, countOf, Once, Record, spf1}
+use Rattle.records.specs.Grammar.{Literal, TermText, Terms, countOf, Once, Record, spf1}
 use Rattle.records.specs.Numbers.{RecordReport, recordReport, accepted}
-use Rattle.records.specs.Answers.{Ill, Version, Front, RecordAnswers, too-long, no-version, outside, repeated, produced}
-use Rattle.records.specs.Reader.{tokenAnswer, readTerm, isRedirect, isExplanation, checkFrom, hasVersion, readRecord, Reads, stop, step}
+use Rattle.records.specs.Answers.{most-bytes, NoTerm, Version, Front, RecordAnswers, too-long, no-version, outside, repeated, produced, ReadsRecord}
+use Rattle.records.specs.Reader.{tokenAnswer, readTerm, isRedirect, isExplanation, checkFrom, hasVersion, readRecord, Reads, stop, step, after-version}
 use Rattle.records.specs.declared.TermAnswer.{TermAnswer}
 use Rattle.records.specs.declared.RecordAnswer.{RecordAnswer}
-use Rattle.records.proofs.Laws.Terms.{ill-outside}
+use Rattle.records.proofs.Laws.Terms.{no-term-outside}
 use Rattle.records.proofs.Laws.NextRuns.{NextRun, next-run, read-run, read-spaces}
 use Rattle.records.proofs.Laws.Counts.{count, count-none, count-more, count-append, count-false, Fits, count-small, flag-sum}
 use Rattle.records.proofs.Laws.Versions.{version-size, version-rest, has-version, version-of, version-inside}
@@ -31,17 +31,17 @@ use Rattle.records.proofs.Laws.Walks.{Walk, terms-walk, terms-boundary,
 use Rattle.records.proofs.Laws.Rests.{FrontFrom, Rest, rest-answers}
 
 -- the three ways through `readRecord`
-pub read-record-long : (s : List ℕ) → 4096 < length s → readRecord s ≡ RecordAnswer.Refused 30 0
+pub read-record-long : (s : List ℕ) → most-bytes < length s → readRecord s ≡ RecordAnswer.Refused 30 0
 unfolding readRecord
-read-record-long s h = simp (lt-ltb 4096 (length s) h)
+read-record-long s h = simp (lt-ltb most-bytes (length s) h)
 
-pub read-record-other : (s : List ℕ) → length s ≤ 4096 → hasVersion s ≡ false → readRecord s ≡ RecordAnswer.Refused 31 0
+pub read-record-other : (s : List ℕ) → length s ≤ most-bytes → hasVersion s ≡ false → readRecord s ≡ RecordAnswer.Refused 31 0
 unfolding readRecord
-read-record-other s h v = simp (le-ltb 4096 (length s) h, v)
+read-record-other s h v = simp (le-ltb most-bytes (length s) h, v)
 
-pub read-record-terms : (s : List ℕ) → length s ≤ 4096 → hasVersion s ≡ true → readRecord s ≡ checkFrom (suc (length s)) s 6 false false
+pub read-record-terms : (s : List ℕ) → length s ≤ most-bytes → hasVersion s ≡ true → readRecord s ≡ checkFrom (suc (length s)) s after-version false false
 unfolding readRecord
-read-record-terms s h v = simp (le-ltb 4096 (length s) h, v)
+read-record-terms s h v = simp (le-ltb most-bytes (length s) h, v)
 
 -- each name at most once, as the counts from the front on
 once-fits : (ts : List Placed) → Once ts → Fits (count false) (count false) ts
@@ -51,7 +51,7 @@ fits-once : (ts : List Placed) → Fits (count false) (count false) ts → Once 
 fits-once ts o = record { redirects = omega (arith, o .redirects, count-false); explanations = omega (arith, o .explanations, count-false) }
 
 -- the loop after a walk from the version on
-loop-after : {s : List ℕ} {ts : List Placed} {j : ℕ} → length s ≤ 4096 → hasVersion s ≡ true → Walk s 6 ts j → Once ts
+loop-after : {s : List ℕ} {ts : List Placed} {j : ℕ} → length s ≤ most-bytes → hasVersion s ≡ true → Walk s after-version ts j → Once ts
     → Reached s (readRecord s) (count false) (count false) ts j
 loop-after {s} {ts} {j} h v w o =
     let z = check-walk h w (length s) (omega arith) false false (once-fits ts o) in
@@ -59,12 +59,12 @@ loop-after {s} {ts} {j} h v w o =
 
 -- complete: what the grammar produces is accepted, and its terms are read one after the other, then the end
 pub record Accepts (s : List ℕ) (ts : List Placed) : Type 0 where
-  pub accepted : readRecord s ≡ RecordAnswer.Accepted 6
-  pub walk : Reads s 6 ts
+  pub accepted : readRecord s ≡ RecordAnswer.Accepted after-version
+  pub walk : Reads s after-version ts
 
-pub terms-accepted : {s v rest : List ℕ} {ts : List Placed} → Version s v rest → Terms 6 rest ts → Once ts → length s ≤ 4096 → Accepts s ts
+pub terms-accepted : {s v rest : List ℕ} {ts : List Placed} → Version s v rest → Terms after-version rest ts → Once ts → length s ≤ most-bytes → Accepts s ts
 terms-accepted {s} {v} {rest} {ts} d t o h =
-    let r : Span s 6 (length s) rest = subst (Span s 6 (length s)) (version-rest d) (span-rest s 6 (version-inside d)) in
+    let r : Span s after-version (length s) rest = subst (Span s after-version (length s)) (version-rest d) (span-rest s after-version (version-inside d)) in
     let w = terms-walk t s (length s) r (inl (drop-length s)) in
     let q : readTerm s (w .last) ≡ TermAnswer.End = read-spaces h (w .spaces) (w .blank) in
     let z = loop-after h (has-version d) (w .walk) o in
@@ -76,7 +76,7 @@ terms-accepted {s} {v} {rest} {ts} d t o h =
 record-version : (v rest : List ℕ) {ts : List Placed} → Literal (bytes "v=spf1") v → Terms (length v) rest ts → Version (v ++ rest) v rest
 record-version v rest l t = record { whole = refl; version = l; ends = simp append-nil at (terms-boundary t [] (inl refl)) }
 
-pub record-complete : {s : List ℕ} {ts : List Placed} → Record s ts → length s ≤ 4096 → Accepts s ts
+pub record-complete : {s : List ℕ} {ts : List Placed} → Record s ts → length s ≤ most-bytes → Accepts s ts
 record-complete (spf1 {v = v} {rest = rest} {ts = ts} l t o) h =
     let d = record-version v rest l t in
     terms-accepted d (subst (λ (n : ℕ). Terms n rest ts) (version-size d) t) o h
@@ -93,78 +93,90 @@ reads-one {s} (step {next = a} {t = t} {ts = ts} p r) (step {next = b} {t = u} {
     cc
 
 -- one reading
-pub one-reading : {s : List ℕ} {ts us : List Placed} → length s ≤ 4096 → Record s ts → Record s us → ts ≡ us
+pub one-reading : {s : List ℕ} {ts us : List Placed} → length s ≤ most-bytes → Record s ts → Record s us → ts ≡ us
 one-reading h d e = reads-one (record-complete d h .walk) (record-complete e h .walk)
 
 -- the answer for any record, refusals too
-module _ (s : List ℕ) (h : length s ≤ 4096) (d : Version s (take 6 s) (drop 6 s)) where
-  made : {ts : List Placed} → Terms 6 (drop 6 s) ts → Once ts → RecordAnswers s (accepted 6)
+module _ (s : List ℕ) (h : length s ≤ most-bytes) (d : Version s (take after-version s) (drop after-version s)) where
+  made : {ts : List Placed} → Terms after-version (drop after-version s) ts → Once ts → RecordAnswers s (accepted after-version)
   made {ts} t o =
       subst (λ (n : ℕ). RecordAnswers s (accepted n)) (version-size d)
       (produced h d (subst (λ (y : List ℕ). Record y ts) (sym (d .whole))
-      (spf1 {v = take 6 s} (d .version) (subst (λ (n : ℕ). Terms n (drop 6 s) ts) (sym (version-size d)) t) o)))
+      (spf1 {v = take after-version s} (d .version) (subst (λ (n : ℕ). Terms n (drop after-version s) ts) (sym (version-size d)) t) o)))
 
-  front-of : {ts : List Placed} {w : List ℕ} {p : ℕ} → FrontFrom s 6 ts w p → Front s ts w p
+  front-of : {ts : List Placed} {w : List ℕ} {p : ℕ} → FrontFrom s after-version ts w p → Front s ts w p
   front-of {ts} {w} {p} f = record {
-    v = take 6 s;
+    v = take after-version s;
     front = f .front;
     gap = f .gap;
     rest = f .rest;
-    version = subst (Version s (take 6 s)) (f .split) d;
+    version = subst (Version s (take after-version s)) (f .split) d;
     terms = subst (λ (n : ℕ). Terms n (f .front) ts) (sym (version-size d)) (f .terms);
     spaces = f .spaces;
     run = f .is-run;
     place-is = omega (arith, f .place-is, version-size d);
   }
 
-  rest-record : {answer : RecordReport} → Rest s 6 (count false) (count false) answer → RecordAnswers s answer
+  rest-record : {answer : RecordReport} → Rest s after-version (count false) (count false) answer → RecordAnswers s answer
   rest-record (Rest.read {ts = ts} t c) = made t (fits-once ts c)
   rest-record (Rest.stopped {ts = ts} f c q) = outside h (front-of f) (fits-once ts c) q
   rest-record (Rest.twice {ts = ts} {p = p} {x = x} f c q n) =
       repeated h (front-of f) (fits-once ts c) q (λ o. n (once-fits (ts ++ (record { place = p; said = x } ∷ [])) o))
 
-pub record-answers : (s : List ℕ) → RecordAnswers s (recordReport (readRecord s))
+pub record-answers : (s : List ℕ) → ReadsRecord s (readRecord s)
 record-answers s = ⊎-elim
-    (λ (h : length s ≤ 4096). by h (hasVersion s) refl)
-    (λ (h : 4096 < length s). subst (λ (a : RecordAnswer). RecordAnswers s (recordReport a)) (sym (read-record-long s h)) (too-long h))
-    (le-or-lt (length s) 4096)
+    (λ (h : length s ≤ most-bytes). by h (hasVersion s) refl)
+    (λ (h : most-bytes < length s). subst (ReadsRecord s) (sym (read-record-long s h)) (too-long h))
+    (le-or-lt (length s) most-bytes)
   where
-    by : length s ≤ 4096 → (t : Bool) → hasVersion s ≡ t → RecordAnswers s (recordReport (readRecord s))
+    by : length s ≤ most-bytes → (t : Bool) → hasVersion s ≡ t → ReadsRecord s (readRecord s)
     by h true q =
         let d = version-of s q in
-        subst (λ (a : RecordAnswer). RecordAnswers s (recordReport a)) (sym (read-record-terms s h q))
-        (rest-record s h d (rest-answers (suc (length s)) s 6 h (version-inside d) (d .ends) (omega arith) false false))
+        subst (ReadsRecord s) (sym (read-record-terms s h q))
+        (rest-record s h d (rest-answers (suc (length s)) s after-version h (version-inside d) (d .ends) (omega arith) false false))
     by h false q =
-        subst (λ (a : RecordAnswer). RecordAnswers s (recordReport a)) (sym (read-record-other s h q))
+        subst (ReadsRecord s) (sym (read-record-other s h q))
         (no-version h (λ v rest d. let t = has-version d in let z : _≡_ {A = ℕ} 0 1 = cc in omega arith))
 
--- sound: what is accepted, the grammar produces
-pub record-sound : (s : List ℕ) (n : ℕ) → readRecord s ≡ RecordAnswer.Accepted n → (ts : List Placed) × Record s ts
-record-sound s n e = by (record-answers s) (ap recordReport e)
+-- what an acceptance says of a text
+pub record Accepting (s : List ℕ) (n : ℕ) : Type 0 where
+  pub short : length s ≤ most-bytes
+  pub first : n ≡ after-version
+  pub terms : List Placed
+  pub reading : Record s terms
+
+pub accepting : (s : List ℕ) (n : ℕ) → RecordAnswers s (accepted n) → Accepting s n
+accepting s n a = by a refl
   where
-    by : {r : RecordReport} → RecordAnswers s r → r ≡ accepted n → (ts : List Placed) × Record s ts
+    by : {r : RecordReport} → RecordAnswers s r → r ≡ accepted n → Accepting s n
     by (too-long h) q = absurd (let z : _≡_ {A = ℕ} 0 1 = cc in omega arith)
     by (no-version h v) q = absurd (let z : _≡_ {A = ℕ} 0 1 = cc in omega arith)
     by (outside h f o i) q = absurd (let z : _≡_ {A = ℕ} 0 1 = cc in omega arith)
     by (repeated h f o d m) q = absurd (let z : _≡_ {A = ℕ} 0 1 = cc in omega arith)
-    by (produced {ts = ts} h v d) q = (ts, d)
+    by (produced {v = v} {ts = ts} h d r) q =
+        let e : n ≡ length v = cc in
+        record { short = h; first = e ∙ version-size d; terms = ts; reading = r }
+
+-- sound: what is accepted, the grammar produces
+pub record-sound : (s : List ℕ) (n : ℕ) → readRecord s ≡ RecordAnswer.Accepted n → (ts : List Placed) × Record s ts
+record-sound s n e = let a = accepting s n (subst (ReadsRecord s) e (record-answers s)) in (a .terms, a .reading)
 
 -- the front of a refused record as the loop walks over it, and the run at the place
 record FrontWalked (s : List ℕ) (ts : List Placed) (w : List ℕ) (p : ℕ) : Type 0 where
   last : ℕ
   finish : ℕ
   left : List ℕ
-  walk : Walk s 6 ts last
+  walk : Walk s after-version ts last
   next : NextRun s last p finish left w
 
 front-walked : {s : List ℕ} {ts : List Placed} {w : List ℕ} {p : ℕ} → Front s ts w p → FrontWalked s ts w p
 front-walked {s} {ts} {w} {p} f =
     let tail = (32 ∷ f .gap) ++ (w ++ f .rest) in
     let n = version-size (f .version) in
-    let d : drop 6 s ≡ f .front ++ tail = version-rest (f .version) in
-    let e : drop (6 + length (f .front)) s ≡ tail = sym (drop-drop (length (f .front)) 6 s) ∙ ap (drop (length (f .front))) d ∙ drop-append-seam (f .front) tail in
-    let g : Span s 6 (6 + length (f .front)) (f .front) = record { split = d ∙ ap (λ (t : List ℕ). f .front ++ t) (sym e); size = refl } in
-    let z = terms-walk (subst (λ (k : ℕ). Terms k (f .front) ts) n (f .terms)) s (6 + length (f .front)) g (inr (ap (λ (t : List ℕ). at t 0) e)) in
+    let d : drop after-version s ≡ f .front ++ tail = version-rest (f .version) in
+    let e : drop (after-version + length (f .front)) s ≡ tail = sym (drop-drop (length (f .front)) after-version s) ∙ ap (drop (length (f .front))) d ∙ drop-append-seam (f .front) tail in
+    let g : Span s after-version (after-version + length (f .front)) (f .front) = record { split = d ∙ ap (λ (t : List ℕ). f .front ++ t) (sym e); size = refl } in
+    let z = terms-walk (subst (λ (k : ℕ). Terms k (f .front) ts) n (f .terms)) s (after-version + length (f .front)) g (inr (ap (λ (t : List ℕ). at t 0) e)) in
     let u = z .left ++ (32 ∷ f .gap) in
     let x : drop (z .last) s ≡ u ++ (w ++ f .rest) = z .spaces .split ∙ ap (λ (t : List ℕ). z .left ++ t) e ∙ sym (append-assoc (z .left) (32 ∷ f .gap) (w ++ f .rest)) in
     let m : all isSpace u ≡ true = all-append isSpace (z .left) (32 ∷ f .gap) ∙ and-both _ _ (z .blank) (space-more (f .gap) (f .spaces)) in
@@ -177,12 +189,12 @@ front-walked {s} {ts} {w} {p} f =
       next = subst (λ (k : ℕ). NextRun s (z .last) k (z .last + (length u + length w)) u w) q (next-run s (z .last) u w (f .rest) x m (f .run));
     }
 
-outside-is : {s : List ℕ} {ts : List Placed} {w : List ℕ} {p : ℕ} → length s ≤ 4096 → Front s ts w p → Once ts → Ill w → readRecord s ≡ RecordAnswer.Refused 32 p
+outside-is : {s : List ℕ} {ts : List Placed} {w : List ℕ} {p : ℕ} → length s ≤ most-bytes → Front s ts w p → Once ts → NoTerm w → readRecord s ≡ RecordAnswer.Refused 32 p
 unfolding tokenAnswer
 outside-is {s} {ts} {w} {p} h f o i =
     let g = front-walked f in
     let z = loop-after h (has-version (f .version)) (g .walk) o in
-    z .is ∙ check-refused (z .fuel) s (g .last) (z .flag) (z .mark) 32 p (read-run (g .next) h ∙ ap (tokenAnswer p (g .finish)) (ill-outside w i))
+    z .is ∙ check-refused (z .fuel) s (g .last) (z .flag) (z .mark) 32 p (read-run (g .next) h ∙ ap (tokenAnswer p (g .finish)) (no-term-outside w i))
 
 -- with one more term that repeats none, each name still stands at most once
 once-more : (ts : List Placed) (t : Placed) (r x p q : Bool) → count r ≡ count false + countOf (bytes "redirect") ts → count x ≡ count false + countOf (bytes "exp") ts
@@ -195,7 +207,7 @@ once-more ts t r x p q a b cr cx h =
       explanations = omega (arith, b, count-false, mx, count-none (bytes "exp"), count-append (bytes "exp") ts (t ∷ []), flag-sum x q (or-false-right (r && p) (x && q) h), count-small (x || q));
     }
 
-repeated-is : {s : List ℕ} {ts : List Placed} {w : List ℕ} {p : ℕ} {x : Said} → length s ≤ 4096 → Front s ts w p → Once ts → Produced w x
+repeated-is : {s : List ℕ} {ts : List Placed} {w : List ℕ} {p : ℕ} {x : Said} → length s ≤ most-bytes → Front s ts w p → Once ts → TermText w x
     → (Once (ts ++ (record { place = p; said = x } ∷ [])) → ⊥) → readRecord s ≡ RecordAnswer.Refused 33 p
 repeated-is {s} {ts} {w} {p} {x} h f o d n =
     let g = front-walked f in
@@ -209,7 +221,7 @@ repeated-is {s} {ts} {w} {p} {x} h f o d n =
 pub record-answers-is : (s : List ℕ) (r : RecordReport) → RecordAnswers s r → r ≡ recordReport (readRecord s)
 record-answers-is s r (too-long h) = ap recordReport (sym (read-record-long s h))
 record-answers-is s r (no-version h v) =
-    ap recordReport (sym (read-record-other s h (test-fails (hasVersion s) (λ q. v (take 6 s) (drop 6 s) (version-of s q)))))
+    ap recordReport (sym (read-record-other s h (test-fails (hasVersion s) (λ q. v (take after-version s) (drop after-version s) (version-of s q)))))
 record-answers-is s r (outside h f o i) = ap recordReport (sym (outside-is h f o i))
 record-answers-is s r (repeated h f o d n) = ap recordReport (sym (repeated-is h f o d n))
 record-answers-is s r (produced h v d) = ap accepted (version-size v) ∙ ap recordReport (sym (record-complete d h .accepted))

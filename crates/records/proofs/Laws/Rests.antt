@@ -12,17 +12,17 @@ use Rattle.text.specs.Texts.{bytes}
 use Rattle.text.proofs.Laws.Tests.{cond-elim, or-elim, or-false-left, or-false-right}
 use Rattle.text.proofs.Laws.Spans.{span-join}
 use Rattle.records.specs.Readings.{Said, Placed}
-use Rattle.records.specs.Grammar.{Term as Produced, Terms, done, term, countOf}
+use Rattle.records.specs.Grammar.{TermText, Terms, done, term, countOf}
 use Rattle.records.specs.Numbers.{saidOf, RecordReport, recordReport, accepted, refused}
-use Rattle.records.specs.Answers.{Run, Ill}
-use Rattle.records.specs.Reader.{tokenOf, isRedirect, isExplanation, checkAfter, checkFrom}
+use Rattle.records.specs.Answers.{most-bytes, Boundary, Run, NoTerm}
+use Rattle.records.specs.Reader.{tokenOf, isRedirect, isExplanation, checkAfter, checkFrom, after-version}
 use Rattle.records.specs.declared.Term.{Term}
 use Rattle.records.specs.declared.Token.{Token}
 use Rattle.records.specs.declared.TermAnswer.{TermAnswer}
 use Rattle.records.specs.declared.RecordAnswer.{RecordAnswer}
 use Rattle.records.proofs.Laws.Tokens.{token-sound, redirect-name, explanation-name}
-use Rattle.records.proofs.Laws.Terms.{outside-ill}
-use Rattle.records.proofs.Laws.NextRuns.{Boundary, run-forward, Gap, gap-of, View, term-view}
+use Rattle.records.proofs.Laws.Terms.{outside-no-term}
+use Rattle.records.proofs.Laws.NextRuns.{run-forward, Gap, gap-of, View, term-view}
 use Rattle.records.proofs.Laws.Counts.{count, count-none, count-more, Fits, count-small, flag-sum, flag-twice}
 
 -- from a place on: terms of the grammar, and then, after one space or more, a run of non-spaces
@@ -38,13 +38,13 @@ pub record FrontFrom (s : List ℕ) (i : ℕ) (ts : List Placed) (w : List ℕ) 
 
 -- what the answer says of the rest, where m redirects and n exps have stood before
 pub data Rest (s : List ℕ) (i m n : ℕ) : RecordReport → Type 0 where
-  read : {ts : List Placed} → Terms i (drop i s) ts → Fits m n ts → Rest s i m n (accepted 6)
-  stopped : {ts : List Placed} {w : List ℕ} {p : ℕ} → FrontFrom s i ts w p → Fits m n ts → Ill w → Rest s i m n (refused 32 p)
-  twice : {ts : List Placed} {w : List ℕ} {p : ℕ} {x : Said} → FrontFrom s i ts w p → Fits m n ts → Produced w x
+  read : {ts : List Placed} → Terms i (drop i s) ts → Fits m n ts → Rest s i m n (accepted after-version)
+  stopped : {ts : List Placed} {w : List ℕ} {p : ℕ} → FrontFrom s i ts w p → Fits m n ts → NoTerm w → Rest s i m n (refused 32 p)
+  twice : {ts : List Placed} {w : List ℕ} {p : ℕ} {x : Said} → FrontFrom s i ts w p → Fits m n ts → TermText w x
       → (Fits m n (ts ++ (record { place = p; said = x } ∷ [])) → ⊥) → Rest s i m n (refused 33 p)
 
 -- a term before others
-term-before : {s : List ℕ} {i a e : ℕ} {w : List ℕ} {x : Said} (g : Gap s i a e w) → Produced w x → (rest : List ℕ) {ts : List Placed} → Terms e rest ts
+term-before : {s : List ℕ} {i a e : ℕ} {w : List ℕ} {x : Said} (g : Gap s i a e w) → TermText w x → (rest : List ℕ) {ts : List Placed} → Terms e rest ts
     → Terms i ((32 ∷ g .gap) ++ (w ++ rest)) (record { place = a; said = x } ∷ ts)
 term-before {s} {i} {a} {e} {w} {x} g d rest {ts} r =
     let q : e ≡ i + length ((32 ∷ g .gap) ++ w) = span-join (g .next .spaces) (g .next .word) .size in
@@ -67,7 +67,7 @@ front-here {s} {i} {a} {e} {w} g = record {
   place-is = omega (arith, g .next .spaces .size);
 }
 
-front-before : {s : List ℕ} {i a e : ℕ} {v : List ℕ} {x : Said} {ts : List Placed} {w : List ℕ} {p : ℕ} → Gap s i a e v → Produced v x → FrontFrom s e ts w p
+front-before : {s : List ℕ} {i a e : ℕ} {v : List ℕ} {x : Said} {ts : List Placed} {w : List ℕ} {p : ℕ} → Gap s i a e v → TermText v x → FrontFrom s e ts w p
     → FrontFrom s i (record { place = a; said = x } ∷ ts) w p
 front-before {s} {i} {a} {e} {v} {x} {ts} {w} {p} g d f = record {
   front = (32 ∷ g .gap) ++ (v ++ f .front);
@@ -94,7 +94,7 @@ module _ {m n k l : ℕ} (t : Placed) (a : k ≡ m + count (same (t .said .name)
     explanations = omega (arith, c .explanations, count-more (bytes "exp") t ts);
   }
 
-rest-before : {s : List ℕ} {i a e : ℕ} {w : List ℕ} {x : Said} {m n k l : ℕ} {answer : RecordReport} → Gap s i a e w → Produced w x
+rest-before : {s : List ℕ} {i a e : ℕ} {w : List ℕ} {x : Said} {m n k l : ℕ} {answer : RecordReport} → Gap s i a e w → TermText w x
     → k ≡ m + count (same (x .name) (bytes "redirect")) → l ≡ n + count (same (x .name) (bytes "exp")) → Rest s e k l answer → Rest s i m n answer
 rest-before {s} {i} {a} {e} {w} {x} g d p q (read {ts = ts} r c) =
     let t : Placed = record { place = a; said = x } in
@@ -126,7 +126,7 @@ rest-term : (f : ℕ) (s : List ℕ) (i a e : ℕ) (t : Term) (r x : Bool) → G
 unfolding checkAfter
 rest-term f s i a e t r x g o ih =
     let w = part s a e in
-    let d : Produced w (saidOf w t) = token-sound w t o in
+    let d : TermText w (saidOf w t) = token-sound w t o in
     let nr = redirect-name w t o in
     let nx = explanation-name w t o in
     cond-elim (λ (y : RecordAnswer). Rest s i (count r) (count x) (recordReport y)) ((r && isRedirect t) || (x && isExplanation t))
@@ -137,7 +137,7 @@ rest-term f s i a e t r x g o ih =
     (flag-sum x (isExplanation t) (or-false-right (r && isRedirect t) (x && isExplanation t) q) ∙ ap (λ (b : Bool). count x + count b) (sym nx))
     (ih (r || isRedirect t) (x || isExplanation t)))
 
-pub rest-answers : (f : ℕ) (s : List ℕ) (i : ℕ) → length s ≤ 4096 → i ≤ length s → Boundary (drop i s) → length s - i < f → (r x : Bool)
+pub rest-answers : (f : ℕ) (s : List ℕ) (i : ℕ) → length s ≤ most-bytes → i ≤ length s → Boundary (drop i s) → length s - i < f → (r x : Bool)
     → Rest s i (count r) (count x) (recordReport (checkFrom f s i r x))
 unfolding checkFrom checkAfter
 rest-answers zero s i h k b l r x = absurd (omega arith)
@@ -146,7 +146,7 @@ rest-answers (suc f) s i h k b l r x = by (λ e. rest-answers f s e h) (term-vie
     by : ((e : ℕ) → e ≤ length s → Boundary (drop e s) → length s - e < f → (r x : Bool) → Rest s e (count r) (count x) (recordReport (checkFrom f s e r x)))
         → {y : TermAnswer} → View s i y → Rest s i (count r) (count x) (recordReport (checkAfter r x y (checkFrom f s)))
     by ih (View.only-spaces m) = read (done m) (fits-none r x)
-    by ih (View.outside {a = a} {e = e} n o) = stopped (front-here (gap-of n b)) (fits-none r x) (outside-ill (part s a e) o)
+    by ih (View.outside {a = a} {e = e} n o) = stopped (front-here (gap-of n b)) (fits-none r x) (outside-no-term (part s a e) o)
     by ih (View.is {a = a} {e = e} {t = t} n o) =
         let z = run-forward n in
         rest-term f s i a e t r x (gap-of n b) o (ih e (z .2) (n .is-run .ends) (omega arith))

@@ -18,8 +18,8 @@ use Rattle.text.proofs.Laws.Classes.{apart, within-range, range-within}
 use Rattle.text.proofs.Laws.Spans.{Span, span-join, span-cut, span-byte, span-at, span-word, span-part}
 use Rattle.text.proofs.Laws.Parts.{all-none, all-cons, all-join, all-first, all-rest, all-inside}
 use Rattle.macros.specs.declared.Form.{Form}
-use Rattle.macros.specs.declared.Form.the-variants.{DomainSpec, ModifierValue, Explanation}
-use Rattle.macros.specs.Grammar.{Piece, isLetter, isCount, Reversal, absent as no-reversal, present as reversal, MacroExpand, braces, percent, underscore, hyphen, MacroString, Toplabel, DomainEnd, label, label-dot, DomainSpecs, spec}
+use Rattle.macros.specs.declared.Form.the-variants.{ModifierValue, Explanation}
+use Rattle.macros.specs.Grammar.{Piece, isLetter, isPartCount, Reversal, absent as no-reversal, present as reversal, MacroExpand, braces, percent, underscore, hyphen, MacroString, Toplabel, DomainEnd, label, label-dot, DomainSpec, spec}
 use Rattle.macros.specs.Reader.{isReverse, isMacroString, pieces}
 use Rattle.macros.proofs.Laws.Toplabels.{passed, toplabel-complete}
 use Rattle.macros.proofs.Laws.Soundness.{sound}
@@ -44,12 +44,12 @@ solid-one b w n h = all-cons isNotSpace b w (ap not n) h
 -- macro strings hold no space
 solid-letter : (form : Form) (b : ℕ) → isLetter form b ≡ true → eqb b 32 ≡ false
 unfolding isLetter contains lower isUpper within
-solid-letter DomainSpec b h = apart (isLetter DomainSpec) b 32 h refl
+solid-letter Form.DomainSpec b h = apart (isLetter Form.DomainSpec) b 32 h refl
 solid-letter ModifierValue b h = apart (isLetter ModifierValue) b 32 h refl
 solid-letter Explanation b h = apart (isLetter Explanation) b 32 h refl
 
-solid-digits : (w : List ℕ) → isCount w ≡ true → all isNotSpace w ≡ true
-unfolding isCount isDigit within
+solid-digits : (w : List ℕ) → isPartCount w ≡ true → all isNotSpace w ≡ true
+unfolding isPartCount isDigit within
 solid-digits w h = solid-bytes isDigit refl w (and-left (all isDigit w) (eqb (length w) 0 || leb 1 (decimal w)) h)
 
 solid-reversal : {w : List ℕ} {r : Bool} → Reversal w r → all isNotSpace w ≡ true
@@ -94,7 +94,7 @@ solid-end (label {w = w} t) = solid-one 46 w refl (solid-label t)
 solid-end (label-dot {w = w} t) = solid-one 46 (w ++ (46 ∷ [])) refl (all-join isNotSpace w (46 ∷ []) (solid-label t) (solid-one 46 [] refl (all-none isNotSpace)))
 solid-end (DomainEnd.expands m) = solid-expand m
 
-pub solid-spec : {d : List ℕ} {ps : List Piece} → DomainSpecs d ps → all isNotSpace d ≡ true
+pub solid-spec : {d : List ℕ} {ps : List Piece} → DomainSpec d ps → all isNotSpace d ≡ true
 solid-spec (spec {u = u} {w = w} s e) = all-join isNotSpace u w (solid-string s) (solid-end e)
 
 -- how a domain-spec ends: in a byte that no prefix length holds, and digits
@@ -157,17 +157,17 @@ end-ending (label {w = w} t) = ⊎-elim
 end-ending (label-dot {w = w} t) = ending-byte (46 ∷ w) 46 refl
 end-ending (DomainEnd.expands m) = expand-ending m
 
-pub spec-ending : {d : List ℕ} {ps : List Piece} → DomainSpecs d ps → Ending d
+pub spec-ending : {d : List ℕ} {ps : List Piece} → DomainSpec d ps → Ending d
 spec-ending (spec {u = u} {w = w} s e) = ending-after u w (end-ending e)
 
 -- a domain-spec is not empty
-pub spec-some : {d : List ℕ} {ps : List Piece} → DomainSpecs d ps → 0 < length d
+pub spec-some : {d : List ℕ} {ps : List Piece} → DomainSpec d ps → 0 < length d
 spec-some {d} s = let e = spec-ending s in omega (arith, ap length (e .parts), length-append (e .front) (e .byte ∷ e .digits))
 
 -- what is read after a colon is a domain-spec
 pub record Argument (w : List ℕ) (k to from : ℕ) : Type 0 where
   pub pieces : List Piece
-  pub made : DomainSpecs (part w from to) pieces
+  pub made : DomainSpec (part w from to) pieces
   pub span : Span w k to (58 ∷ part w from to)
   pub some : eqb from to ≡ false
 
@@ -176,12 +176,12 @@ SpecRight w k to (Spec.From from) = Argument w k to from
 SpecRight w k to Spec.Absent = k ≡ to
 SpecRight w k to Spec.Bad = Unit {0}
 
-after-colon : (w : List ℕ) (k to : ℕ) → k < to → to ≤ length w → at w k ≡ 58 → isMacroString DomainSpec (part w (k + 1) to) ≡ true → Argument w k to (k + 1)
+after-colon : (w : List ℕ) (k to : ℕ) → k < to → to ≤ length w → at w k ≡ 58 → isMacroString Form.DomainSpec (part w (k + 1) to) ≡ true → Argument w k to (k + 1)
 after-colon w k to h l c m =
     let p = span-part w (k + 1) to (omega arith) l in
-    let d : DomainSpecs (part w (k + 1) to) (pieces DomainSpec (part w (k + 1) to) .list) = sound DomainSpec (part w (k + 1) to) m in
+    let d : DomainSpec (part w (k + 1) to) (pieces Form.DomainSpec (part w (k + 1) to) .list) = sound Form.DomainSpec (part w (k + 1) to) m in
     record {
-      pieces = pieces DomainSpec (part w (k + 1) to) .list;
+      pieces = pieces Form.DomainSpec (part w (k + 1) to) .list;
       made = d;
       span = span-join (span-byte w k 57 c) p;
       some = ne-eqb (k + 1) to (λ e. omega (arith, spec-some d, p .size));
@@ -192,7 +192,7 @@ unfolding specAt
 spec-sound w k to h l =
     cond-elim (SpecRight w k to) (eqb k to) (eqb-true k to)
     (λ n. cond-elim (SpecRight w k to) (eqb (at w k) 58)
-    (λ c. cond-elim (SpecRight w k to) (isMacroString DomainSpec (part w (k + 1) to))
+    (λ c. cond-elim (SpecRight w k to) (isMacroString Form.DomainSpec (part w (k + 1) to))
     (λ m. let z = eqb-false k to n in after-colon w k to (omega arith) l (eqb-true (at w k) 58 c) m) (λ _. tt))
     (λ _. tt))
 
@@ -229,13 +229,13 @@ pub record Given (w : List ℕ) (k to : ℕ) (d : List ℕ) : Type 0 where
   pub says : part w (k + 1) to ≡ d
   pub some : eqb (k + 1) to ≡ false
 
-pub spec-given : {w : List ℕ} {k to : ℕ} {d : List ℕ} {ps : List Piece} → DomainSpecs d ps → Span w k to (58 ∷ d) → Given w k to d
+pub spec-given : {w : List ℕ} {k to : ℕ} {d : List ℕ} {ps : List Piece} → DomainSpec d ps → Span w k to (58 ∷ d) → Given w k to d
 unfolding specAt
 spec-given {w} {k} {to} {d} {ps} s p =
     let q = span-cut (58 ∷ []) d p .1 in
     let e : part w (k + 1) to ≡ d = span-word q in
     record {
-      read = simp (ne-eqb k to (λ z. omega (arith, p .size)), eq-eqb (at w k) 58 (span-at p), e, complete DomainSpec d ps s .0);
+      read = simp (ne-eqb k to (λ z. omega (arith, p .size)), eq-eqb (at w k) 58 (span-at p), e, complete Form.DomainSpec d ps s .0);
       says = e;
       some = ne-eqb (k + 1) to (λ z. omega (arith, q .size, spec-some s));
     }

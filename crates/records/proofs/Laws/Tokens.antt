@@ -20,7 +20,7 @@ use Rattle.text.proofs.Laws.Spans.{span-all, span-whole, span-join, span-cut}
 use Rattle.records.specs.declared.Token.{Token}
 use Rattle.records.specs.declared.Term.{Term}
 use Rattle.records.specs.Readings.{Said}
-use Rattle.records.specs.Grammar.{Term as Produced, directive, modifier-term, unsigned, signed, isQualifier}
+use Rattle.records.specs.Grammar.{TermText, directive, modifier-term, unsigned, signed, isQualifier}
 use Rattle.records.specs.Numbers.{saidOf}
 use Rattle.records.specs.Reader.{kindOf, laterKind, mechanismBy, mechanismOf, modifierOf, tokenOf, isRedirect, isExplanation}
 use Rattle.records.proofs.Laws.Names.{Unreserved, alpha-unsigned, qualifier-zero}
@@ -30,7 +30,7 @@ use Rattle.records.proofs.Laws.Modifiers.{ModifierRight, modifier-sound
 
 -- what is read is a term
 record TokenMade (w : List ℕ) (t : Term) : Type 0 where
-  made : Produced w (saidOf w t)
+  made : TermText w (saidOf w t)
   other : Unreserved w t
 
 abbrev TokenRight : List ℕ → Token → Type 0
@@ -42,12 +42,12 @@ signed-right [] h (Token.Is t) m = absurd (omega (arith, class-inside isQualifie
 signed-right [] h Token.Outside m = tt
 signed-right (q ∷ w) h (Token.Is t) m =
     let e : q ∷ w ≡ q ∷ m .word = span-whole (span-join {u = q ∷ []} (record { split = refl; size = refl }) (m .span)) in
-    record { made = subst (λ (u : List ℕ). Produced u (saidOf (q ∷ w) t)) (sym e) (directive (signed h (m .made))); other = m .other }
+    record { made = subst (λ (u : List ℕ). TermText u (saidOf (q ∷ w) t)) (sym e) (directive (signed h (m .made))); other = m .other }
 signed-right (q ∷ w) h Token.Outside m = tt
 
 unsigned-right : (w : List ℕ) (t : Token) → MechanismRight w 0 43 t → TokenRight w t
 unsigned-right w (Token.Is t) m =
-    record { made = subst (λ (u : List ℕ). Produced u (saidOf w t)) (sym (span-whole (m .span))) (directive (unsigned (m .made))); other = m .other }
+    record { made = subst (λ (u : List ℕ). TermText u (saidOf w t)) (sym (span-whole (m .span))) (directive (unsigned (m .made))); other = m .other }
 unsigned-right w Token.Outside m = tt
 
 modifier-right : (w : List ℕ) (t : Token) → ModifierRight w t → TokenRight w t
@@ -72,7 +72,7 @@ token-right w = token-elim w (TokenRight w)
 token-made : (w : List ℕ) (t : Term) → tokenOf w ≡ Token.Is t → TokenMade w t
 token-made w t e = subst (TokenRight w) e (token-right w)
 
-pub token-sound : (w : List ℕ) (t : Term) → tokenOf w ≡ Token.Is t → Produced w (saidOf w t)
+pub token-sound : (w : List ℕ) (t : Term) → tokenOf w ≡ Token.Is t → TermText w (saidOf w t)
 token-sound w t e = token-made w t e .made
 
 pub record TokenRead (w : List ℕ) (x : Said) : Type 0 where
@@ -92,7 +92,7 @@ modifier-read : {w : List ℕ} {x : Said} → ModifierRead w x → TokenRead w x
 unfolding tokenOf
 modifier-read {w} m = record { term = m .term; read = simp (alpha-unsigned (at w 0) (m .letter), m .equals, m .read); says = m .says }
 
-pub token-complete : {w : List ℕ} {x : Said} → Produced w x → TokenRead w x
+pub token-complete : {w : List ℕ} {x : Said} → TermText w x → TokenRead w x
 token-complete (directive (unsigned {w = w} m)) = unsigned-read (mechanism-complete m w 0 (span-all w))
 token-complete (directive (signed {q = q} {w = w} h m)) =
     signed-read h (mechanism-complete m (q ∷ w) 1 (span-cut (q ∷ []) w (span-all (q ∷ w)) .1))
@@ -107,7 +107,7 @@ empty-outside : tokenOf [] ≡ Token.Outside
 unfolding tokenOf isQualifier mechanismOf mechanismBy kindOf laterKind sameWord same runEnd run
 empty-outside = refl
 
-some-term : (w : List ℕ) {x : Said} → Produced w x → 0 < length w
+some-term : (w : List ℕ) {x : Said} → TermText w x → 0 < length w
 some-term [] d =
     let r = token-complete d .read in
     let z : _≡_ {A = ℕ} 0 1 = cc empty-outside in
@@ -118,12 +118,12 @@ qualifier-solid : (q : ℕ) → isQualifier q ≡ true → eqb q 32 ≡ false
 unfolding isQualifier
 qualifier-solid q h = apart isQualifier q 32 h refl
 
-solid-term : {w : List ℕ} {x : Said} → Produced w x → all isNotSpace w ≡ true
+solid-term : {w : List ℕ} {x : Said} → TermText w x → all isNotSpace w ≡ true
 solid-term (directive (unsigned m)) = solid-mechanism m
 solid-term (directive (signed {q = q} {w = w} h m)) = solid-one q w (qualifier-solid q h) (solid-mechanism m)
 solid-term (modifier-term m) = solid-modifier m
 
-pub term-solid : {w : List ℕ} {x : Said} → Produced w x → Solid w
+pub term-solid : {w : List ℕ} {x : Said} → TermText w x → Solid w
 term-solid {w} d = record { some = some-term w d; no-space = solid-term d }
 
 -- a redirect or an exp is known by its name

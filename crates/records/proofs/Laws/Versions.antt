@@ -16,44 +16,44 @@ use Rattle.text.proofs.Laws.Tests.{and-left, and-right, and-both, or-elim, or-r
 use Rattle.text.proofs.Laws.Words.{same-true, true-same}
 use Rattle.records.specs.Grammar.{Literal}
 use Rattle.records.specs.Answers.{Version}
-use Rattle.records.specs.Reader.{hasVersion}
+use Rattle.records.specs.Reader.{hasVersion, after-version}
 
-pub version-length : (v : List ℕ) → Literal (bytes "v=spf1") v → length v ≡ 6
+pub version-length : (v : List ℕ) → Literal (bytes "v=spf1") v → length v ≡ after-version
 version-length v l = sym (length-map v lower) ∙ ap length (l .lowered)
 
 module _ {s v rest : List ℕ} (d : Version s v rest) where
-  pub version-size : length v ≡ 6
+  pub version-size : length v ≡ after-version
   version-size = version-length v (d .version)
 
-  pub version-rest : drop 6 s ≡ rest
+  pub version-rest : drop after-version s ≡ rest
   version-rest = subst (λ (n : ℕ). drop n s ≡ rest) version-size (ap (drop (length v)) (d .whole) ∙ drop-append-seam v rest)
 
-  front-is : take 6 s ≡ v
+  front-is : take after-version s ≡ v
   front-is = subst (λ (n : ℕ). take n s ≡ v) version-size (ap (take (length v)) (d .whole) ∙ take-append-seam v rest)
 
-  version-ends : (eqb (length s) 6 || eqb (at s 6) 32) ≡ true
+  version-ends : (eqb (length s) after-version || eqb (at s after-version) 32) ≡ true
   version-ends = ⊎-elim
       (λ (h : rest ≡ []).
-      let l : length s ≡ 6 = omega (arith, simp length-append at (ap length (d .whole)), ap length h, version-size) in
-      simp (eq-eqb (length s) 6 l))
+      let l : length s ≡ after-version = omega (arith, simp length-append at (ap length (d .whole)), ap length h, version-size) in
+      simp (eq-eqb (length s) after-version l))
       (λ (h : at rest 0 ≡ 32).
-      or-right (eqb (length s) 6) (eqb (at s 6) 32) (eq-eqb (at s 6) 32 (sym (getD-drop 6 s 0 0) ∙ ap (λ (t : List ℕ). at t 0) version-rest ∙ h)))
+      or-right (eqb (length s) after-version) (eqb (at s after-version) 32) (eq-eqb (at s after-version) 32 (sym (getD-drop after-version s 0 0) ∙ ap (λ (t : List ℕ). at t 0) version-rest ∙ h)))
       (d .ends)
 
   pub has-version : hasVersion s ≡ true
   unfolding hasVersion sameWord
-  has-version = and-both (sameWord (part s 0 6) (bytes "v=spf1")) (eqb (length s) 6 || eqb (at s 6) 32)
-      (true-same (map lower (take 6 s)) (bytes "v=spf1") (ap (map lower) front-is ∙ d .version .lowered)) version-ends
+  has-version = and-both (sameWord (part s 0 after-version) (bytes "v=spf1")) (eqb (length s) after-version || eqb (at s after-version) 32)
+      (true-same (map lower (take after-version s)) (bytes "v=spf1") (ap (map lower) front-is ∙ d .version .lowered)) version-ends
 
-pub version-of : (s : List ℕ) → hasVersion s ≡ true → Version s (take 6 s) (drop 6 s)
+pub version-of : (s : List ℕ) → hasVersion s ≡ true → Version s (take after-version s) (drop after-version s)
 unfolding hasVersion sameWord
 version-of s h = record {
-  whole = sym (take-append-drop 6 s);
-  version = record { lowered = same-true (map lower (take 6 s)) (bytes "v=spf1") (and-left (sameWord (part s 0 6) (bytes "v=spf1")) (eqb (length s) 6 || eqb (at s 6) 32) h) };
-  ends = or-elim (eqb (length s) 6) (eqb (at s 6) 32) (and-right (sameWord (part s 0 6) (bytes "v=spf1")) (eqb (length s) 6 || eqb (at s 6) 32) h)
-      (λ (q : eqb (length s) 6 ≡ true). let l = eqb-true (length s) 6 q in inl (drop-of-length-le s {i = 6} (omega arith)))
-      (λ (q : eqb (at s 6) 32 ≡ true). inr (getD-drop 6 s 0 0 ∙ eqb-true (at s 6) 32 q));
+  whole = sym (take-append-drop after-version s);
+  version = record { lowered = same-true (map lower (take after-version s)) (bytes "v=spf1") (and-left (sameWord (part s 0 after-version) (bytes "v=spf1")) (eqb (length s) after-version || eqb (at s after-version) 32) h) };
+  ends = or-elim (eqb (length s) after-version) (eqb (at s after-version) 32) (and-right (sameWord (part s 0 after-version) (bytes "v=spf1")) (eqb (length s) after-version || eqb (at s after-version) 32) h)
+      (λ (q : eqb (length s) after-version ≡ true). let l = eqb-true (length s) after-version q in inl (drop-of-length-le s {i = after-version} (omega arith)))
+      (λ (q : eqb (at s after-version) 32 ≡ true). inr (getD-drop after-version s 0 0 ∙ eqb-true (at s after-version) 32 q));
 }
 
-pub version-inside : {s v rest : List ℕ} → Version s v rest → 6 ≤ length s
+pub version-inside : {s v rest : List ℕ} → Version s v rest → after-version ≤ length s
 version-inside {s} {v} {rest} d = omega (arith, simp length-append at (ap length (d .whole)), version-size d)

@@ -13,20 +13,21 @@ use Rattle.text.proofs.Laws.Tests.{and-left, or-false-both}
 use Rattle.text.proofs.Laws.Spans.{Span, span-cut, span-word}
 use Rattle.text.proofs.Laws.Classes.{space-is}
 use Rattle.records.specs.Readings.{Said, Placed}
-use Rattle.records.specs.Grammar.{Term as Produced, Terms, done, term, countOf}
+use Rattle.records.specs.Grammar.{TermText, Terms, done, term, countOf}
 use Rattle.records.specs.Numbers.{saidOf, TermReport, termReport}
-use Rattle.records.specs.Reader.{tokenAnswer, readTerm, isRedirect, isExplanation, checkAfter, checkFrom, Reads, stop, step}
+use Rattle.records.specs.Answers.{most-bytes, Boundary}
+use Rattle.records.specs.Reader.{tokenAnswer, readTerm, isRedirect, isExplanation, checkAfter, checkFrom, Reads, stop, step, after-version}
 use Rattle.records.specs.declared.Term.{Term}
 use Rattle.records.specs.declared.TermAnswer.{TermAnswer}
 use Rattle.records.specs.declared.RecordAnswer.{RecordAnswer}
 use Rattle.records.proofs.Laws.Tokens.{token-complete, term-solid, redirect-name, explanation-name}
-use Rattle.records.proofs.Laws.NextRuns.{Boundary, NextRun, run-forward, read-run}
+use Rattle.records.proofs.Laws.NextRuns.{NextRun, run-forward, read-run}
 use Rattle.records.proofs.Laws.Counts.{count, count-none, count-more, Fits, flag-free, flag-sum}
 
 -- from place i the terms ts, the last of which ends at j
 pub data Walk (s : List ℕ) : ℕ → List Placed → ℕ → Type 0 where
   here : {i : ℕ} → Walk s i [] i
-  next : {i a e j : ℕ} {u w : List ℕ} {x : Said} {ts : List Placed} → NextRun s i a e u w → Produced w x → Walk s e ts j
+  next : {i a e j : ℕ} {u w : List ℕ} {x : Said} {ts : List Placed} → NextRun s i a e u w → TermText w x → Walk s e ts j
       → Walk s i (record { place = a; said = x } ∷ ts) j
 
 -- what the terms of the productions begin with
@@ -53,7 +54,7 @@ unfolding all isSpace
 space-more u h = h
 
 -- with one term more at the front
-walk-term : {s : List ℕ} {i a e j : ℕ} {u w rest : List ℕ} {x : Said} {ts : List Placed} → Span s i a u → all isSpace u ≡ true → Produced w x → Span s a e w
+walk-term : {s : List ℕ} {i a e j : ℕ} {u w rest : List ℕ} {x : Said} {ts : List Placed} → Span s i a u → all isSpace u ≡ true → TermText w x → Span s a e w
     → Span s e j rest → Boundary (rest ++ drop j s) → Walked s e ts j → Walked s i (record { place = a; said = x } ∷ ts) j
 walk-term g m d v l b z =
     let o = term-solid d in
@@ -82,7 +83,7 @@ pub record TermRead (s : List ℕ) (i a e : ℕ) (x : Said) : Type 0 where
   pub redirect : same (x .name) (bytes "redirect") ≡ isRedirect found
   pub explanation : same (x .name) (bytes "exp") ≡ isExplanation found
 
-pub term-read : {s : List ℕ} {i a e : ℕ} {u w : List ℕ} {x : Said} → length s ≤ 4096 → NextRun s i a e u w → Produced w x → TermRead s i a e x
+pub term-read : {s : List ℕ} {i a e : ℕ} {u w : List ℕ} {x : Said} → length s ≤ most-bytes → NextRun s i a e u w → TermText w x → TermRead s i a e x
 unfolding tokenAnswer
 term-read {s} {i} {a} {e} {u} {w} {x} h n d =
     let o = token-complete d in
@@ -95,7 +96,7 @@ term-read {s} {i} {a} {e} {u} {w} {x} h n d =
     }
 
 -- reading term after term, up to the end
-pub walk-reads : {s : List ℕ} {i j : ℕ} {ts : List Placed} → length s ≤ 4096 → Walk s i ts j → readTerm s j ≡ TermAnswer.End → Reads s i ts
+pub walk-reads : {s : List ℕ} {i j : ℕ} {ts : List Placed} → length s ≤ most-bytes → Walk s i ts j → readTerm s j ≡ TermAnswer.End → Reads s i ts
 walk-reads h here q = stop (ap (termReport _) q)
 walk-reads {s} h (next {a = a} {e = e} n d k) q =
     let o = term-read h n d in
@@ -103,7 +104,7 @@ walk-reads {s} h (next {a = a} {e = e} n d k) q =
 
 -- the loop, by what reading a term answers
 module _ (f : ℕ) (s : List ℕ) (i : ℕ) (r x : Bool) where
-  pub check-end : readTerm s i ≡ TermAnswer.End → checkFrom (suc f) s i r x ≡ RecordAnswer.Accepted 6
+  pub check-end : readTerm s i ≡ TermAnswer.End → checkFrom (suc f) s i r x ≡ RecordAnswer.Accepted after-version
   unfolding checkFrom checkAfter
   check-end q = simp q
 
@@ -142,7 +143,7 @@ reached-before t {ts} e p q z = record {
   explanations = omega (arith, z .explanations, count-more (bytes "exp") t ts);
 }
 
-pub check-walk : {s : List ℕ} {i j : ℕ} {ts : List Placed} → length s ≤ 4096 → Walk s i ts j → (f : ℕ) → length s - i ≤ f → (r x : Bool)
+pub check-walk : {s : List ℕ} {i j : ℕ} {ts : List Placed} → length s ≤ most-bytes → Walk s i ts j → (f : ℕ) → length s - i ≤ f → (r x : Bool)
     → Fits (count r) (count x) ts → Reached s (checkFrom (suc f) s i r x) (count r) (count x) ts j
 check-walk h here f k r x c = record {
   fuel = f;

@@ -1,6 +1,6 @@
 -- `records::argument` meets its contract. From the laws of Checking.
-use Rattle.records.proofs.Laws.Checking.{argument-by, argument-none}
-use Rattle.records.specs.Numbers.{argumentOf}
+use Rattle.records.proofs.Laws.Checking.{argument-by, argument-all, argument-a, argument-mx, argument-ptr, argument-network}
+use Rattle.records.specs.Numbers.{saidOf}
 use borrow.Author.Needs.{needs}
 use Rattle.records.proofs.argument.Statement.{statement}
 use Rattle.records.proofs.argument.Tie as tie
@@ -69,42 +69,38 @@ value-part-requires : tie.Need-value-part-requires
 value-part-requires c κs = search needs
 
 returns : tie.Need-returns
-returns c = search argument-none
+returns c = search argument-all
 
 returns-2 : tie.Need-returns-2
-unfolding argumentOf
+unfolding saidOf
 returns-2 c = search argument-by
 
 returns-3 : tie.Need-returns-3
-unfolding argumentOf
-returns-3 c = search argument-by
+returns-3 c = search argument-a
 
 returns-4 : tie.Need-returns-4
-unfolding argumentOf
-returns-4 c = search argument-by
+returns-4 c = search argument-mx
 
 returns-5 : tie.Need-returns-5
-unfolding argumentOf
-returns-5 c = search argument-by
+returns-5 c = search argument-ptr
 
 returns-6 : tie.Need-returns-6
-unfolding argumentOf
-returns-6 c = search argument-by
+returns-6 c = search argument-network
 
 returns-7 : tie.Need-returns-7
-unfolding argumentOf
+unfolding saidOf
 returns-7 c = search argument-by
 
 returns-8 : tie.Need-returns-8
-unfolding argumentOf
+unfolding saidOf
 returns-8 c = search argument-by
 
 returns-9 : tie.Need-returns-9
-unfolding argumentOf
+unfolding saidOf
 returns-9 c = search argument-by
 
 returns-10 : tie.Need-returns-10
-unfolding argumentOf
+unfolding saidOf
 returns-10 c = search argument-by
 
 pub argument-spec : {M : Type 1} → statement M

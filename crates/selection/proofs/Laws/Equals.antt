@@ -13,7 +13,7 @@ use Rattle.text.specs.Lists.{same, contains}
 use Rattle.text.specs.Texts.{bytes}
 use Rattle.text.proofs.Laws.Tests.{true-false, test-fails, or-false-left, or-false-right}
 use Rattle.text.proofs.Laws.Spans.{rest-part}
-use Rattle.records.specs.Readings.{absent, Placed}
+use Rattle.records.specs.Readings.{absent}
 use Rattle.records.specs.Numbers.{termReport, saidOf}
 use Rattle.records.specs.Reader.{tokenOf, readTerm, isRedirect, isExplanation}
 use Rattle.records.specs.declared.Term.{Term}

@@ -1,5 +1,5 @@
 -- Record lookup by the entry that was found: what a table settles of it, and where the domain's name stands. From answers' laws of what a table
--- answers and table's laws of places.
+-- answers, table's laws of places, and Inversions.
 use Prim.Native.Nat.{ℕ, _-_, _≤_, _<_}
 use mathlib.Core.Path.{_≡_, refl, sym, subst, _∙_}
 use mathlib.Core.List.{List, [], _∷_}
@@ -20,10 +20,12 @@ use Rattle.answers.proofs.Laws.Asked.{asks-missing, asks-entry, run-missing, ru
 use Rattle.records.specs.Readings.{present}
 use Rattle.meaning.specs.declared.Counts.{Counts}
 use Rattle.meaning.specs.declared.Selected.{Selected}
-use Rattle.meaning.specs.Tree.{failed, items, settled, wanting, run}
+use Rattle.meaning.specs.Tree.{failed, items, run}
 use Rattle.meaning.specs.Tables.{replyBy, tableIn}
-use Rattle.meaning.specs.Evaluation.{ends, one, versioned, selection, textReply, textLookup, spfItems, spfReply, recordLookup}
-use Rattle.meaning.specs.Outcomes.{wantedBuffer, SelectedIs, SaysSelection}
+use Rattle.meaning.specs.Evaluation.{Selection, ends, one, versioned, selection, textReply, textLookup, spfItems, spfReply, recordLookup}
+use Rattle.meaning.specs.Outcomes.{Settles, Wants, SelectionIs, SaysSelection}
+use Rattle.meaning.proofs.Laws.Runs.{give-settles}
+use Rattle.meaning.proofs.Laws.Inversions.{gives, lookup-gives, lookup-wanted}
 use Rattle.selection.specs.Picking.{hasTexts, textsAt, PickedIs}
 use Rattle.selection.specs.declared.Picked.{Picked}
 
@@ -74,55 +76,55 @@ module _ (t d : List ℕ) (c : Counts) where
 
   -- an entry with texts is taken
   spf-taken : (status start end : ℕ) → findAt t 99 d ≡ Found.Entry status start end → hasTexts (Found.Entry status start end) ≡ true
-      → (status ≡ 2 → ⊥) × (run (tableIn t) (recordLookup d c) ≡ settled (selection (versioned (itemsOf (part t start end)))))
-  unfolding spfReply spfItems hasTexts replyBy run
+      → (status ≡ 2 → ⊥) × Settles (run (tableIn t) (recordLookup d c)) (selection (versioned (itemsOf (part t start end))))
+  unfolding spfReply spfItems hasTexts replyBy
   spf-taken status start end p h = by (eqb status 2) refl h
     where
       by : (b : Bool) → eqb status 2 ≡ b → cond b false (ltb start end) ≡ true
-          → (status ≡ 2 → ⊥) × (run (tableIn t) (recordLookup d c) ≡ settled (selection (versioned (itemsOf (part t start end)))))
+          → (status ≡ 2 → ⊥) × Settles (run (tableIn t) (recordLookup d c)) (selection (versioned (itemsOf (part t start end))))
       by true e k = absurd (true-false false k refl)
       by false e k =
           let w = found-within t 99 d status start end p in
           let n : start < end = ltb-true start end k in
           let l : 0 < length (part t start end) = omega (arith, w .1, length-take (end - start) (drop start t), length-drop start t) in
           let m = of-more (part t start end) l in
-          (eqb-false status 2 e, lookup-is ∙ rw (asks-entry t 99 d _ (sym p) status start end refl, e, m))
+          (eqb-false status 2 e, rw (lookup-is, asks-entry t 99 d _ (sym p) status start end refl, e, m) (give-settles (tableIn t) _))
 
 -- what a table settles of record lookup, by the entry that was found, and the domain's name before its items
-abbrev Settles : (t d : List ℕ) → Counts → Found → Type 0
-Settles t d c (Found.Entry status start end) =
-    (status ≡ 2 → run (tableIn t) (recordLookup d c) ≡ settled (ends 5))
-    × ((status ≡ 2 → ⊥) → run (tableIn t) (recordLookup d c) ≡ settled (selection (versioned (itemsOf (part t start end)))))
+abbrev LookedUp : (t d : List ℕ) → Counts → (b a : List ℕ) → Found → Type 0
+LookedUp t d c b a (Found.Entry status start end) =
+    (status ≡ 2 → Settles (run (tableIn t) (recordLookup d c)) (ends 5))
+    × ((status ≡ 2 → ⊥) → Settles (run (tableIn t) (recordLookup d c)) (selection (versioned (itemsOf (part t start end)))))
     × (length d ≤ start)
     × (part t (start - length d) start ≡ d)
-Settles t d c Found.Missing = run (tableIn t) (recordLookup d c) ≡ wanting 16 d c
+LookedUp t d c b a Found.Missing = a ≡ overwritten d b → Wants (run (tableIn t) (recordLookup d c)) 16 (length d) c b a
 
-module _ (t d : List ℕ) (c : Counts) where
-  settles-spf : (f : Found) → findAt t 99 d ≡ f → hasTexts f ≡ true → Settles t d c f
+module _ (t d : List ℕ) (c : Counts) (b a : List ℕ) where
+  looked-spf : (f : Found) → findAt t 99 d ≡ f → hasTexts f ≡ true → LookedUp t d c b a f
   unfolding hasTexts
-  settles-spf Found.Missing p h = absurd (true-false false h refl)
-  settles-spf (Found.Entry status start end) p h =
+  looked-spf Found.Missing p h = absurd (true-false false h refl)
+  looked-spf (Found.Entry status start end) p h =
       let s = spf-taken t d c status start end p h in
       let n = found-name t 99 d status start end p in
       (λ e. absurd (s .0 e), λ _. s .1, n .0, n .1)
 
-  settles-txt : (f : Found) → findAt t 16 d ≡ f → run (tableIn t) (recordLookup d c) ≡ run (tableIn t) (textLookup d c) → Settles t d c f
-  unfolding textLookup textReply run
-  settles-txt Found.Missing p x = x ∙ run-missing t 16 d Found.Missing (sym p) c textReply refl
-  settles-txt (Found.Entry status start end) p x =
+  looked-txt : (f : Found) → findAt t 16 d ≡ f → run (tableIn t) (recordLookup d c) ≡ run (tableIn t) (textLookup d c) → LookedUp t d c b a f
+  unfolding textLookup textReply
+  looked-txt Found.Missing p x = λ w. rw x (run-missing t 16 d Found.Missing (sym p) c textReply refl b a w)
+  looked-txt (Found.Entry status start end) p x =
       let n = found-name t 16 d status start end p in (
-        λ e. x ∙ run-failed t 16 d _ (sym p) c textReply status start end refl e,
-        λ e. x ∙ run-items t 16 d _ (sym p) c textReply status start end refl e,
+        λ e. rw (x, run-failed t 16 d _ (sym p) c textReply status start end refl e) (give-settles (tableIn t) _),
+        λ e. rw (x, run-items t 16 d _ (sym p) c textReply status start end refl e) (give-settles (tableIn t) _),
         n .0,
         n .1,
       )
 
-  settles : Settles t d c (textsAt t d)
+  looked-up : LookedUp t d c b a (textsAt t d)
   unfolding textsAt
-  settles =
-      cond-elim (Settles t d c) (hasTexts (findAt t 99 d)) {x = findAt t 99 d} {y = findAt t 16 d}
-      (λ h. settles-spf (findAt t 99 d) refl h)
-      (λ h. settles-txt (findAt t 16 d) refl (spf-passed t d c (findAt t 99 d) refl h))
+  looked-up =
+      cond-elim (LookedUp t d c b a) (hasTexts (findAt t 99 d)) {x = findAt t 99 d} {y = findAt t 16 d}
+      (λ h. looked-spf (findAt t 99 d) refl h)
+      (λ h. looked-txt (findAt t 16 d) refl (spf-passed t d c (findAt t 99 d) refl h))
 
 -- what is selected of texts, by the records that were picked
 selected-none : (t : List ℕ) (ss : List (List ℕ)) (r : Picked) → PickedIs t ss r → r ≡ Picked.Nothing → selection ss ≡ ends 0
@@ -148,37 +150,44 @@ selected-one t (s ∷ u ∷ ss) r h from to e = let z : _≡_ {A = ℕ} 0 1 = cc
 
 -- `select_record`
 module _ (t d : List ℕ) (c : Counts) (b : List ℕ) (f : Found) (p : f ≡ textsAt t d) where
+  by-found : (a : List ℕ) (g : Found) → f ≡ g → LookedUp t d c b a g
+  by-found a g e = subst (LookedUp t d c b a) (sym p ∙ e) (looked-up t d c b a)
+
   pub select-missing : f ≡ Found.Missing → (a : List ℕ) → a ≡ overwritten d b
       → SaysSelection c d t (run (tableIn t) (recordLookup d c)) (Selected.Wanting 16 (length d)) b a
-  unfolding SelectedIs wantedBuffer
-  select-missing e a w =
-      let s : run (tableIn t) (recordLookup d c) ≡ wanting 16 d c = subst (Settles t d c) (sym p ∙ e) (settles t d c) in
-      rw s (record { lookup = (refl, refl); buffer = w })
+  select-missing e a w = lookup-wanted c d t _ 16 (length d) b a (by-found a Found.Missing e w)
 
   module _ (status start end : ℕ) (e : f ≡ Found.Entry status start end) where
-    found : Settles t d c (Found.Entry status start end)
-    found = subst (Settles t d c) (sym p ∙ e) (settles t d c)
+    found : LookedUp t d c b b (Found.Entry status start end)
+    found = by-found b (Found.Entry status start end) e
 
     pub name-before : length d ≤ start
     name-before = found .2
 
+    selects : (s : Selection) → Settles (run (tableIn t) (recordLookup d c)) s → (r : Selected) → SelectionIs d t s r
+        → SaysSelection c d t (run (tableIn t) (recordLookup d c)) r b b
+    selects s h r w = lookup-gives c d t _ s r b b (gives _ s b h) w
+
     pub select-failed : status ≡ 2 → SaysSelection c d t (run (tableIn t) (recordLookup d c)) (Selected.Ends 5) b b
-    unfolding SelectedIs wantedBuffer
-    select-failed h = rw (found .0 h) (record { lookup = refl; buffer = refl })
+    unfolding SelectionIs
+    select-failed h = selects (ends 5) (found .0 h) (Selected.Ends 5) refl
 
     module _ (h : status ≡ 2 → ⊥) (r : Picked) (q : PickedIs t (versioned (itemsOf (part t start end))) r) where
+      picked : (s : Selection) → selection (versioned (itemsOf (part t start end))) ≡ s → Settles (run (tableIn t) (recordLookup d c)) s
+      picked s k = rw (← k) (found .1 h)
+
       pub select-none : r ≡ Picked.Nothing → SaysSelection c d t (run (tableIn t) (recordLookup d c)) (Selected.Ends 0) b b
-      unfolding SelectedIs wantedBuffer
-      select-none k = rw (found .1 h, selected-none t _ r q k) (record { lookup = refl; buffer = refl })
+      unfolding SelectionIs
+      select-none k = selects (ends 0) (picked (ends 0) (selected-none t _ r q k)) (Selected.Ends 0) refl
 
       pub select-several : r ≡ Picked.Several → SaysSelection c d t (run (tableIn t) (recordLookup d c)) (Selected.Ends 6) b b
-      unfolding SelectedIs wantedBuffer
-      select-several k = rw (found .1 h, selected-several t _ r q k) (record { lookup = refl; buffer = refl })
+      unfolding SelectionIs
+      select-several k = selects (ends 6) (picked (ends 6) (selected-several t _ r q k)) (Selected.Ends 6) refl
 
       pub select-one : (from to : ℕ) → r ≡ Picked.One from to
           → SaysSelection c d t (run (tableIn t) (recordLookup d c))
           (Selected.One (record { from = start - length d; to = start }) (record { from = from; to = to })) b b
-      unfolding SelectedIs wantedBuffer
+      unfolding SelectionIs
       select-one from to k =
-          rw (found .1 h, selected-one t _ r q from to k)
-          (record { lookup = (record { from = start - length d; to = start }, record { from = from; to = to }, refl, found .3, refl); buffer = refl })
+          selects (one (part t from to)) (picked (one (part t from to)) (selected-one t _ r q from to k)) _
+          (record { from = start - length d; to = start }, record { from = from; to = to }, refl, found .3, refl)

@@ -15,7 +15,7 @@ use borrow.Author.Tests.{ltb-true, ltb-false, eqb-true, eqb-false, lt-ltb, le-lt
 use Rattle.text.proofs.Laws.Tests.{cond-elim}
 use Rattle.table.specs.Layout.{Entry, Encodes, Entries, none, more, holds, distinct}
 use Rattle.table.specs.Numbers.{Report, accepted, refused, byte, reported}
-use Rattle.table.specs.Answers.{most-entries, Encoded, Ill, TableAnswers, too-long, malformed, repeated, whole}
+use Rattle.table.specs.Answers.{most-entries, Encoded, NoEntry, TableAnswers, too-long, malformed, repeated, whole}
 use Rattle.table.specs.Reader.{headerOf, isWell, nameOf, entryOf, findAt, isFound, stepAfter, stepAt, checkAfter, checkFrom, checkTable}
 use Rattle.table.specs.declared.entries.Header.{Header}
 use Rattle.table.specs.declared.entries.Header.the-variants.{Whole, Broken}
@@ -37,7 +37,7 @@ record Stands (t : List ℕ) (i size : ℕ) (seen : Bool) : Type 0 where
 -- what each answer at a place says
 abbrev StepRight : List ℕ → ℕ → Step → Type 0
 StepRight t i (Step.Next next) = (size : ℕ) × (next ≡ i + size) × Stands t i size false
-StepRight t i Step.Malformed = Ill (drop i t)
+StepRight t i Step.Malformed = NoEntry (drop i t)
 StepRight t i Step.Repeated = (size : ℕ) × Stands t i size true
 
 step-right : (t : List ℕ) (i : ℕ) → StepRight t i (stepAt t i)
@@ -204,7 +204,7 @@ comes-to {front} {es} p t rest q short =
     turn (suc f) l e = (f, e)
 
 -- where no well-formed entry begins, the step says so
-ill-step : (t : List ℕ) (i : ℕ) → Ill (drop i t) → stepAt t i ≡ Step.Malformed
+ill-step : (t : List ℕ) (i : ℕ) → NoEntry (drop i t) → stepAt t i ≡ Step.Malformed
 ill-step t i ill = by (stepAt t i) (step-right t i)
   where
     never : (size : ℕ) (seen : Bool) → Stands t i size seen → ⊥
@@ -223,12 +223,12 @@ table-answers-is {t} (malformed front rest {es = es} short q p some o) =
     let c = comes-to p t rest q short in
     let here : length front < length t = omega (arith, ap length q, length-append front rest) in
     let at-front : drop (length front) t ≡ rest = ap (drop (length front)) q ∙ drop-append-seam front rest in
-    let bad : (length es ≡ 512 → ⊥) → Ill rest → checkFrom (suc (c .0)) t (length front) (length es) ≡ Malformed (length front) =
-    λ few ill. check-bad (c .0) t (length front) (length es) here few (ill-step t (length front) (subst Ill (sym at-front) ill)) in
+    let bad : (length es ≡ 512 → ⊥) → NoEntry rest → checkFrom (suc (c .0)) t (length front) (length es) ≡ Malformed (length front) =
+    λ few ill. check-bad (c .0) t (length front) (length es) here few (ill-step t (length front) (subst NoEntry (sym at-front) ill)) in
     ap reported (sym (c .1 ∙ by (c .0) here bad o (decLt (length es) 512)))
   where
-    by : (f : ℕ) → length front < length t → ((length es ≡ 512 → ⊥) → Ill rest → checkFrom (suc f) t (length front) (length es) ≡ Malformed (length front))
-        → (length es ≡ most-entries) ⊎ Ill rest → Dec (length es < 512) → checkFrom (suc f) t (length front) (length es) ≡ Malformed (length front)
+    by : (f : ℕ) → length front < length t → ((length es ≡ 512 → ⊥) → NoEntry rest → checkFrom (suc f) t (length front) (length es) ≡ Malformed (length front))
+        → (length es ≡ most-entries) ⊎ NoEntry rest → Dec (length es < 512) → checkFrom (suc f) t (length front) (length es) ≡ Malformed (length front)
     by f here bad o (no l) = check-full f t (length front) (length es) here (omega (arith, p .few))
     by f here bad (inl n) (yes l) = absurd (omega arith)
     by f here bad (inr ill) (yes l) = bad (λ n. omega arith) ill

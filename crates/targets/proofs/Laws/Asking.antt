@@ -1,4 +1,4 @@
--- p's questions, name after name: a rule for each way out. From the laws of questions in answers, of items in table, and of the choice.
+-- p's questions, name after name: a rule for each way out. From the laws of questions in answers, of items in table, of the choice, and Inversions.
 use Prim.Native.Nat.{ℕ, suc, _+_, _-_, _*_, _^_, _≤_, _<_}
 use mathlib.Core.Path.{_≡_, refl, sym, ap, subst, _∙_}
 use mathlib.Core.List.{List, [], _∷_, _++_}
@@ -16,28 +16,22 @@ use Rattle.table.proofs.Laws.Items.{items-step, items-end, next-further}
 use Rattle.notation.specs.Forms.{reversedName}
 use Rattle.notation.proofs.Laws.Lengths.{length-reversed}
 use Rattle.macros.proofs.Laws.Expanding.{value-taken}
-use Rattle.records.specs.Readings.{Optional, absent, present}
 use Rattle.meaning.specs.declared.Counts.{Counts}
 use Rattle.meaning.specs.declared.PValue.{PValue}
-use Rattle.meaning.specs.Tree.{Reply, failed, items, Table, ask, Settled, settled, wanting, answered, bind, then, run}
+use Rattle.meaning.specs.Tree.{failed, items, Table, ask, bind, run}
 use Rattle.meaning.specs.Tables.{replyBy, tableIn}
 use Rattle.meaning.specs.Mechanisms.{addressKind, includesClient, withValid, validated, namesOf, chosen, holdsName, firstBelow, firstOr, givesChosen, pReply, pValue}
-use Rattle.meaning.specs.Outcomes.{wantedBuffer, PIs, SaysP, Wants}
+use Rattle.meaning.specs.Outcomes.{Gives, Wants, ValueIs, SaysP}
 use Rattle.meaning.proofs.Laws.Runs.{bind-is}
-use Rattle.meaning.proofs.Laws.Inversions.{wants-bind}
+use Rattle.meaning.proofs.Laws.Inversions.{gives-give, gives-bind, wants-bind, p-gives, p-wanted}
 use Rattle.answers.proofs.Laws.Asked.{run-missing, run-entry, run-failed, run-items}
 use Rattle.targets.specs.declared.Choice.{Choice}
 use Rattle.targets.specs.declared.Choice.the-variants.{Nobody}
 use Rattle.targets.specs.declared.Validity.{Validity}
 use Rattle.targets.specs.declared.Validity.the-variants.{Yes, No, Wanting}
-use Rattle.targets.specs.Choosing.{choiceWith, valueOf, givesValid, valid, SaysValid}
+use Rattle.targets.specs.Choosing.{choiceWith, choiceValue, givesValid, valid, SaysValid}
 use Rattle.table.proofs.Laws.Places.{item-part}
 use Rattle.targets.proofs.Laws.Choosing.{Picks, picks-none, picks-more, picks-value}
-
--- a value of p that is wanted
-pub p-wanted : (c : Counts) (d t : List ℕ) (x : Settled (List ℕ)) (kind size : ℕ) (b a : List ℕ) → Wants x kind size c b a → SaysP c d t x (PValue.Wanting kind size) b a
-unfolding PIs wantedBuffer
-p-wanted c d t x kind size b a w = rw (w .is, w .size-is) (record { value = (refl, refl); buffer = w .buffer })
 
 -- `validate`
 module _ (client : Address) (c : Counts) (t n : List ℕ) (kind : ℕ) (k : kind ≡ addressKind client) (f : Found) (p : f ≡ findAt t kind n) where
@@ -47,41 +41,35 @@ module _ (client : Address) (c : Counts) (t n : List ℕ) (kind : ℕ) (k : kind
 
   pub valid-missing : f ≡ Found.Missing → (b a : List ℕ) → a ≡ overwritten n b → SaysValid c (run (tableIn t) (valid client c n)) (Wanting kind (length n)) b a
   unfolding SaysValid
-  valid-missing e b a w = record { asked = n; is = rw valid-is (run-missing t kind n f p c (givesValid client) e); size-is = refl; buffer = w }
+  valid-missing e b a w = rw valid-is (run-missing t kind n f p c (givesValid client) e b a w)
 
   module _ (status start end : ℕ) (e : f ≡ Found.Entry status start end) (u : List ℕ) (h : u ≡ part t start end) (r : Bool) (i : r ≡ includesClient client (replyBy status (itemsOf u))) where
-    valid-by : run (tableIn t) (valid client c n) ≡ settled r
-    unfolding givesValid run
-    valid-by =
-        let y : includesClient client (replyBy status (itemsOf (part t start end))) ≡ r = rw (← h) (sym i) in
-        rw valid-is (run-entry t kind n f p c (givesValid client) status start end e) ∙ ap settled y
+    valid-by : (v : Bool) → r ≡ v → (b : List ℕ) → Gives (run (tableIn t) (valid client c n)) v b b
+    unfolding givesValid
+    valid-by v k b =
+        let y : includesClient client (replyBy status (itemsOf (part t start end))) ≡ v = rw (← h) (sym i ∙ k) in
+        rw (valid-is, run-entry t kind n f p c (givesValid client) status start end e, y) (gives-give (tableIn t) v b)
 
     pub valid-yes : r ≡ true → (b : List ℕ) → SaysValid c (run (tableIn t) (valid client c n)) Yes b b
     unfolding SaysValid
-    valid-yes y b = record { is = valid-by ∙ ap settled y; kept = refl }
+    valid-yes y b = valid-by true y b
 
     pub valid-no : r ≡ false → (b : List ℕ) → SaysValid c (run (tableIn t) (valid client c n)) No b b
     unfolding SaysValid
-    valid-no y b = record { is = valid-by ∙ ap settled y; kept = refl }
+    valid-no y b = valid-by false y b
 
 -- what is validated of a name and those after it, by the name
 module _ (t : Table) (client : Address) (c : Counts) (n : List ℕ) (ns found : List (List ℕ)) where
-  validated-is : run t (validated client c (n ∷ ns) found) ≡ then (run t (valid client c n)) (λ b. run t (validated client c ns (cond b (found ++ (n ∷ [])) found)))
-  unfolding validated withValid valid givesValid run then answered
-  validated-is = by (t (addressKind client) n)
-    where
-      by : (o : Optional Reply) → answered o (wanting (addressKind client) n c) (λ r. run t (validated client c ns (cond (includesClient client r) (found ++ (n ∷ [])) found)))
-          ≡ then (answered o (wanting (addressKind client) n c) (λ r. settled (includesClient client r))) (λ b. run t (validated client c ns (cond b (found ++ (n ∷ [])) found)))
-      by absent = refl
-      by (present r) = refl
+  validated-is : validated client c (n ∷ ns) found ≡ bind (valid client c n) (λ b. validated client c ns (cond b (found ++ (n ∷ [])) found))
+  unfolding validated withValid valid givesValid bind
+  validated-is = refl
 
-  validated-by : (b : Bool) → run t (valid client c n) ≡ settled b → run t (validated client c (n ∷ ns) found) ≡ run t (validated client c ns (cond b (found ++ (n ∷ [])) found))
-  unfolding then
-  validated-by b e = validated-is ∙ rw e
+  validated-by : (v : Bool) (b a : List ℕ) → Gives (run t (valid client c n)) v b a
+      → run t (validated client c (n ∷ ns) found) ≡ run t (validated client c ns (cond v (found ++ (n ∷ [])) found))
+  validated-by v b a g = rw validated-is (bind-is t (valid client c n) _ v (g .is))
 
   validated-wants : (kind size : ℕ) (b a : List ℕ) → Wants (run t (valid client c n)) kind size c b a → Wants (run t (validated client c (n ∷ ns) found)) kind size c b a
-  unfolding then
-  validated-wants kind size b a w = record { asked = w .asked; is = validated-is ∙ rw (w .is); size-is = w .size-is; buffer = w .buffer }
+  validated-wants kind size b a w = rw validated-is (wants-bind t (valid client c n) _ kind size c b a w)
 
 -- `choose_name`: the names from a place on, with the choice among those validated before it, come to what all names come to
 module _ (client : Address) (c : Counts) (t d s b : List ℕ) where
@@ -97,21 +85,23 @@ chosen-start client c t d s b = record { kept = refl; found = []; picks = picks-
 module _ (client : Address) (c : Counts) (t d s b out : List ℕ) (choice : Choice) (i left : ℕ) (w : Chosen client c t d s b out choice i left)
     (start end : ℕ) (e : s ≡ part t start end) where
   -- all names are asked
-  settled-at : (ns : List (List ℕ)) → ns ≡ take left (itemsOf (drop i s)) → ns ≡ [] → (r : PValue) → r ≡ valueOf choice
+  all-asked : (ns : List (List ℕ)) → ns ≡ take left (itemsOf (drop i s)) → ns ≡ [] → (r : PValue) → r ≡ choiceValue choice
       → SaysP c d t (run (tableIn t) (pReply client d c (items (itemsOf (part t start end))))) r b out
-  unfolding pReply namesOf givesChosen validated run wantedBuffer
-  settled-at ns p q r v =
-      let z : run (tableIn t) (validated client c (take 10 (itemsOf s)) []) ≡ settled (w .found) = sym (w .rest) ∙ rw (← p, q) in
-      let y : run (tableIn t) (pReply client d c (items (itemsOf (part t start end)))) ≡ settled (chosen d (w .found)) =
-      rw (← e) (bind-is (tableIn t) (validated client c (take 10 (itemsOf s)) []) (givesChosen d) (w .found) z)
+  unfolding pReply namesOf givesChosen validated
+  all-asked ns p q r v =
+      let z : Gives (run (tableIn t) (validated client c (take 10 (itemsOf s)) [])) (w .found) b out =
+      rw (w .kept, ← w .rest, ← p, q) (gives-give (tableIn t) (w .found) b)
       in
-      rw (y, v) (record { value = picks-value c d t choice (w .found) (w .picks); buffer = w .kept })
+      rw v
+      (p-gives c d t _ (chosen d (w .found)) (choiceValue choice) b out
+      (rw (← e) (gives-bind (tableIn t) (validated client c (take 10 (itemsOf s)) []) (givesChosen d) (w .found) (chosen d (w .found)) b out z refl))
+      (picks-value d t choice (w .found) (w .picks)))
 
-  pub chosen-end : length s ≤ i → (r : PValue) → r ≡ valueOf choice → SaysP c d t (run (tableIn t) (pReply client d c (items (itemsOf (part t start end))))) r b out
-  chosen-end h r v = settled-at (take left (itemsOf (drop i s))) refl (rw (items-end s i h) (take-nil left)) r v
+  pub chosen-end : length s ≤ i → (r : PValue) → r ≡ choiceValue choice → SaysP c d t (run (tableIn t) (pReply client d c (items (itemsOf (part t start end))))) r b out
+  chosen-end h r v = all-asked (take left (itemsOf (drop i s))) refl (rw (items-end s i h) (take-nil left)) r v
 
-  pub chosen-full : left ≤ 0 → (r : PValue) → r ≡ valueOf choice → SaysP c d t (run (tableIn t) (pReply client d c (items (itemsOf (part t start end))))) r b out
-  chosen-full h r v = let z : left ≡ 0 = omega arith in settled-at (take left (itemsOf (drop i s))) refl (rw z) r v
+  pub chosen-full : left ≤ 0 → (r : PValue) → r ≡ choiceValue choice → SaysP c d t (run (tableIn t) (pReply client d c (items (itemsOf (part t start end))))) r b out
+  chosen-full h r v = let z : left ≡ 0 = omega arith in all-asked (take left (itemsOf (drop i s))) refl (rw z) r v
 
   module _ (here : i < length s) (more : 0 < left) (next : ℕ) (m : next ≡ nextItem s i) (n : List ℕ) (is : n ≡ part t (start + i + 2) (start + next)) where
     name-is : firstItem (drop i s) ≡ n
@@ -134,7 +124,7 @@ module _ (client : Address) (c : Counts) (t d s b out : List ℕ) (choice : Choi
             kept = g .kept ∙ w .kept;
             found = w .found ++ (n ∷ []);
             picks = rw q (picks-more d t n (start + i + 2) (start + next) is choice (w .found) (w .picks));
-            rest = sym (validated-by (tableIn t) client c n (take (left - 1) (itemsOf (drop next s))) (w .found) true (g .is)) ∙ rest-is;
+            rest = sym (validated-by (tableIn t) client c n (take (left - 1) (itemsOf (drop next s))) (w .found) true out out′ g) ∙ rest-is;
           }
 
       pub chosen-no : v ≡ No → Chosen client c t d s b out′ choice next (left - 1)
@@ -145,7 +135,7 @@ module _ (client : Address) (c : Counts) (t d s b out : List ℕ) (choice : Choi
             kept = g .kept ∙ w .kept;
             found = w .found;
             picks = w .picks;
-            rest = sym (validated-by (tableIn t) client c n (take (left - 1) (itemsOf (drop next s))) (w .found) false (g .is)) ∙ rest-is;
+            rest = sym (validated-by (tableIn t) client c n (take (left - 1) (itemsOf (drop next s))) (w .found) false out out′ g) ∙ rest-is;
           }
 
       pub chosen-wants : (kind size : ℕ) → v ≡ Wanting kind size
@@ -178,16 +168,18 @@ module _ (client : Address) (c : Counts) (t d n : List ℕ) (f : Found) (p : f �
       → SaysP c d t (run (tableIn t) (ask 12 n c (pReply client d c))) (PValue.Wanting 12 (length n)) b a
   names-missing e b a w =
       p-wanted c d t (run (tableIn t) (ask 12 n c (pReply client d c))) 12 (length n) b a
-      (record { asked = n; is = run-missing t 12 n f p c (pReply client d c) e; size-is = refl; buffer = w })
+      (run-missing t 12 n f p c (pReply client d c) e b a w)
 
   module _ (status start end : ℕ) (e : f ≡ Found.Entry status start end) where
-    none-found : run (tableIn t) (pReply client d c failed) ≡ settled (bytes "unknown")
-    unfolding pReply namesOf validated givesChosen chosen holdsName firstBelow firstOr run bind
-    none-found = refl
+    none-found : (b : List ℕ) → Gives (run (tableIn t) (pReply client d c failed)) (bytes "unknown") b b
+    unfolding pReply namesOf validated givesChosen chosen holdsName firstBelow firstOr bind
+    none-found b = gives-give (tableIn t) (bytes "unknown") b
 
     pub names-failed : status ≡ 2 → (b : List ℕ) → SaysP c d t (run (tableIn t) (ask 12 n c (pReply client d c))) PValue.Unknown b b
-    unfolding PIs wantedBuffer
-    names-failed h b = rw (run-failed t 12 n f p c (pReply client d c) status start end e h, none-found) (record { value = refl; buffer = refl })
+    unfolding ValueIs
+    names-failed h b =
+        rw (run-failed t 12 n f p c (pReply client d c) status start end e h)
+        (p-gives c d t _ (bytes "unknown") PValue.Unknown b b (none-found b) refl)
 
     pub names-items : (status ≡ 2 → ⊥) → (r : PValue) (b a : List ℕ) → SaysP c d t (run (tableIn t) (pReply client d c (items (itemsOf (part t start end))))) r b a
         → SaysP c d t (run (tableIn t) (ask 12 n c (pReply client d c))) r b a

@@ -8,14 +8,12 @@ use Rattle.text.specs.Lists.{same}
 use Rattle.text.specs.Texts.{bytes}
 use Rattle.text.proofs.Laws.Tests.{cond-elim}
 use Rattle.domain.specs.Names.{atOrBelow}
-use Rattle.meaning.specs.declared.Counts.{Counts}
 use Rattle.meaning.specs.declared.PValue.{PValue}
-use Rattle.meaning.specs.Tree.{settled}
 use Rattle.meaning.specs.Mechanisms.{holdsName, firstBelow, firstOr, chosen}
-use Rattle.meaning.specs.Outcomes.{PIs}
+use Rattle.meaning.specs.Outcomes.{ValueIs}
 use Rattle.targets.specs.declared.Choice.{Choice}
 use Rattle.targets.specs.declared.Choice.the-variants.{Current, Below, First, Nobody}
-use Rattle.targets.specs.Choosing.{laterChoice, choiceWith, valueOf}
+use Rattle.targets.specs.Choosing.{laterChoice, choiceWith, choiceValue}
 
 -- what a choice tells of the names that are found, for the current domain d and the table's bytes t
 unfoldable pub Picks : (d t : List ℕ) → Choice → List (List ℕ) → Type 0
@@ -87,12 +85,12 @@ unfolding Picks
 picks-none d t = refl
 
 -- the last choice is the value of p
-pub picks-value : (c : Counts) (d t : List ℕ) (choice : Choice) (found : List (List ℕ)) → Picks d t choice found → PIs c d t (settled (chosen d found)) (valueOf choice)
-unfolding Picks PIs chosen valueOf holdsName firstBelow firstOr
-picks-value c d t Current found p = rw p
-picks-value c d t (Below f u) found p = rw (p .0) (p .1 (firstOr found (bytes "unknown")))
-picks-value c d t (First f u) found p = rw (p .0) (p .1 (firstOr found (bytes "unknown")) ∙ p .2 (bytes "unknown"))
-picks-value c d t Nobody found p = rw p
+pub picks-value : (d t : List ℕ) (choice : Choice) (found : List (List ℕ)) → Picks d t choice found → ValueIs d t (chosen d found) (choiceValue choice)
+unfolding Picks ValueIs chosen choiceValue holdsName firstBelow firstOr
+picks-value d t Current found p = rw p
+picks-value d t (Below f u) found p = rw (p .0) (p .1 (firstOr found (bytes "unknown")))
+picks-value d t (First f u) found p = rw (p .0) (p .1 (firstOr found (bytes "unknown")) ∙ p .2 (bytes "unknown"))
+picks-value d t Nobody found p = rw p
 
 -- a way out of `later_choice` and of `choose`
 module _ (choice : Choice) (from to : ℕ) where
@@ -131,20 +129,20 @@ module _ (choice : Choice) (from to : ℕ) where
 
 -- a way out of `value_of`
 module _ (choice : Choice) where
-  pub value-current : choice ≡ Current → PValue.Current ≡ valueOf choice
-  unfolding valueOf
+  pub value-current : choice ≡ Current → PValue.Current ≡ choiceValue choice
+  unfolding choiceValue
   value-current e = rw e
 
-  pub value-below : (f u : ℕ) → choice ≡ Below f u → PValue.Listed f u ≡ valueOf choice
-  unfolding valueOf
+  pub value-below : (f u : ℕ) → choice ≡ Below f u → PValue.Listed f u ≡ choiceValue choice
+  unfolding choiceValue
   value-below f u e = rw e
 
-  pub value-first : (f u : ℕ) → choice ≡ First f u → PValue.Listed f u ≡ valueOf choice
-  unfolding valueOf
+  pub value-first : (f u : ℕ) → choice ≡ First f u → PValue.Listed f u ≡ choiceValue choice
+  unfolding choiceValue
   value-first f u e = rw e
 
-  pub value-nobody : choice ≡ Nobody → PValue.Unknown ≡ valueOf choice
-  unfolding valueOf
+  pub value-nobody : choice ≡ Nobody → PValue.Unknown ≡ choiceValue choice
+  unfolding choiceValue
   value-nobody e = rw e
 
 pub ruleset choices = (later-current, later-below, later-first, later-first-below, later-nobody, later-nobody-below)

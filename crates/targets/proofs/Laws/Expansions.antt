@@ -1,5 +1,5 @@
 -- What an expansion that was written into an array tells of its text, and what goes on with an expansion once p's questions are answered. Targets and
--- explanations stand on these. From the contract of macros' `write_expansion`, and from Runs and Inversions.
+-- explanations stand on these. From the contract of macros' `write_expansion`, and from Inversions.
 use Prim.Native.Nat.{ℕ, _≤_, _<_}
 use mathlib.Core.Path.{_≡_, refl, sym, ap, subst, _∙_}
 use mathlib.Core.List.{List, _++_}
@@ -9,17 +9,17 @@ use lib.Dec.{leb}
 use lib.ListN.{length, take, drop, length-append}
 use lib.Seq.{take-at}
 use borrow.Author.Tests.{leb-true, leb-false}
+use Rattle.text.proofs.Laws.Writing.{over-fits}
 use Rattle.macros.specs.declared.Form.{Form}
 use Rattle.macros.specs.declared.Expanded.{Expanded}
 use Rattle.macros.specs.declared.Expanded.the-variants.{Written, Refused}
 use Rattle.macros.specs.Numbers.{refused, expanded as expandedTo, fitted, answerOf, bufferOf, Says}
 use Rattle.meaning.specs.declared.Counts.{Counts}
-use Rattle.meaning.specs.Tree.{Check, give, bind, settled, run}
+use Rattle.meaning.specs.Tree.{Check, give, bind, run}
 use Rattle.meaning.specs.Tables.{tableIn}
 use Rattle.meaning.specs.Outcomes.{Gives, Wants}
 use Rattle.meaning.specs.Mechanisms.{Mail, pValue, expansion, givesExpansion}
-use Rattle.meaning.proofs.Laws.Runs.{bind-is}
-use Rattle.meaning.proofs.Laws.Inversions.{wants-bind}
+use Rattle.meaning.proofs.Laws.Inversions.{gives-bind, wants-bind}
 
 -- the text xs in an array that held z and holds v
 unfoldable TextIs : (xs z : List ℕ) → Expanded → List ℕ → Type 0
@@ -31,7 +31,7 @@ unfolding fitted TextIs
 text-is xs z v x says = by (leb (length xs) (length z)) refl (says .answer) (says .buffer)
   where
     by : (b : Bool) → leb (length xs) (length z) ≡ b → x ≡ answerOf (cond b (expandedTo xs) (refused 41)) → v ≡ bufferOf (cond b (expandedTo xs) (refused 41)) z → TextIs xs z x v
-    by true e a u = let l = leb-true (length xs) (length z) e in rw a (refl, l, u)
+    by true e a u = let l = leb-true (length xs) (length z) e in rw a (refl, l, u ∙ over-fits xs z l)
     by false e a u = let l = leb-false (length xs) (length z) e in rw a l
 
 module _ (xs z v : List ℕ) (x : Expanded) (says : Says (fitted xs (length z)) x z v) where
@@ -66,11 +66,10 @@ module _ {A : Type 0} (go : List ℕ → Check A) (f : List ℕ → A) (gives : 
 
   pub expansion-given : (p : List ℕ) → Gives (run (tableIn t) asked) p b a
       → Gives (run (tableIn t) (bind (bind asked (givesExpansion mail d form s)) go)) (f (expansion mail d form s p)) b a
-  unfolding givesExpansion run
+  unfolding givesExpansion
   expansion-given p g =
-      let m = bind asked (givesExpansion mail d form s) in
-      let y : run (tableIn t) m ≡ settled (expansion mail d form s p) = bind-is (tableIn t) asked (givesExpansion mail d form s) p (g .is) in
-      record { is = bind-is (tableIn t) m go (expansion mail d form s p) y ∙ ap (run (tableIn t)) (gives (expansion mail d form s p)); kept = g .kept }
+      gives-bind (tableIn t) (bind asked (givesExpansion mail d form s)) go (expansion mail d form s p) (f (expansion mail d form s p)) b a
+      (gives-bind (tableIn t) asked (givesExpansion mail d form s) p (expansion mail d form s p) b a g refl) (gives (expansion mail d form s p))
 
   pub expansion-wanted : (kind size : ℕ) → Wants (run (tableIn t) asked) kind size c b a
       → Wants (run (tableIn t) (bind (bind asked (givesExpansion mail d form s)) go)) kind size c b a

@@ -31,11 +31,11 @@ use Rattle.records.specs.Readings.{absent, present}
 use Rattle.meaning.specs.declared.Counts.{Counts}
 use Rattle.meaning.specs.declared.PValue.{PValue}
 use Rattle.meaning.specs.declared.Target.{Target}
-use Rattle.meaning.specs.Tree.{bind, Settled, settled, run}
+use Rattle.meaning.specs.Tree.{bind, run}
 use Rattle.meaning.specs.Tables.{tableIn}
 use Rattle.meaning.specs.Mechanisms.{Mail, pValue, expansion, givesExpansion, expanded, givesName, target, targetOr}
-use Rattle.meaning.specs.Outcomes.{mailOf, wantedBuffer, TargetIs, SaysTarget, SaysP, Gives, Wants}
-use Rattle.meaning.proofs.Laws.Inversions.{p-current, p-listed, p-unknown, p-wants}
+use Rattle.meaning.specs.Outcomes.{mailOf, NamingIs, SaysTarget, SaysP, Gives}
+use Rattle.meaning.proofs.Laws.Inversions.{gives-give, p-current, p-listed, p-unknown, p-wants, target-gives, target-wanted}
 use Rattle.targets.specs.Choosing.{targetWithP}
 use Rattle.targets.proofs.Laws.Expansions.{text-taken, text-over, expansion-given, expansion-wanted}
 
@@ -64,81 +64,72 @@ name-front s to to′ short room b = rw (b, over-fits s to (omega arith)) (take-
 
 -- `write_name`
 pub naming-written : (x : Naming) → Short x → (to to′ : List ℕ) → 253 ≤ length to → (r : Name) → r ≡ nameAnswer x → to′ ≡ nameBuffer x to
-    → (n : ℕ) → r ≡ Name.Written n → (c : Counts) → TargetIs c (settled x) (Target.Name n) to′
-unfolding Short TargetIs
-naming-written (name s) short to to′ room r a b n e c = let j : n ≡ length s = cc in (ap Target.Name j, name-front s to to′ short room b, short)
-naming-written malformed short to to′ room r a b n e c = let z : _≡_ {A = ℕ} 0 1 = cc in absurd (omega arith)
+    → (n : ℕ) → r ≡ Name.Written n → NamingIs x (Target.Name n) to′
+unfolding Short NamingIs
+naming-written (name s) short to to′ room r a b n e = let j : n ≡ length s = cc in (ap Target.Name j, name-front s to to′ short room b, short)
+naming-written malformed short to to′ room r a b n e = let z : _≡_ {A = ℕ} 0 1 = cc in absurd (omega arith)
 
-pub naming-malformed : (x : Naming) (to : List ℕ) (r : Name) → r ≡ nameAnswer x → r ≡ Name.Malformed → (c : Counts) → TargetIs c (settled x) Target.Malformed to
-unfolding TargetIs
-naming-malformed (name s) to r a e c = let z : _≡_ {A = ℕ} 0 1 = cc in absurd (omega arith)
-naming-malformed malformed to r a e c = refl
+pub naming-malformed : (x : Naming) (to : List ℕ) (r : Name) → r ≡ nameAnswer x → r ≡ Name.Malformed → NamingIs x Target.Malformed to
+unfolding NamingIs
+naming-malformed (name s) to r a e = let z : _≡_ {A = ℕ} 0 1 = cc in absurd (omega arith)
+naming-malformed malformed to r a e = refl
 
 module _ (s to to′ : List ℕ) (r : Name) (a : r ≡ nameAnswer (questionName s)) where
   pub named-written : 253 ≤ length to → to′ ≡ nameBuffer (questionName s) to → (n : ℕ) → r ≡ Name.Written n
-      → (c : Counts) → TargetIs c (settled (questionName s)) (Target.Name n) to′
-  named-written room b n e c = naming-written (questionName s) (question-is-short s) to to′ room r a b n e c
+      → NamingIs (questionName s) (Target.Name n) to′
+  named-written room b n e = naming-written (questionName s) (question-is-short s) to to′ room r a b n e
 
-  pub named-malformed : r ≡ Name.Malformed → (c : Counts) → TargetIs c (settled (questionName s)) Target.Malformed to′
-  named-malformed e c = naming-malformed (questionName s) to′ r a e c
+  pub named-malformed : r ≡ Name.Malformed → NamingIs (questionName s) Target.Malformed to′
+  named-malformed e = naming-malformed (questionName s) to′ r a e
 
 -- `write_target`
 module _ (client : Address) (sender helo receiver : List ℕ) (seconds : ℕ) (d spec p z v : List ℕ) (x : Expanded)
     (says : Says (fitted (textOf (lettersOf (given sender helo receiver d p client seconds)) (pieces DomainSpec spec .list)) (length z)) x z v) where
-  pub target-written : (n : ℕ) → x ≡ Written n → (r : Target) (to : List ℕ) → ((c : Counts) → TargetIs c (settled (questionName (take n v))) r to)
-      → (c : Counts) → TargetIs c (settled (questionName (expansion (mailOf client sender helo receiver seconds) d DomainSpec spec p))) r to
+  pub target-written : (n : ℕ) → x ≡ Written n → (r : Target) (to : List ℕ) → NamingIs (questionName (take n v)) r to
+      → NamingIs (questionName (expansion (mailOf client sender helo receiver seconds) d DomainSpec spec p)) r to
   unfolding expansion
-  target-written n e r to w c = rw (← text-taken _ z v x says n e) (w c)
+  target-written n e r to w = rw (← text-taken _ z v x says n e) w
 
   pub target-long : 4096 ≤ length z → (k : ℕ) → x ≡ Refused k → (to : List ℕ)
-      → (c : Counts) → TargetIs c (settled (questionName (expansion (mailOf client sender helo receiver seconds) d DomainSpec spec p))) Target.Malformed to
-  unfolding expansion TargetIs
-  target-long room k e to c =
+      → NamingIs (questionName (expansion (mailOf client sender helo receiver seconds) d DomainSpec spec p)) Target.Malformed to
+  unfolding expansion NamingIs
+  target-long room k e to =
       let xs = expansion (mailOf client sender helo receiver seconds) d DomainSpec spec p in
       let l : length z < length xs = text-over xs z v x says k e in
       let m : 4096 < length xs = omega arith in
       rw (question-long xs m) refl
 
--- a target that is settled, and one that is wanted
-pub target-settled : (c : Counts) (x : Settled Naming) (n : Naming) (r : Target) (to b a : List ℕ) → Gives x n b a → TargetIs c (settled n) r to → SaysTarget c x r to b a
-unfolding wantedBuffer
-target-settled c x n r to b a g w = rw (g .is) (record { target = w; buffer = g .kept })
-
-pub target-wanted : (c : Counts) (x : Settled Naming) (kind size : ℕ) (to b a : List ℕ) → Wants x kind size c b a → SaysTarget c x (Target.Wanting kind size) to b a
-unfolding TargetIs wantedBuffer
-target-wanted c x kind size to b a w = rw (w .is, w .size-is) (record { target = (refl, refl); buffer = w .buffer })
-
 -- `write_target_with_p`
 module _ (client : Address) (sender helo receiver : List ℕ) (seconds : ℕ) (c : Counts) (t d spec b a : List ℕ) (v : PValue)
     (says : SaysP c d t (run (tableIn t) (pValue client d c)) v b a) where
   with-given : (p : List ℕ) → Gives (run (tableIn t) (pValue client d c)) p b a → (r : Target) (to : List ℕ)
-      → ((k : Counts) → TargetIs k (settled (questionName (expansion (mailOf client sender helo receiver seconds) d DomainSpec spec p))) r to)
+      → NamingIs (questionName (expansion (mailOf client sender helo receiver seconds) d DomainSpec spec p)) r to
       → SaysTarget c (run (tableIn t) (targetWithP (mailOf client sender helo receiver seconds) d spec c)) r to b a
   unfolding targetWithP givesName
   with-given p g r to w =
-      target-settled c _ _ r to b a
-      (expansion-given givesName questionName (λ _. refl) (mailOf client sender helo receiver seconds) DomainSpec c t d spec b a p g) (w c)
+      target-gives c _ _ r to b a
+      (expansion-given givesName questionName (λ _. refl) (mailOf client sender helo receiver seconds) DomainSpec c t d spec b a p g) w
 
   pub with-current : v ≡ PValue.Current → (r : Target) (to : List ℕ)
-      → ((k : Counts) → TargetIs k (settled (questionName (expansion (mailOf client sender helo receiver seconds) d DomainSpec spec d))) r to)
+      → NamingIs (questionName (expansion (mailOf client sender helo receiver seconds) d DomainSpec spec d)) r to
       → SaysTarget c (run (tableIn t) (targetWithP (mailOf client sender helo receiver seconds) d spec c)) r to b a
   with-current e r to w = with-given d (p-current c d t _ v b a says e) r to w
 
   pub with-listed : (from end : ℕ) → v ≡ PValue.Listed from end → (p : List ℕ) → p ≡ part t from end → (r : Target) (to : List ℕ)
-      → ((k : Counts) → TargetIs k (settled (questionName (expansion (mailOf client sender helo receiver seconds) d DomainSpec spec p))) r to)
+      → NamingIs (questionName (expansion (mailOf client sender helo receiver seconds) d DomainSpec spec p)) r to
       → SaysTarget c (run (tableIn t) (targetWithP (mailOf client sender helo receiver seconds) d spec c)) r to b a
   with-listed from end e p h r to w =
       with-given p (subst (λ (s : List ℕ). Gives (run (tableIn t) (pValue client d c)) s b a) (sym h) (p-listed c d t _ v b a says from end e)) r to w
 
   pub with-unknown : v ≡ PValue.Unknown → (r : Target) (to : List ℕ)
-      → ((k : Counts) → TargetIs k (settled (questionName (expansion (mailOf client sender helo receiver seconds) d DomainSpec spec (bytes "unknown")))) r to)
+      → NamingIs (questionName (expansion (mailOf client sender helo receiver seconds) d DomainSpec spec (bytes "unknown"))) r to
       → SaysTarget c (run (tableIn t) (targetWithP (mailOf client sender helo receiver seconds) d spec c)) r to b a
   with-unknown e r to w = with-given (bytes "unknown") (p-unknown c d t _ v b a says e) r to w
 
-  pub with-wanting : (kind size : ℕ) → v ≡ PValue.Wanting kind size → (to : List ℕ)
+  pub with-wanted : (kind size : ℕ) → v ≡ PValue.Wanting kind size → (to : List ℕ)
       → SaysTarget c (run (tableIn t) (targetWithP (mailOf client sender helo receiver seconds) d spec c)) (Target.Wanting kind size) to b a
   unfolding targetWithP givesName
-  with-wanting kind size e to =
+  with-wanted kind size e to =
       target-wanted c _ kind size to b a
       (expansion-wanted givesName questionName (λ _. refl) (mailOf client sender helo receiver seconds) DomainSpec c t d spec b a kind size
       (p-wants c d t _ v b a says kind size e))
@@ -151,13 +142,12 @@ module _ (client : Address) (sender helo receiver : List ℕ) (seconds : ℕ) (c
   target-uses-p h r to b a w = rw (← e, h) w
 
   pub target-without-p : u ≡ false → (r : Target) (to b : List ℕ)
-      → ((k : Counts) → TargetIs k (settled (questionName (expansion (mailOf client sender helo receiver seconds) d DomainSpec spec []))) r to)
+      → NamingIs (questionName (expansion (mailOf client sender helo receiver seconds) d DomainSpec spec [])) r to
       → SaysTarget c (run (tableIn t) (target (mailOf client sender helo receiver seconds) d spec c)) r to b b
-  unfolding target expanded givesExpansion givesName run bind
+  unfolding target expanded givesExpansion givesName bind
   target-without-p h r to b w =
-      let x = run (tableIn t) (target (mailOf client sender helo receiver seconds) d spec c) in
-      let y : x ≡ settled (questionName (expansion (mailOf client sender helo receiver seconds) d DomainSpec spec [])) = rw (← e, h) in
-      target-settled c x (questionName (expansion (mailOf client sender helo receiver seconds) d DomainSpec spec [])) r to b b (record { is = y; kept = refl }) (w c)
+      target-gives c (run (tableIn t) (target (mailOf client sender helo receiver seconds) d spec c)) _ r to b b
+      (rw (← e, h) (gives-give (tableIn t) (questionName (expansion (mailOf client sender helo receiver seconds) d DomainSpec spec [])) b)) w
 
 -- `make_target_or`
 module _ (mail : Mail) (c : Counts) (t d spec : List ℕ) (is : Bool) where
@@ -168,6 +158,7 @@ module _ (mail : Mail) (c : Counts) (t d spec : List ℕ) (is : Bool) where
 
   pub target-not-given : is ≡ false → length d ≤ 253 → (to to′ : List ℕ) (n : ℕ) → 253 ≤ length to → Wrote d to 0 to′ n → (b : List ℕ)
       → SaysTarget c (run (tableIn t) (targetOr mail d (cond is (present spec) absent) c)) (Target.Name (length d)) to′ b b
-  unfolding targetOr run TargetIs wantedBuffer
+  unfolding targetOr NamingIs
   target-not-given h short to to′ n room w b =
-      rw h (record { target = (refl, name-front d to to′ short room (wrote-over d to to′ n w), short); buffer = refl })
+      rw h
+      (target-gives c _ (name d) _ to′ b b (gives-give (tableIn t) (name d) b) (refl, name-front d to to′ short room (wrote-over d to to′ n w), short))

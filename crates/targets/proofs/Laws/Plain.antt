@@ -20,10 +20,10 @@ use Rattle.macros.specs.Question.{questionName}
 use Rattle.macros.proofs.Laws.Strings.{Row, none, literals, row-complete}
 use Rattle.meaning.specs.declared.Counts.{Counts}
 use Rattle.meaning.specs.declared.Target.{Target}
-use Rattle.meaning.specs.Tree.{settled, run}
+use Rattle.meaning.specs.Tree.{run}
 use Rattle.meaning.specs.Tables.{tableIn}
 use Rattle.meaning.specs.Mechanisms.{expansion, target}
-use Rattle.meaning.specs.Outcomes.{mailOf, TargetIs, SaysTarget}
+use Rattle.meaning.specs.Outcomes.{mailOf, NamingIs, SaysTarget}
 use Rattle.targets.proofs.Laws.Naming.{target-without-p}
 
 -- a macro-literal stands for itself in every form
@@ -61,10 +61,10 @@ module _ (form : Form) (s : List ℕ) (h : all isMacroLiteral s ≡ true) where
 
 -- `make_target` without macros
 pub target-plain : (client : Address) (sender helo receiver : List ℕ) (seconds : ℕ) (c : Counts) (t d spec : List ℕ) (u : Bool) → u ≡ all (isIn MacroLiteral) spec → u ≡ true
-    → (r : Target) (to b : List ℕ) → ((k : Counts) → TargetIs k (settled (questionName spec)) r to)
+    → (r : Target) (to b : List ℕ) → NamingIs (questionName spec) r to
     → SaysTarget c (run (tableIn t) (target (mailOf client sender helo receiver seconds) d spec c)) r to b b
 unfolding expansion
 target-plain client sender helo receiver seconds c t d spec u e h r to b w =
     let a : all isMacroLiteral spec ≡ true = sym (class-tests MacroLiteral spec) ∙ sym e ∙ h in
     target-without-p client sender helo receiver seconds c t d spec false (sym (plain-asks DomainSpec spec a)) refl r to b
-    (λ k. rw (plain-text DomainSpec spec a _) (w k))
+    (rw (plain-text DomainSpec spec a _) w)

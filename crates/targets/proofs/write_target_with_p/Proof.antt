@@ -1,5 +1,5 @@
 -- `targets::write_target_with_p` meets its contract. From the laws of Naming.
-use Rattle.targets.proofs.Laws.Naming.{with-current, with-listed, with-unknown, with-wanting}
+use Rattle.targets.proofs.Laws.Naming.{with-current, with-listed, with-unknown, with-wanted}
 use borrow.Author.Needs.{needs}
 use Rattle.targets.proofs.write_target_with_p.Statement.{statement}
 use Rattle.targets.proofs.write_target_with_p.Tie as tie
@@ -70,7 +70,7 @@ same-length-7 : tie.Need-same-length-7
 same-length-7 c = search needs
 
 returns-4 : tie.Need-returns-4
-returns-4 c = search with-wanting
+returns-4 c = search with-wanted
 
 pub write-target-with-p-spec : {M : Type 1} → statement M
 write-target-with-p-spec =

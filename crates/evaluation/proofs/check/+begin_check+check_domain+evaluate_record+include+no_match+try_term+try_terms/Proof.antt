@@ -1,13 +1,13 @@
 -- The check of a domain, the terms of its record, include and redirect meet their contracts; they call each other, and the remaining lookups fall.
 -- From the rules of Laws.Beginning and Laws.Walking, one for each way out.
-use mathlib.Core.Path.{refl}
+use mathlib.Core.Path.{refl, ap, _∙_}
 use borrow.Author.Needs.{needs}
 use native.Mathlib.Omega.{arith}
 use lib.ListN.{length}
 use Rattle.meaning.specs.Outcomes.{mailOf, spanOf}
 use Rattle.evaluation.proofs.Laws.Beginning.{begin-eleventh, begin-malformed, begin-wants, begin-checked, target-small, span-small, domain-single, domain-ends, domain-wants, domain-one, place-small, include-done, tried-step, tried-include, nothing-left, redirected}
 use Rattle.evaluation.proofs.Laws.Leading.{walk-opened, open-passing, record-refused, record-tried, record-matched}
-use Rattle.evaluation.proofs.Laws.Walking.{Walk, walk-past, walk-ended, walk-yes, walk-stop, walk-no, walk-less, walk-room, walk-small, walk-few}
+use Rattle.evaluation.proofs.Laws.Walking.{Walk, walk-past, walk-ended, walk-yes, walk-stop, walk-no, walk-less, walk-small, walk-few}
 use Prim.Native.Nat.{ℕ, _<_, _+_, _-_, _*_}
 use Rattle.evaluation.proofs.check.sign_of.Reads as sign-of-reads
 use borrow.Fn.Kinds.{In}
@@ -263,7 +263,7 @@ check-domain-same-length-3 : (t : ℕ) → check-domain-lts.Need-same-length-3 (
 check-domain-same-length-3 t c = cc
 
 check-domain-returns-4 : (t : ℕ) → check-domain-lts.Need-returns-4 (check-domain-claims t) (check-domain-at t) check-domain.Post
-check-domain-returns-4 t c = search domain-one
+check-domain-returns-4 t c = search (domain-one, c .before .before .before .before .before .before .before .before .before .before .before .before .before .before .before .before .before .before .before .pre)
 
 evaluate-record-part-requires : (t : ℕ) → evaluate-record-lts.Need-part-requires (evaluate-record-claims t) (evaluate-record-at t) evaluate-record.Post
 evaluate-record-part-requires t c κs = search needs
@@ -413,7 +413,7 @@ try-terms-signed-requires : (t : ℕ) → try-terms-lts.Need-signed-requires (tr
 try-terms-signed-requires t c κs = search needs
 
 try-terms-same-length-2 : (t : ℕ) → try-terms-lts.Need-same-length-2 (try-terms-claims t) (try-terms-at t) try-terms.Post try-terms-Inv-loop try-terms-μ-loop
-try-terms-same-length-2 t c = walk-room _ _ _ _ _ _ _ _ _ _ (c .before .before .before .before .before .before .before .before .before .before .before .before .before .before .loop .inv) _ _ _ _ (c .before .before .before .before .before .before .try-term .ensures) (c .before .enum-told .given .1)
+try-terms-same-length-2 t c = c .before .before .before .before .before .out2 .given ∙ ap length (c .before .before .before .before .before .before .before .before .before .before .before .before .before .before .loop .inv .kept)
 
 try-terms-returns-2 : (t : ℕ) → try-terms-lts.Need-returns-2 (try-terms-claims t) (try-terms-at t) try-terms.Post try-terms-Inv-loop try-terms-μ-loop
 try-terms-returns-2 t c = walk-yes _ _ _ _ _ _ _ _ _ _ _ _ _ (c .signed .ensures) refl refl _ _ _ _ (c .before .before .before .before .before .before .before .before .before .before .before .before .before .before .loop .inv) (c .before .before .before .before .before .before .before .before .before .before .before .before .before .before .before .part .ensures) _ (c .before .before .before .before .before .before .before .before .before .before .before .before .read-term .ensures .0) _ _ (c .before .before .before .before .before .before .before .before .before .before .place .given .1) (c .before .before .before .before .before .before .before .before .before .before .before .before .before .loop-test .taken) _ (c .before .before .before .before .before .before .before .before .part2 .ensures) (c .before .before .before .before .before .before .try-term .ensures) (c .before .enum-told .given .1)
@@ -422,7 +422,7 @@ try-terms-enum-known-matched : (t : ℕ) → try-terms-lts.Need-enum-known-match
 try-terms-enum-known-matched t c = search needs
 
 try-terms-same-length-3 : (t : ℕ) → try-terms-lts.Need-same-length-3 (try-terms-claims t) (try-terms-at t) try-terms.Post try-terms-Inv-loop try-terms-μ-loop
-try-terms-same-length-3 t c = cc
+try-terms-same-length-3 t c = c .before .before .before .before .before .out2 .given ∙ ap length (c .before .before .before .before .before .before .before .before .before .before .before .before .before .before .loop .inv .kept)
 
 try-terms-returns-3 : (t : ℕ) → try-terms-lts.Need-returns-3 (try-terms-claims t) (try-terms-at t) try-terms.Post try-terms-Inv-loop try-terms-μ-loop
 try-terms-returns-3 t c = search walk-stop

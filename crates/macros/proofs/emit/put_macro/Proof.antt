@@ -1,5 +1,5 @@
 -- `macros::emit::put_macro` meets its contract. From the laws of Emitting, Tests.
-use Rattle.macros.specs.Expansion.{valueOf}
+use Rattle.macros.specs.Expansion.{letterValue}
 use Rattle.text.proofs.Laws.Tests.{ways}
 use Rattle.macros.proofs.Laws.Emitting.{macro-value, macro-later}
 use borrow.Author.Needs.{needs}
@@ -16,7 +16,7 @@ same-length : tie.Need-same-length
 same-length c = search needs
 
 returns : tie.Need-returns
-unfolding valueOf
+unfolding letterValue
 returns c = search (macro-value, ways) depth 12
 
 put-value-requires-2 : tie.Need-put-value-requires-2
@@ -26,7 +26,7 @@ same-length-2 : tie.Need-same-length-2
 same-length-2 c = search needs
 
 returns-2 : tie.Need-returns-2
-unfolding valueOf
+unfolding letterValue
 returns-2 c = search (macro-value, ways) depth 12
 
 put-value-requires-3 : tie.Need-put-value-requires-3
@@ -36,7 +36,7 @@ same-length-3 : tie.Need-same-length-3
 same-length-3 c = search needs
 
 returns-3 : tie.Need-returns-3
-unfolding valueOf
+unfolding letterValue
 returns-3 c = search (macro-value, ways) depth 12
 
 put-value-requires-4 : tie.Need-put-value-requires-4
@@ -46,7 +46,7 @@ same-length-4 : tie.Need-same-length-4
 same-length-4 c = search needs
 
 returns-4 : tie.Need-returns-4
-unfolding valueOf
+unfolding letterValue
 returns-4 c = search (macro-value, ways) depth 12
 
 put-value-requires-5 : tie.Need-put-value-requires-5
@@ -56,7 +56,7 @@ same-length-5 : tie.Need-same-length-5
 same-length-5 c = search needs
 
 returns-5 : tie.Need-returns-5
-unfolding valueOf
+unfolding letterValue
 returns-5 c = search (macro-value, ways) depth 12
 
 put-later-macro-requires : tie.Need-put-later-macro-requires

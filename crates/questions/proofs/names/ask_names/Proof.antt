@@ -9,10 +9,10 @@ use Rattle.questions.proofs.names.ask_names.Statement.{statement}
 use Rattle.questions.proofs.names.ask_names.Tie as tie
 
 abbrev Inv-loop : tie.InvT-loop
-Inv-loop client table items target counts out₀ at₀ left₀ out at left = Names table client target counts items out₀ out at left
+Inv-loop client table items target out₀ at₀ left₀ so-far₀ out at left so-far = Names table client target items out₀ so-far₀ out at left so-far
 
 abbrev μ-loop : tie.MeasureT-loop
-μ-loop client table items target counts out₀ at₀ left₀ out at left = size items - at
+μ-loop client table items target out₀ at₀ left₀ so-far₀ out at left so-far = size items - at
 
 loop-holds : tie.Need-loop-holds Inv-loop μ-loop
 loop-holds c = search names-start

@@ -1,20 +1,11 @@
 -- `records::opening::check_terms` meets its contract. From the rules of Laws.Openings: part way through the terms, what is answered from here on is
 -- answered of all, and the terms so far are as the opening says.
-use Rattle.records.proofs.Laws.Openings.{Opens, opens-start, opens-ended, opens-repeats, opens-less, opens-next, opens-past}
+use Rattle.records.proofs.Laws.Openings.{Opens, opens-start, opens-end, opens-refused, opens-repeats, opens-less, opens-next, opens-past}
 use Prim.Native.Nat.{_+_, _-_}
 use lib.ListN.{length}
 use borrow.Author.Needs.{needs}
 use Rattle.records.proofs.opening.check_terms.Statement.{statement}
 use Rattle.records.proofs.opening.check_terms.Tie as tie
-use Rattle.records.proofs.opening.check_terms.Reads as reads
-use Rattle.records.proofs.opening.check_terms.Lts as lts
-use Rattle.records.proofs.opening.either.Reads as either-reads
-use Rattle.records.proofs.opening.ended.Reads as ended-reads
-use Rattle.records.proofs.opening.is_explanation.Reads as is-explanation-reads
-use Rattle.records.proofs.opening.is_redirect.Reads as is-redirect-reads
-use Rattle.records.proofs.opening.lead_on.Reads as lead-on-reads
-use Rattle.records.proofs.opening.repeats.Reads as repeats-reads
-use Rattle.records.proofs.read_term.Reads as read-term-reads
 
 abbrev Inv-loop : tie.InvT-loop
 Inv-loop s first client at₀ redirect₀ explanation₀ opening₀ at redirect explanation opening = Opens client s first at redirect explanation opening
@@ -31,17 +22,20 @@ read-term-requires c κs = search needs
 enum-known-answer : tie.Need-enum-known-answer Inv-loop μ-loop
 enum-known-answer c = search needs
 
-ended-requires : tie.Need-ended-requires Inv-loop μ-loop
-ended-requires c κs = search needs
+enum-known-answer-2 : tie.Need-enum-known-answer-2 Inv-loop μ-loop
+enum-known-answer-2 c = search needs
 
 returns : tie.Need-returns Inv-loop μ-loop
-returns c = search opens-ended
+returns c = search opens-end
+
+returns-2 : tie.Need-returns-2 Inv-loop μ-loop
+returns-2 c = search opens-refused
 
 repeats-requires : tie.Need-repeats-requires Inv-loop μ-loop
 repeats-requires c κs = search needs
 
-returns-2 : tie.Need-returns-2 Inv-loop μ-loop
-returns-2 c = search opens-repeats
+returns-3 : tie.Need-returns-3 Inv-loop μ-loop
+returns-3 c = search opens-repeats
 
 is-redirect-requires : tie.Need-is-redirect-requires Inv-loop μ-loop
 is-redirect-requires c κs = search needs
@@ -64,8 +58,8 @@ loop-less c = search opens-less
 loop-again : tie.Need-loop-again Inv-loop μ-loop
 loop-again c = search opens-next
 
-returns-3 : tie.Need-returns-3 Inv-loop μ-loop
-returns-3 c = search opens-past
+returns-4 : tie.Need-returns-4 Inv-loop μ-loop
+returns-4 c = search opens-past
 
 pub check-terms-spec : {M : Type 1} → statement M
 check-terms-spec =
@@ -76,10 +70,11 @@ check-terms-spec =
     loop-holds
     read-term-requires
     enum-known-answer
-    ended-requires
+    enum-known-answer-2
     returns
-    repeats-requires
     returns-2
+    repeats-requires
+    returns-3
     is-redirect-requires
     either-requires
     is-explanation-requires
@@ -87,4 +82,4 @@ check-terms-spec =
     lead-on-requires
     loop-less
     loop-again
-    returns-3)
+    returns-4)

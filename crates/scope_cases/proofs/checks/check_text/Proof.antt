@@ -14,8 +14,8 @@ slice-aggregate-check-input c = simp length-take (omega arith)
 check-input-requires : tie.Need-check-input-requires
 check-input-requires c κs = search needs
 
-print-requires : tie.Need-print-requires
-print-requires c κs = search needs
+print-lent-requires : tie.Need-print-lent-requires
+print-lent-requires c κs = search needs
 
 same-length : tie.Need-same-length
 same-length c = search needs
@@ -42,7 +42,7 @@ check-text-spec =
     slice-relend-prefix-check-input
     slice-aggregate-check-input
     check-input-requires
-    print-requires
+    print-lent-requires
     same-length
     same-length-2
     returns

@@ -1,0 +1,2 @@
+-- Chunks: one chunk more.
+pub mod Chunks

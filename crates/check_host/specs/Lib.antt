@@ -1,0 +1,2 @@
+-- Reading: what is held of standard input.
+pub mod Reading

@@ -1,0 +1,52 @@
+-- Demand 3: reading a record, its terms and their arguments, and evaluating. From records' claim, `verdict-never-evaluated` of `meaning`, and that what
+-- is lent determines the outcome (Deciding).
+use Prim.Native.Nat.{ℕ, _≤_, _<_}
+use mathlib.Core.Path.{_≡_, ap, _∙_}
+use mathlib.Core.Logic.{⊎-elim}
+use mathlib.Core.List.{List, []}
+use native.Mathlib.Omega.{arith}
+use lib.ListN.{length}
+use Rattle.text.proofs.Laws.Orders.{le-or-lt}
+use Rattle.text.proofs.Laws.Writing.{over-fits}
+use Rattle.records.specs.Answers.{most-bytes}
+use Rattle.records.specs.Claim.{Calls}
+use Rattle.records.specs.declared.RecordAnswer.{RecordAnswer}
+use Rattle.records.proofs.Laws.Claim.{claim}
+use Rattle.meaning.specs.declared.Counts.{Counts}
+use Rattle.meaning.specs.Tree.{settled}
+use Rattle.meaning.specs.Reached.{Outside, too-long, unproduced}
+use Rattle.meaning.proofs.Laws.Reached.{verdict-never-evaluated}
+use Rattle.evaluation.specs.declared.Answer.{Answer}
+use Rattle.evaluation.specs.Numbers.{Outcome, settles, answerOf, nameAfter, textAfter, Says}
+use Rattle.evaluation.specs.Answers.{Lent, Handed, handed, mailIn, tableOf, decides}
+use Rattle.evaluation.specs.Demand3.{Demand3}
+use Rattle.evaluation.proofs.Laws.Deciding.{answers-one}
+
+-- what is refused is outside the grammar
+refused-outside : (s : List ℕ) (calls : Calls s) (number place : ℕ) → calls .record-answer ≡ RecordAnswer.Refused number place → Outside s
+refused-outside s calls number place e = ⊎-elim
+    (λ (h : length s ≤ most-bytes). unproduced (λ ts r.
+    let x = claim s calls .accepts .1 (h, (ts, r)) in
+    let q = x .1 in
+    let z : _≡_ {A = ℕ} 0 1 = cc in
+    omega arith))
+    (λ (h : most-bytes < length s). too-long h)
+    (le-or-lt (length s) most-bytes)
+
+-- what a permerror hands back
+permerror-handed : (a : Lent) (h : Handed) (o : Outcome) (k : Counts) → Says o (h .answer) (a .name) (h .name) (a .text) (h .text)
+    → o ≡ settles (settled (record { value = 6; counts = k; text = [] })) → h ≡ handed (Answer.Decided 6 k 0) (a .name) (a .text)
+unfolding answerOf nameAfter textAfter
+permerror-handed a h o k s e =
+    ap (λ (x : Answer). handed x (h .name) (h .text)) (s .answer ∙ ap answerOf e)
+    ∙ ap (λ (x : List ℕ). handed (Answer.Decided 6 k 0) x (h .text)) (s .name-buffer ∙ ap (λ (y : Outcome). nameAfter y (a .name)) e)
+    ∙ ap (λ (x : List ℕ). handed (Answer.Decided 6 k 0) (a .name) x) (s .text-buffer ∙ ap (λ (y : Outcome). textAfter y (a .text)) e ∙ over-fits [] (a .text) (omega arith))
+
+pub demand3 : (s : List ℕ) (calls : Calls s) → Demand3 s calls
+demand3 s calls = record {
+  reads = claim s calls;
+  never = λ number place refused a h evaluates fit es small encoded e k reached selects.
+      permerror-handed a h (evaluates .outcome) k (evaluates .says)
+      (answers-one a (evaluates .answers) (decides fit small encoded)
+      ∙ ap settles (verdict-never-evaluated (tableOf es) (mailIn a) (a .domain) s reached selects (refused-outside s calls number place refused)));
+}

@@ -1,0 +1,2 @@
+-- Lines: what the record printer prints.
+pub mod Lines
