@@ -2,15 +2,16 @@
 // or place and both counts on a line, and for 3 and 7 the text or name on a second, or `input`.
 ghost use Prim.Native.Nat.{_≤_};
 ghost use lib.ListN.{length};
+ghost use Rattle.checking.specs.Keeping.{most-kept, held-room};
 use cases::Line;
 use checking::keeping::hold;
 use text::bytes::part;
 
 // Adds the bytes that a piece of a line writes to what is held of an input.
 fn hold_piece(piece: &[u8], held: &mut [u8], n: usize) -> usize
-    requires { ⌜ n ≤ 66698 ⌝ }
-    requires { ⌜ 132234 ≤ length (now held) ⌝ }
-    ensures { λ r. ⌜ r ≤ 66698 ⌝ }
+    requires { ⌜ n ≤ most-kept ⌝ }
+    requires { ⌜ held-room ≤ length (now held) ⌝ }
+    ensures { λ r. ⌜ r ≤ most-kept ⌝ }
 {
     let mut bytes = [0u8; 2048];
     let size = cases::unhex(piece, &mut bytes);
@@ -26,7 +27,7 @@ fn run_input(input: &[u8]) {
 
 // Reads a line, piece by piece, and runs the input that it writes; answers whether there was one. A piece that fills its buffer isn't the line's last.
 fn run_line(held: &mut [u8]) -> bool
-    requires { ⌜ 132234 ≤ length (now held) ⌝ }
+    requires { ⌜ held-room ≤ length (now held) ⌝ }
 {
     let mut piece = [0u8; 4096];
     let mut at: usize = 0;

@@ -3,13 +3,14 @@
 ghost use Prim.Native.Nat.{_≤_};
 ghost use lib.ListN.{length};
 ghost use Rattle.check_host.specs.Reading.{HoldsChunks};
+ghost use Rattle.checking.specs.Keeping.{held-room};
 use checking::keeping::hold;
 use text::bytes::part;
 
 // Reads all of standard input, chunk by chunk, and holds what the answer depends on; answers how much that is. No input has as many chunks as the budget
 // says.
 fn read_input(held: &mut [u8]) -> usize
-    requires { ⌜ 132234 ≤ length (now held) ⌝ }
+    requires { ⌜ held-room ≤ length (now held) ⌝ }
     ensures { λ r. ⌜ HoldsChunks (now (held .exit)) r ⌝ }
 {
     let mut chunk = [0u8; 65536];

@@ -43,10 +43,21 @@ fronts = take 46 ∷ take 256 ∷ take 321 ∷ hostFronts
 unfoldable pub kept : List ℕ → List ℕ
 kept input = keptBy fronts input
 
+-- the most that is kept: every front with its line's end, and the table's (`kept-length`, proofs/Laws/Holding.antt)
+abbrev pub most-kept : ℕ
+most-kept = 66698
+
+-- the longest chunk, and the room that a buffer needs for both
+abbrev pub most-chunk : ℕ
+most-chunk = 65536
+
+abbrev pub held-room : ℕ
+held-room = 132234
+
 -- n bytes were held in a buffer, and more are added: what is kept of both stands at the buffer's front, r bytes
 pub record Held (before : List ℕ) (n : ℕ) (more after : List ℕ) (r : ℕ) : Type 0 where
   pub size : r ≡ length (kept (take n before ++ more))
-  pub small : r ≤ 66698
+  pub small : r ≤ most-kept
   pub buffer : after ≡ overwritten (kept (take n before ++ more)) (sets before n more)
 
 -- what is held after some chunks of an input, and the input that they make

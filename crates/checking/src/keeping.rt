@@ -6,7 +6,7 @@ ghost use lib.ListN.{length, take};
 ghost use Rattle.text.specs.Bytes.{part};
 ghost use Rattle.text.specs.Writing.{Wrote};
 ghost use Rattle.fields.specs.Fields.{firstField};
-ghost use Rattle.checking.specs.Keeping.{lineEnd, withoutZeros, timeFront, keptBy, timeFronts, hostFronts, kept, Held};
+ghost use Rattle.checking.specs.Keeping.{lineEnd, withoutZeros, timeFront, keptBy, timeFronts, hostFronts, kept, Held, most-kept, most-chunk, held-room};
 use fields::after_fields;
 use fields::field;
 use text::bytes::part;
@@ -85,16 +85,16 @@ fn keep(input: &[u8], out: &mut [u8]) -> usize
 
 // Room for what is kept.
 fn room() -> [u8; 66698]
-    ensures { λ r. ⌜ 66698 ≡ length r ⌝ }
+    ensures { λ r. ⌜ most-kept ≡ length r ⌝ }
 {
     [0; 66698]
 }
 
 // Adds the front of a chunk to what a buffer holds of an input, n bytes; answers how many it holds then.
 pub fn hold(held: &mut [u8], n: usize, chunk: &[u8], size: usize) -> usize
-    requires { ⌜ n ≤ 66698 ⌝ }
-    requires { ⌜ length (now chunk) ≤ 65536 ⌝ }
-    requires { ⌜ 132234 ≤ length (now held) ⌝ }
+    requires { ⌜ n ≤ most-kept ⌝ }
+    requires { ⌜ length (now chunk) ≤ most-chunk ⌝ }
+    requires { ⌜ held-room ≤ length (now held) ⌝ }
     ensures { λ r. ⌜ Held (now (held .entry)) n (part (now (chunk .entry)) 0 size) (now (held .exit)) r ⌝ }
 {
     let mut space = room();

@@ -1,6 +1,7 @@
 // Checks of whole inputs: as the check program makes them, and with lent buffers of some length.
 ghost use Prim.Native.Nat.{_≤_};
 ghost use lib.ListN.{length};
+ghost use Rattle.checking.specs.Keeping.{most-kept, held-room};
 use checking::InputAnswer;
 use checking::keeping::hold;
 use checking::lines;
@@ -24,9 +25,9 @@ pub fn run(word: &[u8]) {
 
 // Adds so many of a byte to what is held, in chunks of 4,096.
 fn hold_many(held: &mut [u8], n: usize, byte: u8, count: usize) -> usize
-    requires { ⌜ n ≤ 66698 ⌝ }
-    requires { ⌜ 132234 ≤ length (now held) ⌝ }
-    ensures { λ r. ⌜ r ≤ 66698 ⌝ }
+    requires { ⌜ n ≤ most-kept ⌝ }
+    requires { ⌜ held-room ≤ length (now held) ⌝ }
+    ensures { λ r. ⌜ r ≤ most-kept ⌝ }
 {
     let chunk = [byte; 4096];
     let mut size = n;
