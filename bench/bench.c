@@ -75,7 +75,7 @@ static void make_entries(struct table *t, int count)
     }
 }
 
-/* The marks that the check of a table makes of a pair: crates/table/src/marks.rt. */
+/* The marks that the check of a table makes of a pair: crates/answer_table/src/marks.rt. */
 static uint32_t digest(uint32_t kind, const char *name)
 {
     uint32_t h = kind;

@@ -1,7 +1,7 @@
 /* Talavorn: whether a client may send mail for a domain (SPF, RFC 7208), over DNS answers that the caller lends. No call sends a DNS query.
  *
- * C99. Link target/staticlib/libembedding.a, which `rt staticlib embedding` makes on x86-64 Linux; it needs nothing but the C library's memset.
- * Each function is proved, for every input, to do what its comment says (its contract in crates/embedding/src/lib.rt says it in the prover's
+ * C99. Link target/staticlib/libtalavorn.a, which `rt staticlib talavorn` makes on x86-64 Linux; it needs nothing but the C library's memset.
+ * Each function is proved, for every input, to do what its comment says (its contract in crates/talavorn/src/lib.rt says it in the prover's
  * language), to touch no byte outside what it was lent, and to return.
  *
  * For every call

@@ -2,9 +2,9 @@
 // or place and both counts on a line, and for 3 and 7 the text or name on a second, or `input`.
 ghost use Prim.Native.Nat.{_≤_};
 ghost use lib.ListN.{length};
-ghost use Rattle.checking.specs.Keeping.{most-kept, held-room};
-use cases::Line;
-use checking::keeping::hold;
+ghost use Rattle.check_input.specs.Keeping.{most-kept, held-room};
+use case_support::Line;
+use check_input::keeping::hold;
 use text::bytes::part;
 
 // Adds the bytes that a piece of a line writes to what is held of an input.
@@ -14,14 +14,14 @@ fn hold_piece(piece: &[u8], held: &mut [u8], n: usize) -> usize
     ensures { λ r. ⌜ r ≤ most-kept ⌝ }
 {
     let mut bytes = [0u8; 2048];
-    let size = cases::unhex(piece, &mut bytes);
+    let size = case_support::unhex(piece, &mut bytes);
     hold(held, n, &bytes, size)
 }
 
 // Prints the answer to what is held.
 fn run_input(input: &[u8]) {
     let mut out = [0u8; 600];
-    let size = checking::answer_input(input, &mut out);
+    let size = check_input::answer_input(input, &mut out);
     io::write_all(1, part(&out, 0, size));
 }
 
@@ -33,7 +33,7 @@ fn run_line(held: &mut [u8]) -> bool
     let mut at: usize = 0;
     let mut budget: usize = 1000;
     while 0 < budget {
-        let Line::Of(n) = cases::read_line(&mut piece) else {
+        let Line::Of(n) = case_support::read_line(&mut piece) else {
             return false;
         };
         at = hold_piece(part(&piece, 0, n), held, at);

@@ -3,8 +3,8 @@
 ghost use Prim.Native.Nat.{_≤_};
 ghost use lib.ListN.{length};
 ghost use Rattle.check_host.specs.Reading.{HoldsChunks};
-ghost use Rattle.checking.specs.Keeping.{held-room};
-use checking::keeping::hold;
+ghost use Rattle.check_input.specs.Keeping.{held-room};
+use check_input::keeping::hold;
 use text::bytes::part;
 
 // Reads all of standard input, chunk by chunk, and holds what the answer depends on; answers how much that is. No input has as many chunks as the budget
@@ -31,6 +31,6 @@ fn main() {
     let mut held = [0u8; 132234];
     let mut out = [0u8; 600];
     let n = read_input(&mut held);
-    let size = checking::answer_input(part(&held, 0, n), &mut out);
+    let size = check_input::answer_input(part(&held, 0, n), &mut out);
     io::write_all(1, part(&out, 0, size));
 }

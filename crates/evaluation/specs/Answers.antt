@@ -6,15 +6,15 @@ use mathlib.Core.List.{List}
 use mathlib.Core.Bool.{true, false, _&&_}
 use lib.ListN.{length}
 use Rattle.address.specs.declared.Address.{Address}
-use Rattle.table.specs.Layout.{Entry}
-use Rattle.table.specs.Lookup.{lookup}
-use Rattle.table.specs.Numbers.{Place, nowhere, byte, refused as table-refused}
-use Rattle.table.specs.Answers.{TableAnswers, Encoded, most-bytes}
+use Rattle.answer_table.specs.Layout.{Entry}
+use Rattle.answer_table.specs.Lookup.{lookup}
+use Rattle.answer_table.specs.Numbers.{Place, nowhere, byte, refused as table-refused}
+use Rattle.answer_table.specs.Answers.{TableAnswers, Encoded, most-bytes}
 use Rattle.macros.specs.Expansion.{isSender, isHost, isShort}
-use Rattle.meaning.specs.Tree.{Table, run}
-use Rattle.meaning.specs.Tables.{replyOf}
-use Rattle.meaning.specs.Mechanisms.{Mail}
-use Rattle.meaning.specs.Evaluation.{verdict}
+use Rattle.rules.specs.Tree.{Table, run}
+use Rattle.rules.specs.Tables.{replyOf}
+use Rattle.rules.specs.Mechanisms.{Mail}
+use Rattle.rules.specs.Evaluation.{verdict}
 use Rattle.evaluation.specs.declared.Answer.{Answer}
 use Rattle.evaluation.specs.Numbers.{Outcome, refused, refused-at, settles, Says}
 use Rattle.evaluation.specs.Evaluating.{mailFor, hasRoom}

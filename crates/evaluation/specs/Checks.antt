@@ -3,13 +3,13 @@ use Prim.Native.Nat.{ℕ}
 use mathlib.Core.Bool.{cond}
 use lib.Dec.{eqb}
 use Rattle.records.specs.declared.Term.{Term}
-use Rattle.meaning.specs.declared.Counts.{Counts}
-use Rattle.meaning.specs.declared.Ending.{Ending}
-use Rattle.meaning.specs.declared.FailingPlace.{FailingPlace}
-use Rattle.meaning.specs.declared.Matched.{Matched}
-use Rattle.meaning.specs.declared.Stepped.{Stepped}
-use Rattle.meaning.specs.declared.Span.{Span}
-use Rattle.meaning.specs.declared.Checked.{Checked}
+use Rattle.rules.specs.declared.Counts.{Counts}
+use Rattle.rules.specs.declared.Ending.{Ending}
+use Rattle.rules.specs.declared.FailingPlace.{FailingPlace}
+use Rattle.rules.specs.declared.Matched.{Matched}
+use Rattle.rules.specs.declared.Stepped.{Stepped}
+use Rattle.rules.specs.declared.Span.{Span}
+use Rattle.rules.specs.declared.Checked.{Checked}
 
 -- a result without an explanation, and a question without an entry
 abbrev pub endedOf : ℕ → Counts → Checked

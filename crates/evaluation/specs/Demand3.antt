@@ -5,14 +5,14 @@ use mathlib.Core.Path.{_≡_}
 use mathlib.Core.List.{List}
 use lib.ListN.{length}
 use Rattle.domain.specs.Normal.{normal}
-use Rattle.table.specs.Layout.{Entry}
-use Rattle.table.specs.Answers.{Encoded, most-bytes}
+use Rattle.answer_table.specs.Layout.{Entry}
+use Rattle.answer_table.specs.Answers.{Encoded, most-bytes}
 use Rattle.records.specs.Claim.{Calls, Claim}
 use Rattle.records.specs.declared.RecordAnswer.{RecordAnswer}
-use Rattle.meaning.specs.declared.Counts.{Counts}
-use Rattle.meaning.specs.Results.{result-permerror}
-use Rattle.meaning.specs.Evaluation.{noCounts}
-use Rattle.meaning.specs.Reached.{Selects, Reaches}
+use Rattle.rules.specs.declared.Counts.{Counts}
+use Rattle.rules.specs.Results.{result-permerror}
+use Rattle.rules.specs.Evaluation.{noCounts}
+use Rattle.rules.specs.Reached.{Selects, Reaches}
 use Rattle.evaluation.specs.declared.Answer.{Answer}
 use Rattle.evaluation.specs.Answers.{Lent, Handed, handed, mailIn, tableOf, Fit, Evaluates}
 

@@ -6,15 +6,15 @@ use lib.ListN.{length}
 use lib.Dec.{leb}
 use Rattle.address.specs.declared.Address.{Address}
 use Rattle.address.specs.Octets.{asClient}
-use Rattle.table.specs.declared.TableAnswer.{TableAnswer}
-use Rattle.table.specs.declared.TableAnswer.the-variants.{Accepted, TooLong, Malformed, Repeated}
-use Rattle.table.specs.Reader.{checkTable}
+use Rattle.answer_table.specs.declared.TableAnswer.{TableAnswer}
+use Rattle.answer_table.specs.declared.TableAnswer.the-variants.{Accepted, TooLong, Malformed, Repeated}
+use Rattle.answer_table.specs.Reader.{checkTable}
 use Rattle.macros.specs.Expansion.{isSender, isHost, isShort}
-use Rattle.meaning.specs.Tree.{Settled, run}
-use Rattle.meaning.specs.Tables.{tableIn}
-use Rattle.meaning.specs.Mechanisms.{Mail}
-use Rattle.meaning.specs.Evaluation.{Verdict, verdict}
-use Rattle.meaning.specs.Outcomes.{mailOf}
+use Rattle.rules.specs.Tree.{Settled, run}
+use Rattle.rules.specs.Tables.{tableIn}
+use Rattle.rules.specs.Mechanisms.{Mail}
+use Rattle.rules.specs.Evaluation.{Verdict, verdict}
+use Rattle.rules.specs.Outcomes.{mailOf}
 use Rattle.evaluation.specs.Numbers.{Outcome, refused, refused-at, settles}
 
 -- "IPv4-mapped clients count as IPv4"

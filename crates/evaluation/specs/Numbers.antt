@@ -5,8 +5,8 @@ use mathlib.Core.List.{List}
 use lib.ListN.{length}
 use Rattle.text.specs.Writing.{overwritten}
 use Rattle.records.specs.Readings.{Optional, absent, present}
-use Rattle.meaning.specs.Tree.{Settled, settled, wanting}
-use Rattle.meaning.specs.Evaluation.{Verdict}
+use Rattle.rules.specs.Tree.{Settled, settled, wanting}
+use Rattle.rules.specs.Evaluation.{Verdict}
 use Rattle.evaluation.specs.declared.Answer.{Answer}
 
 -- what is handed back: the number, the kind or place where there is one, and both counts

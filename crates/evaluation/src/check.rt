@@ -6,30 +6,30 @@ ghost use Rattle.domain.specs.Normal.{name};
 ghost use Rattle.records.specs.Numbers.{saidOf};
 ghost use Rattle.records.specs.Reader.{readRecord};
 ghost use Rattle.records.specs.Opening.{Passing};
-ghost use Rattle.meaning.specs.Tree.{run};
-ghost use Rattle.meaning.specs.Tables.{tableIn};
-ghost use Rattle.meaning.specs.Evaluation.{begunCheck, includeStep, termStep, modifierOf, noMatch, tryTerms, termsOf, readOutcome, whole};
-ghost use Rattle.meaning.specs.Outcomes.{mailOf, spanOf, SaysStep, SaysCheck};
+ghost use Rattle.rules.specs.Tree.{run};
+ghost use Rattle.rules.specs.Tables.{tableIn};
+ghost use Rattle.rules.specs.Evaluation.{begunCheck, includeStep, termStep, modifierOf, noMatch, tryTerms, termsOf, readOutcome, whole};
+ghost use Rattle.rules.specs.Outcomes.{mailOf, spanOf, SaysStep, SaysCheck};
 ghost use Rattle.evaluation.specs.Checks.{endedOf, wantingOf, signOf, signedOf, redirectedOf, includedNow, includedOf};
 ghost use Rattle.text.specs.Texts.{bytes};
 use address::Address;
-use meaning::Checked;
-use meaning::Counts;
-use meaning::Ending;
-use meaning::FailingPlace;
-use meaning::Matched;
-use meaning::Selected;
-use meaning::Span;
-use meaning::Stepped;
-use meaning::Target;
 use mechanisms::Tried;
+use record_lookup::modifiers;
+use record_lookup::modifiers::Modifier;
 use records::AFTER_VERSION;
 use records::Term;
 use records::TermAnswer;
 use records::opening;
 use records::opening::Opening;
-use selection::modifiers;
-use selection::modifiers::Modifier;
+use rules::Checked;
+use rules::Counts;
+use rules::Ending;
+use rules::FailingPlace;
+use rules::Matched;
+use rules::Selected;
+use rules::Span;
+use rules::Stepped;
+use rules::Target;
 use text::bytes;
 
 // A result without an explanation.
@@ -151,7 +151,7 @@ pub fn check_domain(
     if domain::count_labels(domain) <= 1 {
         return ended(0, counts);
     }
-    match selection::select_record(table, domain, counts, out) {
+    match record_lookup::select_record(table, domain, counts, out) {
         Selected::Ends(value) => ended(value, counts),
         Selected::Wanting { kind, length: n } => wanting(kind, n, counts),
         Selected::One {
@@ -434,7 +434,7 @@ fn begin_check(
         voids: counts.voids,
     };
     let mut to = [0u8; 253];
-    match targets::make_target(
+    match target_name::make_target(
         client,
         sender,
         helo,

@@ -3,22 +3,22 @@ ghost use Prim.Native.Nat.{_≤_};
 ghost use mathlib.Core.Path.{_≡_};
 ghost use mathlib.Core.Bool.{_&&_};
 ghost use lib.ListN.{length};
-ghost use Rattle.meaning.specs.Tree.{run};
-ghost use Rattle.meaning.specs.Tables.{tableIn};
+ghost use Rattle.rules.specs.Tree.{run};
+ghost use Rattle.rules.specs.Tables.{tableIn};
 ghost use Rattle.macros.specs.Expansion.{isHost};
-ghost use Rattle.meaning.specs.Evaluation.{evaluation, verdict};
-ghost use Rattle.meaning.specs.Outcomes.{mailOf, SaysCheck};
+ghost use Rattle.rules.specs.Evaluation.{evaluation, verdict};
+ghost use Rattle.rules.specs.Outcomes.{mailOf, SaysCheck};
 ghost use Rattle.evaluation.specs.Numbers.{settles, Says};
 ghost use Rattle.evaluation.specs.Evaluating.{refusalOf, evaluated};
 ghost use Rattle.evaluation.specs.Answers.{lent, handed, Evaluates};
 use address::Address;
+use answer_table::TableAnswer;
 use domain::Name;
 use macros::values;
-use meaning::Checked;
-use meaning::Counts;
-use meaning::Ending;
-use meaning::Explained;
-use table::TableAnswer;
+use rules::Checked;
+use rules::Counts;
+use rules::Ending;
+use rules::Explained;
 use text::bytes;
 
 mod check;
@@ -191,7 +191,7 @@ pub fn evaluate(
 {
     let number = refusal(domain, sender, helo, receiver, name.len(), text.len());
     if number == 0 {
-        return match table::check_table(table) {
+        return match answer_table::check_table(table) {
             TableAnswer::TooLong => Answer::Refused(24),
             TableAnswer::Malformed(at) => Answer::RefusedAt { number: 25, at },
             TableAnswer::Repeated(at) => Answer::RefusedAt { number: 26, at },

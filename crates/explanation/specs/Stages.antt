@@ -8,10 +8,10 @@ use Rattle.text.specs.Bytes.{isPrintable}
 use Rattle.text.specs.Lists.{all}
 use Rattle.text.specs.Writing.{overwritten}
 use Rattle.macros.specs.declared.Form.{Form}
-use Rattle.meaning.specs.declared.Counts.{Counts}
-use Rattle.meaning.specs.Tree.{Check, bind}
-use Rattle.meaning.specs.Mechanisms.{Mail, pValue, givesExpansion, target}
-use Rattle.meaning.specs.Evaluation.{givesShown, explainName}
+use Rattle.rules.specs.declared.Counts.{Counts}
+use Rattle.rules.specs.Tree.{Check, bind}
+use Rattle.rules.specs.Mechanisms.{Mail, pValue, givesExpansion, target}
+use Rattle.rules.specs.Evaluation.{givesShown, explainName}
 
 -- a text at the front of a buffer, and its length
 pub record Shows (s : List ℕ) (n : ℕ) (before after : List ℕ) : Type 0 where

@@ -4,24 +4,24 @@ ghost use mathlib.Core.List.{[], _∷_};
 ghost use lib.ListN.{length};
 ghost use Rattle.domain.specs.Normal.{name};
 ghost use Rattle.macros.specs.declared.Form.the-variants.{Explanation};
-ghost use Rattle.meaning.specs.Tree.{run};
-ghost use Rattle.meaning.specs.Tables.{tableIn};
-ghost use Rattle.meaning.specs.Mechanisms.{expansion};
-ghost use Rattle.meaning.specs.Evaluation.{shown, explained, explainName, explanation};
-ghost use Rattle.meaning.specs.Outcomes.{mailOf, failingOf, SaysText};
+ghost use Rattle.rules.specs.Tree.{run};
+ghost use Rattle.rules.specs.Tables.{tableIn};
+ghost use Rattle.rules.specs.Mechanisms.{expansion};
+ghost use Rattle.rules.specs.Evaluation.{shown, explained, explainName, explanation};
+ghost use Rattle.rules.specs.Outcomes.{mailOf, failingOf, SaysText};
 ghost use Rattle.explanation.specs.Stages.{Shows, printed, withP, fetched};
 use address::Address;
+use answer_table::Found;
+use answer_table::items;
 use macros::Expanded;
 use macros::Form;
-use meaning::Counts;
-use meaning::Explained;
-use meaning::FailingPlace;
-use meaning::PValue;
-use meaning::Target;
-use selection::modifiers;
-use selection::modifiers::Modifier;
-use table::Found;
-use table::items;
+use record_lookup::modifiers;
+use record_lookup::modifiers::Modifier;
+use rules::Counts;
+use rules::Explained;
+use rules::FailingPlace;
+use rules::PValue;
+use rules::Target;
 use text::bytes;
 use text::bytes::Class;
 use text::words;
@@ -89,7 +89,7 @@ fn explain_with_p(
     requires { ⌜ length (now sender) ≤ 320 ⌝ }
     ensures { λ r. ⌜ SaysText counts (run (tableIn (now (table .entry))) (withP (mailOf client (now (sender .entry)) (now (helo .entry)) (now (receiver .entry)) seconds) (now (domain .entry)) (now (s .entry)) counts)) r (now (text .entry)) (now (text .exit)) (now (out .entry)) (now (out .exit)) ⌝ }
 {
-    match targets::find_p(client, table, domain, counts, out) {
+    match target_name::find_p(client, table, domain, counts, out) {
         PValue::Current => Explained::Text(write_shown(
             client,
             sender,
@@ -192,9 +192,9 @@ fn explain_name(
     requires { ⌜ length (now sender) ≤ 320 ⌝ }
     ensures { λ r. ⌜ SaysText counts (run (tableIn (now (table .entry))) (explainName (mailOf client (now (sender .entry)) (now (helo .entry)) (now (receiver .entry)) seconds) (now (domain .entry)) counts (name (now (target .entry))))) r (now (text .entry)) (now (text .exit)) (now (out .entry)) (now (out .exit)) ⌝ }
 {
-    let found = table::find(table, 16, target);
+    let found = answer_table::find(table, 16, target);
     let Found::Entry { status, start, end } = found else {
-        answers::want(target, out);
+        client_match::want(target, out);
         return Explained::Wanting {
             kind: 16,
             length: target.len(),
@@ -243,7 +243,7 @@ fn fetch(
     ensures { λ r. ⌜ SaysText counts (run (tableIn (now (table .entry))) (fetched (mailOf client (now (sender .entry)) (now (helo .entry)) (now (receiver .entry)) seconds) (now (domain .entry)) (now (spec .entry)) counts)) r (now (text .entry)) (now (text .exit)) (now (out .entry)) (now (out .exit)) ⌝ }
 {
     let mut target = [0u8; 253];
-    match targets::make_target(
+    match target_name::make_target(
         client,
         sender,
         helo,

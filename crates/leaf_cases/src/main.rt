@@ -13,10 +13,10 @@
 //
 // Any other line is printed as it is.
 use address::FromOctets;
-use cases::Line;
+use answer_table::Found;
+use answer_table::TableAnswer;
+use case_support::Line;
 use domain::Name;
-use table::Found;
-use table::TableAnswer;
 use text::bytes::part;
 use text::decimal;
 use text::decimal::Number;
@@ -25,68 +25,69 @@ use text::words;
 fn run_address(line: &[u8]) {
     let mut a = [0u8; 16];
     let mut b = [0u8; 16];
-    let n = cases::unhex(cases::word(line, 1), &mut a);
-    let m = cases::unhex(cases::word(line, 2), &mut b);
+    let n = case_support::unhex(case_support::word(line, 1), &mut a);
+    let m = case_support::unhex(case_support::word(line, 2), &mut b);
     let FromOctets::Is(client) = address::from_octets(part(&a, 0, n)) else {
-        cases::print_line(b"no address");
+        case_support::print_line(b"no address");
         return;
     };
     let FromOctets::Is(network) = address::from_octets(part(&b, 0, m)) else {
-        cases::print_line(b"no address");
+        case_support::print_line(b"no address");
         return;
     };
-    let Number::Value(v) = decimal::read_decimal(cases::word(line, 3), 18446744073709551615) else {
-        cases::print_line(b"no length");
+    let Number::Value(v) = decimal::read_decimal(case_support::word(line, 3), 18446744073709551615)
+    else {
+        case_support::print_line(b"no length");
         return;
     };
-    cases::print_test(address::matches(client, network, v as usize));
+    case_support::print_test(address::matches(client, network, v as usize));
 }
 
 fn run_client(line: &[u8]) {
     let mut a = [0u8; 16];
-    let n = cases::unhex(cases::word(line, 1), &mut a);
+    let n = case_support::unhex(case_support::word(line, 1), &mut a);
     let FromOctets::Is(given) = address::from_octets(part(&a, 0, n)) else {
-        cases::print_line(b"no address");
+        case_support::print_line(b"no address");
         return;
     };
-    cases::print_address(address::as_client(given));
+    case_support::print_address(address::as_client(given));
 }
 
 fn run_name(line: &[u8]) {
     let mut text = [0u8; 1024];
     let mut out = [0u8; 253];
-    let n = cases::unhex(cases::word(line, 1), &mut text);
+    let n = case_support::unhex(case_support::word(line, 1), &mut text);
     let Name::Written(m) = domain::read_name(part(&text, 0, n), &mut out) else {
-        cases::print_line(b"malformed");
+        case_support::print_line(b"malformed");
         return;
     };
-    cases::print_line(part(&out, 0, m));
+    case_support::print_line(part(&out, 0, m));
 }
 
 fn run_table_name(line: &[u8]) {
     let mut text = [0u8; 1024];
-    let n = cases::unhex(cases::word(line, 1), &mut text);
-    cases::print_test(domain::is_table_name(part(&text, 0, n)));
+    let n = case_support::unhex(case_support::word(line, 1), &mut text);
+    case_support::print_test(domain::is_table_name(part(&text, 0, n)));
 }
 
 fn run_labels(line: &[u8]) {
     let mut text = [0u8; 1024];
-    let n = cases::unhex(cases::word(line, 1), &mut text);
-    cases::print_number_line(domain::count_labels(part(&text, 0, n)));
+    let n = case_support::unhex(case_support::word(line, 1), &mut text);
+    case_support::print_number_line(domain::count_labels(part(&text, 0, n)));
 }
 
 fn run_below(line: &[u8]) {
     let mut name = [0u8; 1024];
     let mut target = [0u8; 1024];
-    let n = cases::unhex(cases::word(line, 1), &mut name);
-    let m = cases::unhex(cases::word(line, 2), &mut target);
-    cases::print_test(domain::at_or_below(part(&name, 0, n), part(&target, 0, m)));
+    let n = case_support::unhex(case_support::word(line, 1), &mut name);
+    let m = case_support::unhex(case_support::word(line, 2), &mut target);
+    case_support::print_test(domain::at_or_below(part(&name, 0, n), part(&target, 0, m)));
 }
 
 fn run_shorten(line: &[u8]) {
     let mut text = [0u8; 4096];
-    let n = cases::unhex(cases::word(line, 1), &mut text);
-    cases::print_line(domain::shorten(part(&text, 0, n)));
+    let n = case_support::unhex(case_support::word(line, 1), &mut text);
+    case_support::print_line(domain::shorten(part(&text, 0, n)));
 }
 
 // Prints a refusal: its number and its place.
@@ -94,18 +95,18 @@ fn print_refused(number: &[u8], place: usize) {
     io::write_all(1, b"refused ");
     io::write_all(1, number);
     io::write_all(1, b" ");
-    cases::print_number_line(place);
+    case_support::print_number_line(place);
 }
 
 fn run_table(line: &[u8]) {
     let mut space = [0u8; 65552];
-    let n = cases::unhex(cases::word(line, 1), &mut space);
-    match table::check_table(part(&space, 0, n)) {
+    let n = case_support::unhex(case_support::word(line, 1), &mut space);
+    match answer_table::check_table(part(&space, 0, n)) {
         TableAnswer::Accepted(count) => {
             io::write_all(1, b"entries ");
-            cases::print_number_line(count);
+            case_support::print_number_line(count);
         }
-        TableAnswer::TooLong => cases::print_line(b"refused 24 ."),
+        TableAnswer::TooLong => case_support::print_line(b"refused 24 ."),
         TableAnswer::Malformed(place) => print_refused(b"25", place),
         TableAnswer::Repeated(place) => print_refused(b"26", place),
     }
@@ -116,8 +117,8 @@ fn print_items(items: &[u8]) {
     let mut at = 0;
     while at < items.len() {
         io::write_all(1, b" ");
-        cases::print_bytes(table::items::item(items, at));
-        at = table::items::next_item(items, at);
+        case_support::print_bytes(answer_table::items::item(items, at));
+        at = answer_table::items::next_item(items, at);
     }
 }
 
@@ -125,31 +126,31 @@ fn print_items(items: &[u8]) {
 fn print_hosts(items: &[u8]) {
     let mut at = 0;
     while at < items.len() {
-        let item = table::items::item(items, at);
-        io::print_decimal(1, table::items::preference(item) as u64);
+        let item = answer_table::items::item(items, at);
+        io::print_decimal(1, answer_table::items::preference(item) as u64);
         io::write_all(1, b" ");
-        cases::print_bytes(table::items::host(item));
+        case_support::print_bytes(answer_table::items::host(item));
         io::write_all(1, b" ");
-        at = table::items::next_item(items, at);
+        at = answer_table::items::next_item(items, at);
     }
 }
 
 fn run_find(line: &[u8]) {
     let mut name = [0u8; 253];
     let mut space = [0u8; 65552];
-    let m = cases::unhex(cases::word(line, 2), &mut name);
-    let n = cases::unhex(cases::word(line, 3), &mut space);
-    let Number::Value(kind) = decimal::read_decimal(cases::word(line, 1), 65535) else {
-        cases::print_line(b"no kind");
+    let m = case_support::unhex(case_support::word(line, 2), &mut name);
+    let n = case_support::unhex(case_support::word(line, 3), &mut space);
+    let Number::Value(kind) = decimal::read_decimal(case_support::word(line, 1), 65535) else {
+        case_support::print_line(b"no kind");
         return;
     };
-    let found = table::find(part(&space, 0, n), (kind % 65536) as u16, part(&name, 0, m));
+    let found = answer_table::find(part(&space, 0, n), (kind % 65536) as u16, part(&name, 0, m));
     match found {
-        Found::Missing => cases::print_line(b"missing"),
+        Found::Missing => case_support::print_line(b"missing"),
         Found::Entry { status, .. } => {
             io::print_decimal(1, status as u64);
-            print_items(table::found_items(part(&space, 0, n), found));
-            cases::print_line(b"");
+            print_items(answer_table::found_items(part(&space, 0, n), found));
+            case_support::print_line(b"");
         }
     }
 }
@@ -157,11 +158,11 @@ fn run_find(line: &[u8]) {
 fn run_mx(line: &[u8]) {
     let mut name = [0u8; 253];
     let mut space = [0u8; 65552];
-    let m = cases::unhex(cases::word(line, 1), &mut name);
-    let n = cases::unhex(cases::word(line, 2), &mut space);
-    let found = table::find(part(&space, 0, n), 15, part(&name, 0, m));
-    print_hosts(table::found_items(part(&space, 0, n), found));
-    cases::print_line(b"");
+    let m = case_support::unhex(case_support::word(line, 1), &mut name);
+    let n = case_support::unhex(case_support::word(line, 2), &mut space);
+    let found = answer_table::find(part(&space, 0, n), 15, part(&name, 0, m));
+    print_hosts(answer_table::found_items(part(&space, 0, n), found));
+    case_support::print_line(b"");
 }
 
 // The kinds of line that concern names.
@@ -181,11 +182,11 @@ fn run_name_line(line: &[u8], kind: &[u8]) {
     if words::equal(kind, b"shorten") {
         return run_shorten(line);
     }
-    cases::print_line(line);
+    case_support::print_line(line);
 }
 
 fn run_line(line: &[u8]) {
-    let kind = cases::word(line, 0);
+    let kind = case_support::word(line, 0);
     if words::equal(kind, b"address") {
         return run_address(line);
     }
@@ -209,7 +210,7 @@ fn main() {
     let mut line = [0u8; 140000];
     let mut budget: usize = 1000000;
     while 0 < budget {
-        let Line::Of(n) = cases::read_line(&mut line) else {
+        let Line::Of(n) = case_support::read_line(&mut line) else {
             return;
         };
         run_line(part(&line, 0, n));

@@ -8,7 +8,7 @@
 //     reversed ADDRESS                  the name that a PTR question asks for an address
 //
 // FORM is `domain-spec`, `modifier-value` or `explanation`. Any other line is printed as it is.
-use cases::Line;
+use case_support::Line;
 use domain::Name;
 use macros::Expanded;
 use macros::Form;
@@ -31,13 +31,13 @@ fn print_expanded(answer: Expanded, out: &[u8]) {
     match answer {
         Expanded::Written(n) => {
             io::write_all(1, b"ok ");
-            cases::print_bytes(part(out, 0, n));
-            cases::print_line(b"");
+            case_support::print_bytes(part(out, 0, n));
+            case_support::print_line(b"");
         }
         Expanded::Refused(n) => {
             io::write_all(1, b"refused ");
             io::print_decimal(1, n as u64);
-            cases::print_line(b"");
+            case_support::print_line(b"");
         }
     }
 }
@@ -54,9 +54,9 @@ fn expand_front(
     room: usize,
     out: &mut [u8],
 ) -> Expanded {
-    let form = form_of(cases::word(line, 1));
-    let client = cases::address_of(cases::word(line, 2));
-    let seconds = cases::number_of(cases::word(line, 7));
+    let form = form_of(case_support::word(line, 1));
+    let client = case_support::address_of(case_support::word(line, 2));
+    let seconds = case_support::number_of(case_support::word(line, 7));
     if room <= out.len() {
         return macros::expand(
             form,
@@ -85,7 +85,7 @@ fn run_given(
     text: &[u8],
 ) {
     let mut space = [0u8; 65536];
-    let room = (cases::number_of(cases::word(line, 9)) % 65536) as usize;
+    let room = (case_support::number_of(case_support::word(line, 9)) % 65536) as usize;
     let answer = expand_front(
         line,
         sender,
@@ -105,9 +105,9 @@ fn run_named(line: &[u8], sender: &[u8], helo: &[u8], receiver: &[u8]) {
     let mut domain = [0u8; 1024];
     let mut p = [0u8; 1024];
     let mut text = [0u8; 8192];
-    let d = cases::unhex(cases::word(line, 3), &mut domain);
-    let q = cases::unhex(cases::word(line, 8), &mut p);
-    let t = cases::unhex(cases::word(line, 10), &mut text);
+    let d = case_support::unhex(case_support::word(line, 3), &mut domain);
+    let q = case_support::unhex(case_support::word(line, 8), &mut p);
+    let t = case_support::unhex(case_support::word(line, 10), &mut text);
     run_given(
         line,
         sender,
@@ -124,9 +124,9 @@ fn run_macro(line: &[u8]) {
     let mut sender = [0u8; 1024];
     let mut helo = [0u8; 1024];
     let mut receiver = [0u8; 1024];
-    let s = cases::unhex(cases::word(line, 4), &mut sender);
-    let h = cases::unhex(cases::word(line, 5), &mut helo);
-    let r = cases::unhex(cases::word(line, 6), &mut receiver);
+    let s = case_support::unhex(case_support::word(line, 4), &mut sender);
+    let h = case_support::unhex(case_support::word(line, 5), &mut helo);
+    let r = case_support::unhex(case_support::word(line, 6), &mut receiver);
     run_named(
         line,
         part(&sender, 0, s),
@@ -137,35 +137,45 @@ fn run_macro(line: &[u8]) {
 
 fn run_form(line: &[u8]) {
     let mut text = [0u8; 8192];
-    let n = cases::unhex(cases::word(line, 2), &mut text);
-    cases::print_test(macros::read_macro_string(form_of(cases::word(line, 1)), part(&text, 0, n)));
+    let n = case_support::unhex(case_support::word(line, 2), &mut text);
+    case_support::print_test(macros::read_macro_string(
+        form_of(case_support::word(line, 1)),
+        part(&text, 0, n),
+    ));
 }
 
 fn run_asks_p(line: &[u8]) {
     let mut text = [0u8; 8192];
-    let n = cases::unhex(cases::word(line, 2), &mut text);
-    cases::print_test(macros::uses_p(form_of(cases::word(line, 1)), part(&text, 0, n)));
+    let n = case_support::unhex(case_support::word(line, 2), &mut text);
+    case_support::print_test(macros::uses_p(
+        form_of(case_support::word(line, 1)),
+        part(&text, 0, n),
+    ));
 }
 
 fn run_question(line: &[u8]) {
     let mut text = [0u8; 8192];
     let mut out = [0u8; 253];
-    let n = cases::unhex(cases::word(line, 1), &mut text);
+    let n = case_support::unhex(case_support::word(line, 1), &mut text);
     let Name::Written(m) = macros::question_name(part(&text, 0, n), &mut out) else {
-        cases::print_line(b"malformed");
+        case_support::print_line(b"malformed");
         return;
     };
-    cases::print_line(part(&out, 0, m));
+    case_support::print_line(part(&out, 0, m));
 }
 
 fn run_reversed(line: &[u8]) {
     let mut out = [0u8; 80];
-    let n = notation::put_reversed_name(cases::address_of(cases::word(line, 1)), &mut out, 0);
-    cases::print_line(part(&out, 0, n));
+    let n = address_text::put_reversed_name(
+        case_support::address_of(case_support::word(line, 1)),
+        &mut out,
+        0,
+    );
+    case_support::print_line(part(&out, 0, n));
 }
 
 fn run_line(line: &[u8]) {
-    let kind = cases::word(line, 0);
+    let kind = case_support::word(line, 0);
     if words::equal(kind, b"macro") {
         return run_macro(line);
     }
@@ -181,7 +191,7 @@ fn run_line(line: &[u8]) {
     if words::equal(kind, b"reversed") {
         return run_reversed(line);
     }
-    cases::print_line(line);
+    case_support::print_line(line);
 }
 
 // At most as many lines as the budget says.
@@ -189,7 +199,7 @@ fn main() {
     let mut line = [0u8; 32768];
     let mut budget: usize = 1000000;
     while 0 < budget {
-        let Line::Of(n) = cases::read_line(&mut line) else {
+        let Line::Of(n) = case_support::read_line(&mut line) else {
             return;
         };
         run_line(part(&line, 0, n));

@@ -10,8 +10,8 @@ use Rattle.text.specs.Runs.{isIn, run, runEnd}
 use Rattle.text.specs.Texts.{bytes}
 use Rattle.address.specs.Octets.{octetsOf, octets, asClient}
 use Rattle.address.specs.declared.Address.the-variants.{IPv4}
-use Rattle.notation.specs.Digits.{digit, numeral, inDecimal}
-use Rattle.notation.specs.Forms.{octetTexts, dotted, readable, family}
+use Rattle.address_text.specs.Digits.{digit, numeral, inDecimal}
+use Rattle.address_text.specs.Forms.{octetTexts, dotted, readable, family}
 use Rattle.transformers.specs.Transform.{isListed, reversedIf, kept, isUnreserved, hexDigit, escapedByte, escaped, transformed}
 use Rattle.domain.specs.Normal.{withoutDot}
 use Rattle.macros.specs.Grammar.{isLetter, isPartCount}

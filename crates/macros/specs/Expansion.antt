@@ -9,8 +9,8 @@ use Rattle.text.specs.Lists.{all, split, joinBy}
 use Rattle.text.specs.Texts.{bytes}
 use Rattle.address.specs.declared.Address.{Address}
 use Rattle.address.specs.Octets.{asClient}
-use Rattle.notation.specs.Digits.{inDecimal}
-use Rattle.notation.specs.Forms.{dotted, readable, family}
+use Rattle.address_text.specs.Digits.{inDecimal}
+use Rattle.address_text.specs.Forms.{dotted, readable, family}
 use Rattle.transformers.specs.Transform.{transformed}
 use Rattle.macros.specs.Grammar.{Piece, literal, escape, expand}
 use Rattle.macros.specs.declared.pieces.Braces.{Braces}

@@ -10,8 +10,8 @@ ghost use Rattle.text.specs.Bytes.{lower};
 ghost use Rattle.macros.specs.Grammar.{Piece, Produces};
 ghost use Rattle.macros.specs.Reader.{pieces, scanOf, isMacroString, usesP};
 ghost use Rattle.domain.specs.Normal.{nameAnswer, nameBuffer};
-ghost use Rattle.notation.specs.Digits.{inDecimal};
-ghost use Rattle.notation.specs.Forms.{dotted, readable, family};
+ghost use Rattle.address_text.specs.Digits.{inDecimal};
+ghost use Rattle.address_text.specs.Forms.{dotted, readable, family};
 ghost use Rattle.macros.specs.Expansion.{given, letters, receiverName, lettersOf, textOf, isHost, isShort};
 ghost use Rattle.macros.specs.Numbers.{fitted, outcome, Says};
 ghost use Rattle.macros.specs.Answers.{Answered};
@@ -232,13 +232,13 @@ fn write_with_client(
     ensures { λ x. ⌜ Says (fitted (textOf (letters (now (s .entry)) (now (l .entry)) (now (o .entry)) (now (d .entry)) (dotted client) (now (p .entry)) (family client) (now (h .entry)) (readable client) (receiverName (now (receiver .entry))) (inDecimal seconds)) (pieces form (now (text .entry)) .list)) (length (now (out .entry)))) x (now (out .entry)) (now (out .exit)) ⌝ }
 {
     let mut address = [0u8; 63];
-    let i = notation::put_dotted(client, &mut address, 0);
+    let i = address_text::put_dotted(client, &mut address, 0);
     let mut family = [0u8; 7];
-    let v = notation::put_family(client, &mut family, 0);
+    let v = address_text::put_family(client, &mut family, 0);
     let mut readable = [0u8; 39];
-    let c = notation::put_readable(client, &mut readable, 0);
+    let c = address_text::put_readable(client, &mut readable, 0);
     let mut time = [0u8; 20];
-    let t = notation::put_decimal(seconds, &mut time, 0);
+    let t = address_text::put_decimal(seconds, &mut time, 0);
     write_with_receiver(
         form,
         text,

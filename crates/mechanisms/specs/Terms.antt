@@ -9,11 +9,11 @@ use Rattle.address.specs.declared.Address.the-variants.{IPv4, IPv6}
 use Rattle.records.specs.Readings.{Optional, absent, present}
 use Rattle.records.specs.Numbers.{saidOf}
 use Rattle.records.specs.declared.Term.{Term}
-use Rattle.meaning.specs.declared.Counts.{Counts}
-use Rattle.meaning.specs.Tree.{Table, Check, run}
-use Rattle.meaning.specs.Mechanisms.{Mail, Step, askA, askExists, askMx, askPtr}
-use Rattle.meaning.specs.Evaluation.{Sub, includeStep, termStep}
-use Rattle.meaning.specs.Outcomes.{SaysStep}
+use Rattle.rules.specs.declared.Counts.{Counts}
+use Rattle.rules.specs.Tree.{Table, Check, run}
+use Rattle.rules.specs.Mechanisms.{Mail, Step, askA, askExists, askMx, askPtr}
+use Rattle.rules.specs.Evaluation.{Sub, includeStep, termStep}
+use Rattle.rules.specs.Outcomes.{SaysStep}
 use Rattle.mechanisms.specs.declared.Question.{Question}
 use Rattle.mechanisms.specs.declared.Tried.{Tried}
 

@@ -4,18 +4,18 @@ ghost use mathlib.Core.Path.{_≡_};
 ghost use mathlib.Core.Bool.{true, false, cond};
 ghost use lib.Dec.{eqb};
 ghost use lib.ListN.{length};
-ghost use Rattle.meaning.specs.Tree.{run};
-ghost use Rattle.meaning.specs.Tables.{tableIn};
-ghost use Rattle.meaning.specs.Mechanisms.{countedStep};
-ghost use Rattle.meaning.specs.Outcomes.{mailOf, SaysStep};
+ghost use Rattle.rules.specs.Tree.{run};
+ghost use Rattle.rules.specs.Tables.{tableIn};
+ghost use Rattle.rules.specs.Mechanisms.{countedStep};
+ghost use Rattle.rules.specs.Outcomes.{mailOf, SaysStep};
 ghost use Rattle.mechanisms.specs.Terms.{asker, lengthOf, specIf, TriedIs};
 use address::Address;
-use meaning::Counts;
-use meaning::Ending;
-use meaning::Matched;
-use meaning::Stepped;
-use meaning::Target;
 use records::Term;
+use rules::Counts;
+use rules::Ending;
+use rules::Matched;
+use rules::Stepped;
+use rules::Target;
 use text::bytes;
 
 // A mechanism that asks for a name.
@@ -46,10 +46,10 @@ fn ask(
     ensures { λ r. ⌜ SaysStep (run (tableIn (now (table .entry))) (asker question client prefix counts (now (name .entry)))) r (now (out .entry)) (now (out .exit)) ⌝ }
 {
     match question {
-        Question::A => questions::ask_a(client, prefix, table, name, counts, out),
-        Question::Mx => questions::ask_mx(client, prefix, table, name, counts, out),
-        Question::Ptr => questions::ask_ptr(client, table, name, counts, out),
-        Question::Exists => questions::ask_exists(table, name, counts, out),
+        Question::A => mechanism_lookups::ask_a(client, prefix, table, name, counts, out),
+        Question::Mx => mechanism_lookups::ask_mx(client, prefix, table, name, counts, out),
+        Question::Ptr => mechanism_lookups::ask_ptr(client, table, name, counts, out),
+        Question::Exists => mechanism_lookups::ask_exists(table, name, counts, out),
     }
 }
 
@@ -84,7 +84,7 @@ fn counted_step(
         voids: counts.voids,
     };
     let mut to = [0u8; 253];
-    match targets::make_target_or(
+    match target_name::make_target_or(
         client,
         sender,
         helo,
@@ -156,7 +156,7 @@ pub fn try_plain(
     ensures { λ r. ⌜ TriedIs (tableIn (now (table .entry))) (mailOf client (now (sender .entry)) (now (helo .entry)) (now (receiver .entry)) seconds) (now (domain .entry)) (now (w .entry)) term counts (now (out .entry)) (now (out .exit)) r ⌝ }
 {
     match term {
-        Term::All { sign: _ } => Tried::Step(questions::matched(true, counts)),
+        Term::All { sign: _ } => Tried::Step(mechanism_lookups::matched(true, counts)),
         Term::Include { sign: _, from, to } => Tried::Include { from, to },
         Term::A {
             sign: _,
@@ -221,7 +221,7 @@ pub fn try_plain(
             to: _,
             address,
             length,
-        } => Tried::Step(questions::matched(
+        } => Tried::Step(mechanism_lookups::matched(
             address::matches(client, address, length as usize),
             counts,
         )),
@@ -240,8 +240,11 @@ pub fn try_plain(
             counts,
             out,
         )),
-        Term::Redirect { from: _, to: _ } => Tried::Step(questions::matched(false, counts)),
-        Term::Explanation { from: _, to: _ } => Tried::Step(questions::matched(false, counts)),
-        Term::Unknown { name: _, to: _ } => Tried::Step(questions::matched(false, counts)),
+        Term::Redirect { from: _, to: _ } => Tried::Step(mechanism_lookups::matched(false, counts)),
+        Term::Explanation { from: _, to: _ } => Tried::Step(mechanism_lookups::matched(
+            false,
+            counts,
+        )),
+        Term::Unknown { name: _, to: _ } => Tried::Step(mechanism_lookups::matched(false, counts)),
     }
 }

@@ -4,8 +4,8 @@ use text::bytes::part;
 
 fn main() {
     let mut input = [0u8; 4098];
-    let mut out = listing::buffer();
+    let mut out = record_listing::buffer();
     let n = io::read_full(0, &mut input);
-    let size = listing::list_input(&input, n, &mut out);
+    let size = record_listing::list_input(&input, n, &mut out);
     io::write_all(1, part(&out, 0, size));
 }

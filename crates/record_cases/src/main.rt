@@ -9,9 +9,9 @@
 //
 // Any other line is printed as it is.
 use address::Address;
-use cases::Line;
-use listing::Column;
+use case_support::Line;
 use networks::Network;
+use record_listing::Column;
 use records::Term;
 use records::TermAnswer;
 use text::bytes::part;
@@ -21,23 +21,23 @@ use text::words;
 
 fn run_record(line: &[u8]) {
     let mut s = [0u8; 8192];
-    let n = cases::unhex(cases::word(line, 1), &mut s);
+    let n = case_support::unhex(case_support::word(line, 1), &mut s);
     let mut out = [0u8; 64];
-    let size = listing::put_reading(part(&s, 0, n), &mut out);
+    let size = record_listing::put_reading(part(&s, 0, n), &mut out);
     io::write_all(1, part(&out, 0, size));
 }
 
 // Prints a prefix length with a space before it.
 fn print_length(length: u8) {
     let mut out = [0u8; 8];
-    let size = listing::put_length(Column::Of(length), &mut out, 0);
+    let size = record_listing::put_length(Column::Of(length), &mut out, 0);
     io::write_all(1, part(&out, 0, size));
 }
 
 // Prints a byte string in hex with a space before it.
 fn print_spaced(s: &[u8]) {
     io::write_all(1, b" ");
-    cases::print_bytes(s);
+    case_support::print_bytes(s);
 }
 
 // Prints a sign with a space before it.
@@ -133,7 +133,7 @@ fn print_term(term: Term, w: &[u8], argument: &[u8]) {
 // Prints the end or a refusal.
 fn print_no_term(s: &[u8], answer: TermAnswer) {
     let mut out = [0u8; 64];
-    let size = listing::put_term_answer(s, answer, &mut out);
+    let size = record_listing::put_term_answer(s, answer, &mut out);
     io::write_all(1, part(&out, 0, size));
 }
 
@@ -150,14 +150,15 @@ fn print_term_answer(s: &[u8], answer: TermAnswer) {
         part(s, at, next),
         records::argument(s, at, next, term),
     );
-    cases::print_line(b"");
+    case_support::print_line(b"");
 }
 
 fn run_term(line: &[u8]) {
     let mut s = [0u8; 8192];
-    let n = cases::unhex(cases::word(line, 1), &mut s);
-    let Number::Value(at) = decimal::read_decimal(cases::word(line, 2), 18446744073709551615) else {
-        cases::print_line(b"no place");
+    let n = case_support::unhex(case_support::word(line, 1), &mut s);
+    let Number::Value(at) = decimal::read_decimal(case_support::word(line, 2), 18446744073709551615)
+    else {
+        case_support::print_line(b"no place");
         return;
     };
     let text = part(&s, 0, n);
@@ -166,29 +167,29 @@ fn run_term(line: &[u8]) {
 
 // Prints a record.
 fn print_record(record: &[u8]) {
-    let mut out = listing::buffer();
-    let size = listing::list_record(record, &mut out);
+    let mut out = record_listing::buffer();
+    let size = record_listing::list_record(record, &mut out);
     io::write_all(1, part(&out, 0, size));
 }
 
 fn run_print(line: &[u8]) {
     let mut s = [0u8; 8192];
-    let n = cases::unhex(cases::word(line, 1), &mut s);
+    let n = case_support::unhex(case_support::word(line, 1), &mut s);
     print_record(part(&s, 0, n));
 }
 
 fn run_address(line: &[u8]) {
     let mut s = [0u8; 8192];
-    let n = cases::unhex(cases::word(line, 1), &mut s);
+    let n = case_support::unhex(case_support::word(line, 1), &mut s);
     let Network::Is(a) = networks::read_address(part(&s, 0, n)) else {
-        cases::print_line(b"none");
+        case_support::print_line(b"none");
         return;
     };
-    cases::print_address(a);
+    case_support::print_address(a);
 }
 
 fn run_line(line: &[u8]) {
-    let kind = cases::word(line, 0);
+    let kind = case_support::word(line, 0);
     if words::equal(kind, b"record") {
         return run_record(line);
     }
@@ -204,7 +205,7 @@ fn run_line(line: &[u8]) {
     if words::equal(kind, b"address") {
         return run_address(line);
     }
-    cases::print_line(line);
+    case_support::print_line(line);
 }
 
 // At most as many lines as the budget says.
@@ -212,7 +213,7 @@ fn main() {
     let mut line = [0u8; 32768];
     let mut budget: usize = 1000000;
     while 0 < budget {
-        let Line::Of(n) = cases::read_line(&mut line) else {
+        let Line::Of(n) = case_support::read_line(&mut line) else {
             return;
         };
         run_line(part(&line, 0, n));

@@ -9,7 +9,7 @@
 // Any other line is printed as it is.
 mod relay;
 
-use cases::Line;
+use case_support::Line;
 use text::bytes::part;
 use text::words;
 use text::writing;
@@ -17,7 +17,7 @@ use text::writing;
 // Adds an entry to a zone of a size; answers the new size.
 fn add_entry(line: &[u8], zone: &mut [u8], size: usize) -> usize {
     let mut entry = [0u8; 512];
-    let n = cases::unhex(cases::word(line, 3), &mut entry);
+    let n = case_support::unhex(case_support::word(line, 3), &mut entry);
     writing::put_all(part(&entry, 0, n), zone, size)
 }
 
@@ -25,14 +25,14 @@ fn run_case(line: &[u8], zone: &[u8]) {
     let mut domain = [0u8; 512];
     let mut sender = [0u8; 512];
     let mut helo = [0u8; 512];
-    let d = cases::unhex(cases::word(line, 3), &mut domain);
-    let s = cases::unhex(cases::word(line, 4), &mut sender);
-    let h = cases::unhex(cases::word(line, 5), &mut helo);
-    io::write_all(1, cases::word(line, 1));
+    let d = case_support::unhex(case_support::word(line, 3), &mut domain);
+    let s = case_support::unhex(case_support::word(line, 4), &mut sender);
+    let h = case_support::unhex(case_support::word(line, 5), &mut helo);
+    io::write_all(1, case_support::word(line, 1));
     io::write_all(1, b" ");
     relay::run(
         zone,
-        cases::address_of(cases::word(line, 2)),
+        case_support::address_of(case_support::word(line, 2)),
         part(&domain, 0, d),
         part(&sender, 0, s),
         part(&helo, 0, h),
@@ -41,7 +41,7 @@ fn run_case(line: &[u8], zone: &[u8]) {
 
 // Runs a line over a zone of a size; answers the zone's new size.
 fn run_line(line: &[u8], zone: &mut [u8], size: usize) -> usize {
-    let kind = cases::word(line, 0);
+    let kind = case_support::word(line, 0);
     if words::equal(kind, b"zone") {
         return 0;
     }
@@ -52,7 +52,7 @@ fn run_line(line: &[u8], zone: &mut [u8], size: usize) -> usize {
         run_case(line, part(zone, 0, size));
         return size;
     }
-    cases::print_line(line);
+    case_support::print_line(line);
     size
 }
 
@@ -63,7 +63,7 @@ fn main() {
     let mut size: usize = 0;
     let mut budget: usize = 1000000;
     while 0 < budget {
-        let Line::Of(n) = cases::read_line(&mut line) else {
+        let Line::Of(n) = case_support::read_line(&mut line) else {
             return;
         };
         size = run_line(part(&line, 0, n), &mut zone, size);

@@ -1,20 +1,27 @@
 // The relay: it begins with an empty table, fetches each answer that is missing from the zone, and asks again until the check is decided.
 use address::Address;
-use cases::entries;
+use answer_table::Found;
+use case_support::entries;
 use evaluation::Answer;
 use evaluation::evaluate;
-use table::Found;
 use text::bytes::part;
 
 // Puts the zone's answer to a question at a place of a table; a name that the zone lacks doesn't exist.
 fn put_answer(zone: &[u8], kind: u16, name: &[u8], out: &mut [u8], at: usize) -> usize {
-    let found = table::find(zone, kind, name);
+    let found = answer_table::find(zone, kind, name);
     match found {
         Found::Entry {
             status,
             start: _,
             end: _,
-        } => entries::put_entry(out, at, kind, status, name, table::found_items(zone, found)),
+        } => entries::put_entry(
+            out,
+            at,
+            kind,
+            status,
+            name,
+            answer_table::found_items(zone, found),
+        ),
         Found::Missing => entries::put_entry(out, at, kind, 3, name, b""),
     }
 }
@@ -41,12 +48,12 @@ fn print_decided(value: u8, text: &[u8]) {
     if 0 < text.len() {
         print(b" ");
     }
-    cases::print_line(text);
+    case_support::print_line(text);
 }
 
 fn print_refused(number: u8) {
     print(b"refused ");
-    cases::print_number_line(number as usize);
+    case_support::print_number_line(number as usize);
 }
 
 // Checks with an empty table, adds the zone's answer to each question that is missing, and prints what the check comes to. 130 questions are more than any
@@ -86,5 +93,5 @@ pub fn run(zone: &[u8], client: Address, domain: &[u8], sender: &[u8], helo: &[u
         }
         budget -= 1;
     }
-    cases::print_line(b"undecided");
+    case_support::print_line(b"undecided");
 }

@@ -2,10 +2,10 @@
 use address::Address;
 use evaluation::Answer;
 use evaluation::evaluate;
-use generators::arguments;
-use generators::random;
-use generators::tables;
-use generators::tally;
+use robustness_inputs::arguments;
+use robustness_inputs::random;
+use robustness_inputs::tables;
+use robustness_inputs::tally;
 use text::bytes::part;
 
 // An evaluation that is lent the fronts of two buffers; the seed says how much of them, and the time.

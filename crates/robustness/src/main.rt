@@ -6,9 +6,9 @@ mod checks;
 mod readings;
 
 use address::Address;
-use generators::arguments;
-use generators::random;
-use generators::tally;
+use robustness_inputs::arguments;
+use robustness_inputs::random;
+use robustness_inputs::tally;
 use text::bytes::part;
 
 // The calls on a record, and the evaluations, with the same arguments.

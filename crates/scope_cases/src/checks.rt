@@ -1,16 +1,16 @@
 // Checks of whole inputs: as the check program makes them, and with lent buffers of some length.
 ghost use Prim.Native.Nat.{_≤_};
 ghost use lib.ListN.{length};
-ghost use Rattle.checking.specs.Keeping.{most-kept, held-room};
-use checking::InputAnswer;
-use checking::keeping::hold;
-use checking::lines;
+ghost use Rattle.check_input.specs.Keeping.{most-kept, held-room};
+use check_input::InputAnswer;
+use check_input::keeping::hold;
+use check_input::lines;
 use text::bytes::part;
 
 // Prints the answer to what is held.
 fn print_held(input: &[u8]) {
     let mut out = [0u8; 600];
-    let size = checking::answer_input(input, &mut out);
+    let size = check_input::answer_input(input, &mut out);
     io::write_all(1, part(&out, 0, size));
 }
 
@@ -18,7 +18,7 @@ fn print_held(input: &[u8]) {
 pub fn run(word: &[u8]) {
     let mut held = [0u8; 132234];
     let mut input = [0u8; 16384];
-    let n = cases::unhex(word, &mut input);
+    let n = case_support::unhex(word, &mut input);
     let size = hold(&mut held, 0, &input, n);
     print_held(part(&held, 0, size));
 }
@@ -44,8 +44,8 @@ pub fn run_wide(front: &[u8], rest: &[u8], byte: u8, count: usize) {
     let mut held = [0u8; 132234];
     let mut before = [0u8; 8192];
     let mut after = [0u8; 8192];
-    let n = cases::unhex(front, &mut before);
-    let m = cases::unhex(rest, &mut after);
+    let n = case_support::unhex(front, &mut before);
+    let m = case_support::unhex(rest, &mut after);
     let first = hold(&mut held, 0, &before, n);
     let middle = hold_many(&mut held, first, byte, count);
     let size = hold(&mut held, middle, &after, m);
@@ -61,10 +61,10 @@ fn print_lent(answer: InputAnswer, name: &[u8], text: &[u8]) {
 // The check with the front of the text buffer.
 fn check_text(input: &[u8], name: &mut [u8], text: &mut [u8], text_room: usize) {
     if text_room <= text.len() {
-        let answer = checking::check_input(input, name, &mut text[..text_room]);
+        let answer = check_input::check_input(input, name, &mut text[..text_room]);
         return print_lent(answer, name, text);
     }
-    cases::print_line(b"too long");
+    case_support::print_line(b"too long");
 }
 
 // The check with the fronts of both buffers.
@@ -72,7 +72,7 @@ fn check_front(input: &[u8], name: &mut [u8], text: &mut [u8], name_room: usize,
     if name_room <= name.len() {
         return check_text(input, &mut name[..name_room], text, text_room);
     }
-    cases::print_line(b"too long");
+    case_support::print_line(b"too long");
 }
 
 // Runs the check that a word writes in hex, with buffers of at most 1,024 bytes and so many zero bytes after its table.
@@ -80,7 +80,7 @@ pub fn run_lent(word: &[u8], name_room: usize, text_room: usize, zeros: usize) {
     let mut input = [0u8; 73728];
     let mut name = [0u8; 1024];
     let mut text = [0u8; 1024];
-    let n = cases::unhex(word, &mut input);
+    let n = case_support::unhex(word, &mut input);
     if zeros <= 65536 {
         return check_front(
             part(&input, 0, n + zeros),
@@ -90,5 +90,5 @@ pub fn run_lent(word: &[u8], name_room: usize, text_room: usize, zeros: usize) {
             text_room,
         );
     }
-    cases::print_line(b"too long");
+    case_support::print_line(b"too long");
 }

@@ -17,7 +17,7 @@
 // FORM is `domain-spec` or `explanation`. Any other line is printed as it is.
 mod checks;
 
-use cases::Line;
+use case_support::Line;
 use macros::Expanded;
 use macros::Form;
 use text::bytes::part;
@@ -26,41 +26,41 @@ use text::words;
 fn run_record(line: &[u8]) {
     let mut s = [0u8; 8192];
     let mut out = [0u8; 64];
-    let n = cases::unhex(cases::word(line, 2), &mut s);
-    let size = listing::put_reading(part(&s, 0, n), &mut out);
+    let n = case_support::unhex(case_support::word(line, 2), &mut s);
+    let size = record_listing::put_reading(part(&s, 0, n), &mut out);
     io::write_all(1, part(&out, 0, size));
 }
 
 // Runs the record printer.
 fn run_listing(line: &[u8]) {
     let mut input = [0u8; 8192];
-    let mut out = listing::buffer();
-    let n = cases::unhex(cases::word(line, 2), &mut input);
-    let size = listing::list_input(&input, n, &mut out);
+    let mut out = record_listing::buffer();
+    let n = case_support::unhex(case_support::word(line, 2), &mut input);
+    let size = record_listing::list_input(&input, n, &mut out);
     io::write_all(1, part(&out, 0, size));
 }
 
 // Reads the term of a record at a place and prints what is answered.
 fn print_term_at(s: &[u8], place: usize) {
     let mut out = [0u8; 16384];
-    let size = listing::put_term_answer(s, records::read_term(s, place), &mut out);
+    let size = record_listing::put_term_answer(s, records::read_term(s, place), &mut out);
     io::write_all(1, part(&out, 0, size));
 }
 
 fn run_term(line: &[u8]) {
     let mut s = [0u8; 8192];
-    let n = cases::unhex(cases::word(line, 2), &mut s);
+    let n = case_support::unhex(case_support::word(line, 2), &mut s);
     print_term_at(
         part(&s, 0, n),
-        cases::number_of(cases::word(line, 3)) as usize,
+        case_support::number_of(case_support::word(line, 3)) as usize,
     );
 }
 
 fn run_match(line: &[u8]) {
-    let client = cases::address_of(cases::word(line, 2));
-    let network = cases::address_of(cases::word(line, 3));
-    let length = cases::number_of(cases::word(line, 4)) as usize;
-    cases::print_test(address::matches(client, network, length));
+    let client = case_support::address_of(case_support::word(line, 2));
+    let network = case_support::address_of(case_support::word(line, 3));
+    let length = case_support::number_of(case_support::word(line, 4)) as usize;
+    case_support::print_test(address::matches(client, network, length));
 }
 
 // The form that a word names.
@@ -76,7 +76,7 @@ fn print_rest(text: &[u8]) {
     if 0 < text.len() {
         io::write_all(1, b" ");
     }
-    cases::print_line(text);
+    case_support::print_line(text);
 }
 
 // Prints what an expansion answered.
@@ -88,7 +88,7 @@ fn print_expanded(answer: Expanded, out: &[u8]) {
         }
         Expanded::Refused(n) => {
             io::write_all(1, b"refused ");
-            cases::print_number_line(n as usize);
+            case_support::print_number_line(n as usize);
         }
     }
 }
@@ -99,19 +99,19 @@ fn run_expand(line: &[u8]) {
     let mut p = [0u8; 1024];
     let mut text = [0u8; 8192];
     let mut out = [0u8; 4096];
-    let d = cases::unhex(cases::word(line, 4), &mut domain);
-    let s = cases::unhex(cases::word(line, 5), &mut sender);
-    let q = cases::unhex(cases::word(line, 6), &mut p);
-    let t = cases::unhex(cases::word(line, 7), &mut text);
+    let d = case_support::unhex(case_support::word(line, 4), &mut domain);
+    let s = case_support::unhex(case_support::word(line, 5), &mut sender);
+    let q = case_support::unhex(case_support::word(line, 6), &mut p);
+    let t = case_support::unhex(case_support::word(line, 7), &mut text);
     let answer = macros::expand(
-        form_of(cases::word(line, 2)),
+        form_of(case_support::word(line, 2)),
         part(&text, 0, t),
         part(&sender, 0, s),
         b"helo.example",
         b"",
         part(&domain, 0, d),
         part(&p, 0, q),
-        cases::address_of(cases::word(line, 3)),
+        case_support::address_of(case_support::word(line, 3)),
         7,
         &mut out,
     );
@@ -120,29 +120,29 @@ fn run_expand(line: &[u8]) {
 
 // A number that a word writes, as a length.
 fn length_of(word: &[u8]) -> usize {
-    (cases::number_of(word) % 65537) as usize
+    (case_support::number_of(word) % 65537) as usize
 }
 
 fn run_check(line: &[u8]) {
-    checks::run(cases::word(line, 2));
+    checks::run(case_support::word(line, 2));
 }
 
 fn run_wide(line: &[u8]) {
-    let count = cases::number_of(cases::word(line, 2)) % 1000000;
-    let byte = cases::number_of(cases::word(line, 3)) % 256;
+    let count = case_support::number_of(case_support::word(line, 2)) % 1000000;
+    let byte = case_support::number_of(case_support::word(line, 3)) % 256;
     checks::run_wide(
-        cases::word(line, 4),
-        cases::word(line, 5),
+        case_support::word(line, 4),
+        case_support::word(line, 5),
         byte as u8,
         count as usize,
     );
 }
 
 fn run_lent(line: &[u8]) {
-    let name = length_of(cases::word(line, 2));
-    let text = length_of(cases::word(line, 3));
-    let zeros = length_of(cases::word(line, 4));
-    checks::run_lent(cases::word(line, 5), name, text, zeros);
+    let name = length_of(case_support::word(line, 2));
+    let text = length_of(case_support::word(line, 3));
+    let zeros = length_of(case_support::word(line, 4));
+    checks::run_lent(case_support::word(line, 5), name, text, zeros);
 }
 
 // Runs a case of a kind, once its label is printed.
@@ -198,13 +198,13 @@ fn is_kind(kind: &[u8]) -> bool {
 }
 
 fn run_line(line: &[u8]) {
-    let kind = cases::word(line, 0);
+    let kind = case_support::word(line, 0);
     if is_kind(kind) {
-        io::write_all(1, cases::word(line, 1));
+        io::write_all(1, case_support::word(line, 1));
         io::write_all(1, b" ");
         return run_case(kind, line);
     }
-    cases::print_line(line);
+    case_support::print_line(line);
 }
 
 // At most as many lines as the budget says.
@@ -212,7 +212,7 @@ fn main() {
     let mut line = [0u8; 20000];
     let mut budget: usize = 1000000;
     while 0 < budget {
-        let Line::Of(n) = cases::read_line(&mut line) else {
+        let Line::Of(n) = case_support::read_line(&mut line) else {
             return;
         };
         run_line(part(&line, 0, n));

@@ -16,6 +16,8 @@ pub mod Spans
 pub mod Runs
 -- Splitting: lists split at delimiters and joined by a separator.
 pub mod Splitting
+-- Fields: the loops over a text's fields.
+pub mod Fields
 -- Writing: bytes written into a buffer.
 pub mod Writing
 -- Digits: numbers in decimal.

@@ -11,5 +11,7 @@ pub mod Runs
 pub mod Sets
 -- Decimal: numbers in decimal.
 pub mod Decimal
+-- Fields: the parts of a text between separators.
+pub mod Fields
 -- Writing: bytes written into a lent buffer.
 pub mod Writing

@@ -1,4 +1,4 @@
--- What is held, chunk after chunk: the ways of the loop of `read_input`. From the definitions of Keeping of `checking`.
+-- What is held, chunk after chunk: the ways of the loop of `read_input`. From the definitions of Keeping of `check_input`.
 use Prim.Native.Nat.{ℕ, _≤_}
 use mathlib.Core.Path.{_≡_, refl, sym, ap, _∙_}
 use mathlib.Core.List.{List, [], _∷_, _++_}
@@ -7,7 +7,7 @@ use lib.ListN.{length, take, drop, length-append, length-drop}
 use lib.Seq.{take-at, sets, length-sets}
 use Rattle.text.specs.Bytes.{part}
 use Rattle.text.proofs.Laws.Writing.{over-fits}
-use Rattle.checking.specs.Keeping.{kept, Held, holding}
+use Rattle.check_input.specs.Keeping.{kept, Held, holding}
 use Rattle.check_host.specs.Reading.{HoldsChunks}
 
 pub record Holding (held₀ held : List ℕ) (n : ℕ) : Type 0 where

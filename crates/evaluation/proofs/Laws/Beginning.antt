@@ -17,25 +17,25 @@ use Rattle.records.specs.Readings.{Optional, absent, present}
 use Rattle.records.specs.Reader.{readRecord}
 use Rattle.records.specs.Numbers.{saidOf}
 use Rattle.records.specs.declared.Term.{Term}
-use Rattle.meaning.specs.declared.Counts.{Counts}
-use Rattle.meaning.specs.declared.Ending.{Ending}
-use Rattle.meaning.specs.declared.Matched.{Matched}
-use Rattle.meaning.specs.declared.Stepped.{Stepped}
-use Rattle.meaning.specs.declared.Target.{Target}
-use Rattle.meaning.specs.declared.Span.{Span}
-use Rattle.meaning.specs.declared.Selected.{Selected}
-use Rattle.meaning.specs.declared.Checked.{Checked}
-use Rattle.meaning.specs.Tree.{Table, Check, Settled, bind, run}
-use Rattle.meaning.specs.Tables.{tableIn}
-use Rattle.meaning.specs.Mechanisms.{Mail, yes, no, stop, Step, target, begun, counting}
-use Rattle.meaning.specs.Evaluation.{Result, Selection, ends, one, ended, checkTarget, begunCheck, includeMatch, includeOf, includeStep, termStep, noneIsPermerror, redirectOf, noMatch, readOutcome, recordLookup, afterLookup, checkName, check, whole}
-use Rattle.meaning.specs.Outcomes.{Gives, Wants, matchedOf, SaysStep, SaysTarget, spanOf, SaysSelection, failingOf, ResultIs, SaysCheck}
-use Rattle.meaning.proofs.Laws.Runs.{bind-is}
-use Rattle.meaning.proofs.Laws.Enough.{whole-unfolds}
-use Rattle.meaning.proofs.Laws.Inversions.{gives-bind, wants-bind, step-gives, step-wanted, target-name, target-malformed, target-wants, lookup-ends, lookup-one, lookup-wants, checked-result, checked-wants, checked-gives, checked-give, checked-wanted}
-use Rattle.selection.specs.declared.modifiers.Modifier.{Modifier}
+use Rattle.rules.specs.declared.Counts.{Counts}
+use Rattle.rules.specs.declared.Ending.{Ending}
+use Rattle.rules.specs.declared.Matched.{Matched}
+use Rattle.rules.specs.declared.Stepped.{Stepped}
+use Rattle.rules.specs.declared.Target.{Target}
+use Rattle.rules.specs.declared.Span.{Span}
+use Rattle.rules.specs.declared.Selected.{Selected}
+use Rattle.rules.specs.declared.Checked.{Checked}
+use Rattle.rules.specs.Tree.{Table, Check, Settled, bind, run}
+use Rattle.rules.specs.Tables.{tableIn}
+use Rattle.rules.specs.Mechanisms.{Mail, yes, no, stop, Step, target, begun, counting}
+use Rattle.rules.specs.Evaluation.{Result, Selection, ends, one, ended, checkTarget, begunCheck, includeMatch, includeOf, includeStep, termStep, noneIsPermerror, redirectOf, noMatch, readOutcome, recordLookup, afterLookup, checkName, check, whole}
+use Rattle.rules.specs.Outcomes.{Gives, Wants, matchedOf, SaysStep, SaysTarget, spanOf, SaysSelection, failingOf, ResultIs, SaysCheck}
+use Rattle.rules.proofs.Laws.Runs.{bind-is}
+use Rattle.rules.proofs.Laws.Enough.{whole-unfolds}
+use Rattle.rules.proofs.Laws.Inversions.{gives-bind, wants-bind, step-gives, step-wanted, target-name, target-malformed, target-wants, lookup-ends, lookup-one, lookup-wants, checked-result, checked-wants, checked-gives, checked-give, checked-wanted}
+use Rattle.record_lookup.specs.declared.modifiers.Modifier.{Modifier}
 use Rattle.mechanisms.specs.declared.Tried.{Tried}
-use Rattle.selection.specs.Modifiers.{ModifierIs}
+use Rattle.record_lookup.specs.Modifiers.{ModifierIs}
 use Rattle.mechanisms.specs.Terms.{TriedIs}
 use Rattle.evaluation.specs.Checks.{endedOf, wantingOf, signOf, signedOf, redirectedBy, redirectedOf, includedNow, includedBy, includedOf}
 

@@ -18,26 +18,26 @@ use Rattle.address.specs.Octets.{asClient}
 use Rattle.domain.specs.Names.{isName}
 use Rattle.domain.specs.Normal.{Naming, name, malformed, withoutDot, lowered, normal, nameAnswer, nameBuffer}
 use Rattle.domain.specs.declared.Name.{Name}
-use Rattle.table.specs.declared.TableAnswer.{TableAnswer}
-use Rattle.table.specs.declared.TableAnswer.the-variants.{Accepted, TooLong, Malformed, Repeated}
-use Rattle.table.specs.Numbers.{Place, nowhere, byte, accepted, refused as table-refused, reported as table-reported}
-use Rattle.table.specs.Answers.{TableAnswers, whole as whole-table}
-use Rattle.table.specs.Reader.{entriesOf, checkTable}
-use Rattle.table.proofs.Laws.Checks.{table-answers, table-answers-is}
-use Rattle.table.proofs.Laws.Entries.{entries-complete}
+use Rattle.answer_table.specs.declared.TableAnswer.{TableAnswer}
+use Rattle.answer_table.specs.declared.TableAnswer.the-variants.{Accepted, TooLong, Malformed, Repeated}
+use Rattle.answer_table.specs.Numbers.{Place, nowhere, byte, accepted, refused as table-refused, reported as table-reported}
+use Rattle.answer_table.specs.Answers.{TableAnswers, whole as whole-table}
+use Rattle.answer_table.specs.Reader.{entriesOf, checkTable}
+use Rattle.answer_table.proofs.Laws.Checks.{table-answers, table-answers-is}
+use Rattle.answer_table.proofs.Laws.Entries.{entries-complete}
 use Rattle.macros.specs.Expansion.{isSender, isHost, isShort}
-use Rattle.meaning.specs.declared.Counts.{Counts}
-use Rattle.meaning.specs.declared.Ending.{Ending}
-use Rattle.meaning.specs.declared.Explained.{Explained}
-use Rattle.meaning.specs.declared.Checked.{Checked}
-use Rattle.meaning.specs.Tree.{give, Settled, settled, wanting, bind, run}
-use Rattle.meaning.specs.Tables.{tableIn}
-use Rattle.meaning.specs.Mechanisms.{Mail}
-use Rattle.meaning.specs.Evaluation.{Result, checkName, check, whole, noCounts, evaluation, explanation, Verdict, verdict}
-use Rattle.meaning.specs.Outcomes.{Gives, Wants, mailOf, failingOf, SaysCheck, SaysText}
-use Rattle.meaning.proofs.Laws.Runs.{bind-is}
-use Rattle.meaning.proofs.Laws.Inversions.{gives-bind, wants-bind, naming-name, checked-result, checked-wants, checked-give, text-written, text-wants}
-use Rattle.targets.proofs.Laws.Naming.{Short, name-short, naming-written}
+use Rattle.rules.specs.declared.Counts.{Counts}
+use Rattle.rules.specs.declared.Ending.{Ending}
+use Rattle.rules.specs.declared.Explained.{Explained}
+use Rattle.rules.specs.declared.Checked.{Checked}
+use Rattle.rules.specs.Tree.{give, Settled, settled, wanting, bind, run}
+use Rattle.rules.specs.Tables.{tableIn}
+use Rattle.rules.specs.Mechanisms.{Mail}
+use Rattle.rules.specs.Evaluation.{Result, checkName, check, whole, noCounts, evaluation, explanation, Verdict, verdict}
+use Rattle.rules.specs.Outcomes.{Gives, Wants, mailOf, failingOf, SaysCheck, SaysText}
+use Rattle.rules.proofs.Laws.Runs.{bind-is}
+use Rattle.rules.proofs.Laws.Inversions.{gives-bind, wants-bind, naming-name, checked-result, checked-wants, checked-give, text-written, text-wants}
+use Rattle.target_name.proofs.Laws.Naming.{Short, name-short, naming-written}
 use Rattle.evaluation.specs.declared.Answer.{Answer}
 use Rattle.evaluation.specs.Checks.{endedOf}
 use Rattle.evaluation.specs.Numbers.{Outcome, refused, refused-at, settles, reported, answerOf, reportOf, nameAfter, textAfter, Says}

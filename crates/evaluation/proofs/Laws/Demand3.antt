@@ -1,4 +1,4 @@
--- Demand 3: reading a record, its terms and their arguments, and evaluating. From records' claim, `verdict-never-evaluated` of `meaning`, and that what
+-- Demand 3: reading a record, its terms and their arguments, and evaluating. From records' claim, `verdict-never-evaluated` of `rules`, and that what
 -- is lent determines the outcome (Deciding).
 use Prim.Native.Nat.{ℕ, _≤_, _<_}
 use mathlib.Core.Path.{_≡_, ap, _∙_}
@@ -12,10 +12,10 @@ use Rattle.records.specs.Answers.{most-bytes}
 use Rattle.records.specs.Claim.{Calls}
 use Rattle.records.specs.declared.RecordAnswer.{RecordAnswer}
 use Rattle.records.proofs.Laws.Claim.{claim}
-use Rattle.meaning.specs.declared.Counts.{Counts}
-use Rattle.meaning.specs.Tree.{settled}
-use Rattle.meaning.specs.Reached.{Outside, too-long, unproduced}
-use Rattle.meaning.proofs.Laws.Reached.{verdict-never-evaluated}
+use Rattle.rules.specs.declared.Counts.{Counts}
+use Rattle.rules.specs.Tree.{settled}
+use Rattle.rules.specs.Reached.{Outside, too-long, unproduced}
+use Rattle.rules.proofs.Laws.Reached.{verdict-never-evaluated}
 use Rattle.evaluation.specs.declared.Answer.{Answer}
 use Rattle.evaluation.specs.Numbers.{Outcome, settles, answerOf, nameAfter, textAfter, Says}
 use Rattle.evaluation.specs.Answers.{Lent, Handed, handed, mailIn, tableOf, decides}

@@ -1,21 +1,21 @@
 -- Facts of every evaluation, whatever its arguments: a wanted name is a name as the table has it, so that it fits the name buffer and its answer can be
 -- added to the table; "text written only for 3"; lookups never exceed 10, and voids never 3. From `evaluated-answers` (Deciding) and the theorems of
--- `meaning`.
+-- `rules`.
 use Prim.Native.Nat.{ℕ}
 use mathlib.Core.Path.{_≡_, subst}
 use mathlib.Core.List.{List, []}
 use mathlib.Core.Bool.{true}
 use Rattle.address.specs.declared.Address.{Address}
 use Rattle.domain.specs.Names.{isTableName}
-use Rattle.table.specs.Numbers.{nowhere, byte}
-use Rattle.table.proofs.Laws.Entries.{entries-complete}
-use Rattle.meaning.specs.declared.Counts.{Counts}
-use Rattle.meaning.specs.Tree.{Settled, settled, wanting}
-use Rattle.meaning.specs.Tables.{tableIn}
-use Rattle.meaning.proofs.Laws.Alike.{Holds}
-use Rattle.meaning.proofs.Laws.Askable.{Fitting, entries-fit}
-use Rattle.meaning.specs.Evaluation.{Verdict}
-use Rattle.meaning.proofs.Laws.Verdicts.{AskedFacts, VerdictFacts, verdict-facts}
+use Rattle.answer_table.specs.Numbers.{nowhere, byte}
+use Rattle.answer_table.proofs.Laws.Entries.{entries-complete}
+use Rattle.rules.specs.declared.Counts.{Counts}
+use Rattle.rules.specs.Tree.{Settled, settled, wanting}
+use Rattle.rules.specs.Tables.{tableIn}
+use Rattle.rules.proofs.Laws.Alike.{Holds}
+use Rattle.rules.proofs.Laws.Askable.{Fitting, entries-fit}
+use Rattle.rules.specs.Evaluation.{Verdict}
+use Rattle.rules.proofs.Laws.Verdicts.{AskedFacts, VerdictFacts, verdict-facts}
 use Rattle.evaluation.specs.Numbers.{Outcome, refused, refused-at, settles}
 use Rattle.evaluation.specs.Evaluating.{mailFor, evaluated}
 use Rattle.evaluation.specs.Answers.{lent, Answers, no-sender, no-host, long-domain, no-room, bad-table, decides}

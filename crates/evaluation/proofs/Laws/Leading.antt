@@ -19,17 +19,17 @@ use Rattle.records.specs.declared.opening.Unaided.{Unaided}
 use Rattle.records.specs.declared.opening.Opening.{Opening}
 use Rattle.records.specs.Opening.{unaided, Passing, Leads, OpeningOf, answerOf}
 use Rattle.records.proofs.Laws.Terms.{read-long, read-past}
-use Rattle.meaning.specs.declared.Counts.{Counts}
-use Rattle.meaning.specs.declared.Matched.{Matched}
-use Rattle.meaning.specs.declared.Stepped.{Stepped}
-use Rattle.meaning.specs.declared.Span.{Span}
-use Rattle.meaning.specs.declared.Checked.{Checked}
-use Rattle.meaning.specs.Tree.{Table, run}
-use Rattle.meaning.specs.Tables.{tableIn}
-use Rattle.meaning.specs.Mechanisms.{Mail}
-use Rattle.meaning.specs.Evaluation.{Sub, termStep, tryTerms, termsOf, readOutcome, whole}
-use Rattle.meaning.specs.Outcomes.{spanOf, SaysStep, SaysCheck}
-use Rattle.questions.specs.Steps.{matchAnswer}
+use Rattle.rules.specs.declared.Counts.{Counts}
+use Rattle.rules.specs.declared.Matched.{Matched}
+use Rattle.rules.specs.declared.Stepped.{Stepped}
+use Rattle.rules.specs.declared.Span.{Span}
+use Rattle.rules.specs.declared.Checked.{Checked}
+use Rattle.rules.specs.Tree.{Table, run}
+use Rattle.rules.specs.Tables.{tableIn}
+use Rattle.rules.specs.Mechanisms.{Mail}
+use Rattle.rules.specs.Evaluation.{Sub, termStep, tryTerms, termsOf, readOutcome, whole}
+use Rattle.rules.specs.Outcomes.{spanOf, SaysStep, SaysCheck}
+use Rattle.mechanism_lookups.specs.Steps.{matchAnswer}
 use Rattle.mechanisms.specs.Terms.{TriedIs}
 use Rattle.mechanisms.proofs.Laws.Trying.{tried-all, tried-network, tried-redirect, tried-explanation, tried-unknown}
 use Rattle.evaluation.specs.Checks.{endedOf, signOf, signedOf}

@@ -22,22 +22,22 @@ use Rattle.records.specs.declared.TermAnswer.{TermAnswer}
 use Rattle.records.proofs.TermAnswer as answer-type
 use Rattle.records.proofs.Laws.Checking.{next-less}
 use Rattle.address.specs.declared.Address.the-variants.{IPv4, IPv6}
-use Rattle.meaning.specs.declared.Counts.{Counts}
-use Rattle.meaning.specs.declared.Ending.{Ending}
-use Rattle.meaning.specs.declared.FailingPlace.{FailingPlace}
-use Rattle.meaning.specs.declared.Matched.{Matched}
-use Rattle.meaning.specs.declared.Stepped.{Stepped}
-use Rattle.meaning.specs.declared.Span.{Span}
-use Rattle.meaning.specs.declared.Checked.{Checked}
-use Rattle.meaning.specs.Tree.{Check, Settled, run}
-use Rattle.meaning.specs.Tables.{tableIn}
-use Rattle.meaning.specs.Mechanisms.{Mail, yes, no, stop, Step}
-use Rattle.meaning.specs.Evaluation.{Result, Sub, termStep, signResult, modifierOf, signed, noMatch, matchResult, afterStep, tryTerms, termsAfter, termsFrom, termsOf, whole}
-use Rattle.meaning.specs.Outcomes.{Settles, Gives, spanOf, failingOf, SaysStep, SaysCheck}
-use Rattle.meaning.proofs.Laws.Runs.{give-same}
-use Rattle.meaning.proofs.Laws.Inversions.{step-yes, step-no, step-result, step-wants, checked-give, checked-wanted}
-use Rattle.meaning.proofs.Laws.Signs.{Signed, read-signed}
-use Rattle.meaning.proofs.Laws.Steps.{term-then, term-wants, no-bounded}
+use Rattle.rules.specs.declared.Counts.{Counts}
+use Rattle.rules.specs.declared.Ending.{Ending}
+use Rattle.rules.specs.declared.FailingPlace.{FailingPlace}
+use Rattle.rules.specs.declared.Matched.{Matched}
+use Rattle.rules.specs.declared.Stepped.{Stepped}
+use Rattle.rules.specs.declared.Span.{Span}
+use Rattle.rules.specs.declared.Checked.{Checked}
+use Rattle.rules.specs.Tree.{Check, Settled, run}
+use Rattle.rules.specs.Tables.{tableIn}
+use Rattle.rules.specs.Mechanisms.{Mail, yes, no, stop, Step}
+use Rattle.rules.specs.Evaluation.{Result, Sub, termStep, signResult, modifierOf, signed, noMatch, matchResult, afterStep, tryTerms, termsAfter, termsFrom, termsOf, whole}
+use Rattle.rules.specs.Outcomes.{Settles, Gives, spanOf, failingOf, SaysStep, SaysCheck}
+use Rattle.rules.proofs.Laws.Runs.{give-same}
+use Rattle.rules.proofs.Laws.Inversions.{step-yes, step-no, step-result, step-wants, checked-give, checked-wanted}
+use Rattle.rules.proofs.Laws.Signs.{Signed, read-signed}
+use Rattle.rules.proofs.Laws.Steps.{term-then, term-wants, no-bounded}
 use Rattle.evaluation.specs.Checks.{endedOf, signOf, signedOf}
 
 -- a term that is read, as the reading has it

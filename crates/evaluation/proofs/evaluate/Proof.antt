@@ -8,7 +8,7 @@ use Rattle.evaluation.proofs.evaluate.Lts as lts
 use Rattle.address.proofs.as_client.Reads as as-client-reads
 use Rattle.evaluation.proofs.decide.Reads as decide-reads
 use Rattle.evaluation.proofs.refusal.Reads as refusal-reads
-use Rattle.table.proofs.check_table.Reads as check-table-reads
+use Rattle.answer_table.proofs.check_table.Reads as check-table-reads
 
 refusal-requires : tie.Need-refusal-requires
 refusal-requires c κs = search needs

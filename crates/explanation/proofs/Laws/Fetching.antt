@@ -1,4 +1,4 @@
--- An explanation's questions: a rule for each way out. From answers' laws of what a table answers, table's laws of items, and Inversions.
+-- An explanation's questions: a rule for each way out. From the laws of client_match on what a table answers, those of answer_table on items, and Inversions.
 use Prim.Native.Nat.{ℕ, _≤_, _<_}
 use mathlib.Core.Path.{_≡_, refl, ap, _∙_}
 use mathlib.Core.List.{List, [], _∷_}
@@ -8,25 +8,25 @@ use Rattle.text.specs.Bytes.{part}
 use Rattle.text.specs.Texts.{bytes}
 use Rattle.text.specs.Writing.{overwritten}
 use Rattle.domain.specs.Normal.{name, malformed}
-use Rattle.table.specs.declared.Found.{Found}
-use Rattle.table.specs.Reader.{firstItem, nextItem, itemsOf, findAt}
-use Rattle.table.proofs.Laws.Items.{items-step, items-end, next-further}
+use Rattle.answer_table.specs.declared.Found.{Found}
+use Rattle.answer_table.specs.Reader.{firstItem, nextItem, itemsOf, findAt}
+use Rattle.answer_table.proofs.Laws.Items.{items-step, items-end, next-further}
 use Rattle.records.specs.Readings.{Optional, absent, present}
-use Rattle.meaning.specs.declared.Counts.{Counts}
-use Rattle.meaning.specs.declared.Target.{Target}
-use Rattle.meaning.specs.declared.Span.{Span}
-use Rattle.meaning.specs.declared.FailingPlace.{FailingPlace}
-use Rattle.meaning.specs.declared.Explained.{Explained}
-use Rattle.meaning.specs.Tree.{run}
-use Rattle.meaning.specs.Tables.{tableIn}
-use Rattle.meaning.specs.Mechanisms.{Mail, target}
-use Rattle.meaning.specs.Evaluation.{modifierOf, failingAt, termsOf, explained, explainReply, explainName, explanation}
-use Rattle.meaning.specs.Outcomes.{failingOf, SaysTarget, SaysText}
-use Rattle.meaning.proofs.Laws.Runs.{bind-is}
-use Rattle.meaning.proofs.Laws.Inversions.{gives-give, gives-bind, wants-bind, target-name, target-malformed, target-wants, text-wanted}
-use Rattle.answers.proofs.Laws.Asked.{run-missing, run-failed, run-items}
-use Rattle.selection.specs.Modifiers.{ModifierIs}
-use Rattle.selection.specs.declared.modifiers.Modifier.{Modifier}
+use Rattle.rules.specs.declared.Counts.{Counts}
+use Rattle.rules.specs.declared.Target.{Target}
+use Rattle.rules.specs.declared.Span.{Span}
+use Rattle.rules.specs.declared.FailingPlace.{FailingPlace}
+use Rattle.rules.specs.declared.Explained.{Explained}
+use Rattle.rules.specs.Tree.{run}
+use Rattle.rules.specs.Tables.{tableIn}
+use Rattle.rules.specs.Mechanisms.{Mail, target}
+use Rattle.rules.specs.Evaluation.{modifierOf, failingAt, termsOf, explained, explainReply, explainName, explanation}
+use Rattle.rules.specs.Outcomes.{failingOf, SaysTarget, SaysText}
+use Rattle.rules.proofs.Laws.Runs.{bind-is}
+use Rattle.rules.proofs.Laws.Inversions.{gives-give, gives-bind, wants-bind, target-name, target-malformed, target-wants, text-wanted}
+use Rattle.client_match.proofs.Laws.Asked.{run-missing, run-failed, run-items}
+use Rattle.record_lookup.specs.Modifiers.{ModifierIs}
+use Rattle.record_lookup.specs.declared.modifiers.Modifier.{Modifier}
 use Rattle.explanation.specs.Stages.{fetched}
 use Rattle.explanation.proofs.Laws.Showing.{text-empty}
 

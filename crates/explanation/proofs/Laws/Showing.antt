@@ -21,16 +21,16 @@ use Rattle.macros.specs.declared.Expanded.the-variants.{Written, Refused}
 use Rattle.macros.specs.Reader.{pieces, isMacroString, usesP}
 use Rattle.macros.specs.Expansion.{given, lettersOf, textOf}
 use Rattle.macros.specs.Numbers.{fitted, Says}
-use Rattle.meaning.specs.declared.Counts.{Counts}
-use Rattle.meaning.specs.declared.PValue.{PValue}
-use Rattle.meaning.specs.declared.Explained.{Explained}
-use Rattle.meaning.specs.Tree.{bind, Settled, run}
-use Rattle.meaning.specs.Tables.{tableIn}
-use Rattle.meaning.specs.Mechanisms.{pValue, expansion, givesExpansion, expanded}
-use Rattle.meaning.specs.Evaluation.{most-text, shown, givesShown, explained}
-use Rattle.meaning.specs.Outcomes.{mailOf, SaysP, SaysText, Gives}
-use Rattle.meaning.proofs.Laws.Inversions.{gives-give, p-current, p-listed, p-unknown, p-wants, text-gives, text-wanted}
-use Rattle.targets.proofs.Laws.Expansions.{text-taken, text-fits, text-over, expansion-given, expansion-wanted}
+use Rattle.rules.specs.declared.Counts.{Counts}
+use Rattle.rules.specs.declared.PValue.{PValue}
+use Rattle.rules.specs.declared.Explained.{Explained}
+use Rattle.rules.specs.Tree.{bind, Settled, run}
+use Rattle.rules.specs.Tables.{tableIn}
+use Rattle.rules.specs.Mechanisms.{pValue, expansion, givesExpansion, expanded}
+use Rattle.rules.specs.Evaluation.{most-text, shown, givesShown, explained}
+use Rattle.rules.specs.Outcomes.{mailOf, SaysP, SaysText, Gives}
+use Rattle.rules.proofs.Laws.Inversions.{gives-give, p-current, p-listed, p-unknown, p-wants, text-gives, text-wanted}
+use Rattle.target_name.proofs.Laws.Expansions.{text-taken, text-fits, text-over, expansion-given, expansion-wanted}
 use Rattle.explanation.specs.Stages.{Shows, printed, withP}
 
 -- an explanation that shows a text, and one that is empty

@@ -6,7 +6,7 @@ use Rattle.explanation.proofs.explain.Tie as tie
 use Rattle.explanation.proofs.explain.Reads as reads
 use Rattle.explanation.proofs.explain.Lts as lts
 use Rattle.explanation.proofs.fetch.Reads as fetch-reads
-use Rattle.selection.proofs.modifiers.find_explanation.Reads as find-explanation-reads
+use Rattle.record_lookup.proofs.modifiers.find_explanation.Reads as find-explanation-reads
 use Rattle.text.proofs.bytes.part.Reads as part-reads
 
 enum-known-failing : tie.Need-enum-known-failing

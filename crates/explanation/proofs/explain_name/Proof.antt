@@ -5,11 +5,11 @@ use Rattle.explanation.proofs.explain_name.Statement.{statement}
 use Rattle.explanation.proofs.explain_name.Tie as tie
 use Rattle.explanation.proofs.explain_name.Reads as reads
 use Rattle.explanation.proofs.explain_name.Lts as lts
-use Rattle.answers.proofs.want.Reads as want-reads
+use Rattle.client_match.proofs.want.Reads as want-reads
 use Rattle.explanation.proofs.explain_text.Reads as explain-text-reads
-use Rattle.table.proofs.find.Reads as find-reads
-use Rattle.table.proofs.items.item.Reads as item-reads
-use Rattle.table.proofs.items.next_item.Reads as next-item-reads
+use Rattle.answer_table.proofs.find.Reads as find-reads
+use Rattle.answer_table.proofs.items.item.Reads as item-reads
+use Rattle.answer_table.proofs.items.next_item.Reads as next-item-reads
 use Rattle.text.proofs.bytes.part.Reads as part-reads
 
 find-requires : tie.Need-find-requires

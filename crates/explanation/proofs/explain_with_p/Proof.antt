@@ -6,7 +6,7 @@ use Rattle.explanation.proofs.explain_with_p.Tie as tie
 use Rattle.explanation.proofs.explain_with_p.Reads as reads
 use Rattle.explanation.proofs.explain_with_p.Lts as lts
 use Rattle.explanation.proofs.write_shown.Reads as write-shown-reads
-use Rattle.targets.proofs.find_p.Reads as find-p-reads
+use Rattle.target_name.proofs.find_p.Reads as find-p-reads
 use Rattle.text.proofs.bytes.part.Reads as part-reads
 
 find-p-requires : tie.Need-find-p-requires

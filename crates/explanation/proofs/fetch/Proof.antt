@@ -6,7 +6,7 @@ use Rattle.explanation.proofs.fetch.Tie as tie
 use Rattle.explanation.proofs.fetch.Reads as reads
 use Rattle.explanation.proofs.fetch.Lts as lts
 use Rattle.explanation.proofs.explain_name.Reads as explain-name-reads
-use Rattle.targets.proofs.make_target.Reads as make-target-reads
+use Rattle.target_name.proofs.make_target.Reads as make-target-reads
 
 slice-aggregate-make-target : tie.Need-slice-aggregate-make-target
 slice-aggregate-make-target c = search needs

@@ -1,5 +1,5 @@
--- `explanation::write_shown` meets its contract. From the laws of Showing and those of targets on an expansion in an array.
-use Rattle.targets.proofs.Laws.Expansions.{text-inside, text-whole}
+-- `explanation::write_shown` meets its contract. From the laws of Showing and those of target_name on an expansion in an array.
+use Rattle.target_name.proofs.Laws.Expansions.{text-inside, text-whole}
 use Rattle.explanation.proofs.Laws.Showing.{shown-written, shown-refused}
 use borrow.Author.Needs.{needs}
 use Rattle.explanation.proofs.write_shown.Statement.{statement}

@@ -1,5 +1,5 @@
 -- `leaf_cases::print_hosts` meets its contract. From the laws of Items.
-use Rattle.table.proofs.Laws.Items.{next-less}
+use Rattle.answer_table.proofs.Laws.Items.{next-less}
 use borrow.Author.Needs.{needs}
 use Prim.Native.Nat.{_-_}
 use lib.ListN.{length}

@@ -17,9 +17,9 @@ use Rattle.domain.specs.Normal.{Naming, malformed, withoutDot, lowered, nameAns
 use Rattle.domain.specs.Shortening.{shortened}
 use Rattle.domain.specs.declared.Name.{Name}
 use Rattle.domain.specs.declared.Name.the-variants.{Malformed}
-use Rattle.notation.specs.Digits.{inDecimal}
-use Rattle.notation.specs.Forms.{dotted, readable, family}
-use Rattle.notation.proofs.Laws.Lengths.{length-dotted, length-readable, length-family, length-decimal}
+use Rattle.address_text.specs.Digits.{inDecimal}
+use Rattle.address_text.specs.Forms.{dotted, readable, family}
+use Rattle.address_text.proofs.Laws.Lengths.{length-dotted, length-readable, length-family, length-decimal}
 use Rattle.macros.specs.Grammar.{Piece}
 use Rattle.macros.specs.Reader.{pieces, isMacroString}
 use Rattle.macros.specs.Expansion.{given, letters, senderDomain, localPart, receiverName, lettersOf, textOf, isSender, isHost, isShort}

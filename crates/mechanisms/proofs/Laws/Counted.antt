@@ -10,16 +10,16 @@ use Rattle.text.proofs.Laws.Spans.{front-part}
 use Rattle.address.specs.declared.Address.{Address}
 use Rattle.domain.specs.Normal.{name, malformed}
 use Rattle.records.specs.Readings.{Optional}
-use Rattle.meaning.specs.declared.Counts.{Counts}
-use Rattle.meaning.specs.declared.Ending.{Ending}
-use Rattle.meaning.specs.declared.Matched.{Matched}
-use Rattle.meaning.specs.declared.Stepped.{Stepped}
-use Rattle.meaning.specs.declared.Target.{Target}
-use Rattle.meaning.specs.Tree.{Table, Check, run}
-use Rattle.meaning.specs.Mechanisms.{Mail, no, stop, Step, targetOr, begun, counting, atTarget, targetStep, countedStep, askA, askMx, askPtr, askExists}
-use Rattle.meaning.specs.Outcomes.{matchedOf, SaysStep, SaysTarget}
-use Rattle.meaning.proofs.Laws.Runs.{bind-is}
-use Rattle.meaning.proofs.Laws.Inversions.{gives-bind, wants-bind, step-gives, step-give, step-wanted, target-name, target-malformed, target-wants}
+use Rattle.rules.specs.declared.Counts.{Counts}
+use Rattle.rules.specs.declared.Ending.{Ending}
+use Rattle.rules.specs.declared.Matched.{Matched}
+use Rattle.rules.specs.declared.Stepped.{Stepped}
+use Rattle.rules.specs.declared.Target.{Target}
+use Rattle.rules.specs.Tree.{Table, Check, run}
+use Rattle.rules.specs.Mechanisms.{Mail, no, stop, Step, targetOr, begun, counting, atTarget, targetStep, countedStep, askA, askMx, askPtr, askExists}
+use Rattle.rules.specs.Outcomes.{matchedOf, SaysStep, SaysTarget}
+use Rattle.rules.proofs.Laws.Runs.{bind-is}
+use Rattle.rules.proofs.Laws.Inversions.{gives-bind, wants-bind, step-gives, step-give, step-wanted, target-name, target-malformed, target-wants}
 use Rattle.mechanisms.specs.declared.Question.{Question}
 use Rattle.mechanisms.specs.Terms.{asker}
 

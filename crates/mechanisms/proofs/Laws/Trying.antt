@@ -13,14 +13,14 @@ use Rattle.address.specs.Matching.{matchesAt}
 use Rattle.records.specs.Readings.{absent, present, hosts}
 use Rattle.records.specs.Numbers.{optional, saidOf}
 use Rattle.records.specs.declared.Term.{Term}
-use Rattle.meaning.specs.declared.Counts.{Counts}
-use Rattle.meaning.specs.declared.Stepped.{Stepped}
-use Rattle.meaning.specs.Tree.{Table, run}
-use Rattle.meaning.specs.Mechanisms.{Mail, Step, matched, countedStep, aStep, mxStep, ptrStep, existsStep}
-use Rattle.meaning.specs.Evaluation.{Sub, having, lengthFor, networkStep, plainStep, mechanismStep, termStep}
-use Rattle.meaning.specs.Outcomes.{SaysStep}
-use Rattle.questions.specs.Steps.{matchAnswer}
-use Rattle.questions.proofs.Laws.Replies.{match-says}
+use Rattle.rules.specs.declared.Counts.{Counts}
+use Rattle.rules.specs.declared.Stepped.{Stepped}
+use Rattle.rules.specs.Tree.{Table, run}
+use Rattle.rules.specs.Mechanisms.{Mail, Step, matched, countedStep, aStep, mxStep, ptrStep, existsStep}
+use Rattle.rules.specs.Evaluation.{Sub, having, lengthFor, networkStep, plainStep, mechanismStep, termStep}
+use Rattle.rules.specs.Outcomes.{SaysStep}
+use Rattle.mechanism_lookups.specs.Steps.{matchAnswer}
+use Rattle.mechanism_lookups.proofs.Laws.Replies.{match-says}
 use Rattle.mechanisms.specs.declared.Question.{Question}
 use Rattle.mechanisms.specs.declared.Tried.{Tried}
 use Rattle.mechanisms.specs.Terms.{asker, lengthOf, specIf, TriedIs}

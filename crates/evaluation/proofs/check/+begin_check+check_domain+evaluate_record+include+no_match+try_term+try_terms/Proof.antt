@@ -4,7 +4,7 @@ use mathlib.Core.Path.{refl, ap, _∙_}
 use borrow.Author.Needs.{needs}
 use native.Mathlib.Omega.{arith}
 use lib.ListN.{length}
-use Rattle.meaning.specs.Outcomes.{mailOf, spanOf}
+use Rattle.rules.specs.Outcomes.{mailOf, spanOf}
 use Rattle.evaluation.proofs.Laws.Beginning.{begin-eleventh, begin-malformed, begin-wants, begin-checked, target-small, span-small, domain-single, domain-ends, domain-wants, domain-one, place-small, include-done, tried-step, tried-include, nothing-left, redirected}
 use Rattle.evaluation.proofs.Laws.Leading.{walk-opened, open-passing, record-refused, record-tried, record-matched}
 use Rattle.evaluation.proofs.Laws.Walking.{Walk, walk-past, walk-ended, walk-yes, walk-stop, walk-no, walk-less, walk-small, walk-few}
@@ -40,9 +40,9 @@ use Rattle.evaluation.proofs.check.none_is_permerror.Reads as none-is-p
 use Rattle.evaluation.proofs.check.sign_result.Reads as sign-result-reads
 use Rattle.evaluation.proofs.check.signed.Reads as signed-reads
 use Rattle.evaluation.proofs.check.wanting.Reads as wanting-reads
-use Rattle.selection.proofs.modifiers.find_redirect.Reads as find-redirect-reads
-use Rattle.targets.proofs.make_target.Reads as make-target-reads
-use Rattle.selection.proofs.select_record.Reads as select-record-reads
+use Rattle.record_lookup.proofs.modifiers.find_redirect.Reads as find-redirect-reads
+use Rattle.target_name.proofs.make_target.Reads as make-target-reads
+use Rattle.record_lookup.proofs.select_record.Reads as select-record-reads
 use Rattle.mechanisms.proofs.try_plain.Reads as try-plain-reads
 use Rattle.records.proofs.opening.open_record.Reads as open-record-reads
 use Rattle.records.proofs.read_term.Reads as read-term-reads

@@ -1,0 +1,88 @@
+-- What `find` answers is what looking up in the list of entries says, for any bytes; and in a table that encodes entries it finds just the pairs
+-- that stand among them. From header-facts (Encoding) and entries-complete.
+use Prim.Native.Nat.{ℕ, zero, suc, _+_, _-_, _≤_}
+use mathlib.Core.Path.{_≡_, refl, ap, subst, _∙_}
+use mathlib.Core.List.{List, [], _∷_}
+use mathlib.Core.Bool.{Bool, true, false, cond, _&&_, _||_}
+use native.Mathlib.Omega.{arith}
+use lib.ListN.{length, take, drop, length-drop}
+use lib.Seq.{drop-drop}
+use lib.Dec.{eqb}
+use Rattle.text.specs.Lists.{same}
+use Rattle.answer_table.specs.Layout.{Entry, Entries, isPair, holds}
+use Rattle.answer_table.specs.Lookup.{Lookup, present, absent, lookup, Finds, found, missing}
+use Rattle.answer_table.specs.Reader.{headerOf, nameOf, itemBytes, itemsOf, entryOf, entriesFrom, entriesAfter, entriesOf, findAfter, findFrom, findAt, isFound}
+use Rattle.answer_table.specs.declared.entries.Header.{Header}
+use Rattle.answer_table.specs.declared.entries.Header.the-variants.{Whole, Broken}
+use Rattle.answer_table.specs.declared.Found.{Found}
+use Rattle.answer_table.proofs.Laws.Encoding.{header-facts}
+use Rattle.answer_table.proofs.Laws.Entries.{entries-complete}
+
+-- a part of what stands from a place on, as a part of the whole
+part-in : (t : List ℕ) (i m size : ℕ) → take (i + size - (i + m)) (drop (i + m) t) ≡ take (size - m) (drop m (drop i t))
+part-in t i m size = let e : i + size - (i + m) ≡ size - m = omega arith in rw (e, drop-drop)
+
+-- the search from a place and the list of entries from there go in step
+module _ (t : List ℕ) (kind : ℕ) (name : List ℕ) where
+  finds-from : (f i : ℕ) → i ≤ length t → Finds t (lookup kind name (entriesFrom f (drop i t))) (findFrom f t kind name i)
+  unfolding entriesFrom entriesAfter findFrom findAfter lookup isPair entryOf itemBytes
+  finds-from zero i h = missing
+  finds-from (suc f) i h = go (λ j. finds-from f j) (headerOf (drop i t)) refl
+    where
+      by : (k status n size : ℕ) → (6 + n ≤ size) × (size ≤ length (drop i t))
+          → Finds t (lookup kind name (entriesFrom f (drop size (drop i t)))) (findFrom f t kind name (i + size)) → (b : Bool)
+          → Finds t (cond b (present (entryOf (drop i t) k status n size)) (lookup kind name (entriesFrom f (drop size (drop i t)))))
+          (cond b (Found.Entry status (i + (6 + n)) (i + size)) (findFrom f t kind name (i + size)))
+      by k status n size l r true =
+          found {start = i + (6 + n)} {end = i + size} (omega (arith, l .0)) (omega (arith, l .1, length-drop i t)) (ap itemsOf (part-in t i (6 + n) size))
+      by k status n size l r false = r
+
+      go : ((j : ℕ) → j ≤ length t → Finds t (lookup kind name (entriesFrom f (drop j t))) (findFrom f t kind name j))
+          → (x : Header) → headerOf (drop i t) ≡ x
+          → Finds t (lookup kind name (entriesAfter (drop i t) x (entriesFrom f))) (findAfter t kind name i x (findFrom f t kind name))
+      go ih Broken e = missing
+      go ih (Whole k status n size) e =
+          let l = header-facts (drop i t) k status n size e in
+          by k status n size l (rw drop-drop (ih (i + size) (omega (arith, l .1, length-drop i t)))) (eqb k kind && same (nameOf (drop i t) n) name)
+
+  pub finds : Finds t (lookup kind name (entriesOf t)) (findAt t kind name)
+  unfolding entriesOf findAt
+  finds = finds-from (length t) 0 (omega arith)
+
+-- whether there is an entry
+abbrev isPresent : Lookup → Bool
+isPresent (present e) = true
+isPresent absent = false
+
+finds-present : {t : List ℕ} {l : Lookup} {r : Found} → Finds t l r → isFound r ≡ isPresent l
+unfolding isFound
+finds-present (found a z e) = refl
+finds-present missing = refl
+
+holds-lookup : (kind : ℕ) (name : List ℕ) (es : List Entry) → isPresent (lookup kind name es) ≡ holds kind name es
+unfolding lookup holds
+holds-lookup kind name [] = refl
+holds-lookup kind name (e ∷ es) = by (isPair kind name e) (holds-lookup kind name es)
+  where
+    by : (b : Bool) → isPresent (lookup kind name es) ≡ holds kind name es
+        → isPresent (cond b (present e) (lookup kind name es)) ≡ (b || holds kind name es)
+    by true ih = refl
+    by false ih = ih
+
+-- in a table that encodes entries just the pairs among them are found
+pub found-iff : {t : List ℕ} {es : List Entry} → Entries t es → (kind : ℕ) (name : List ℕ) → isFound (findAt t kind name) ≡ holds kind name es
+found-iff {t} {es} p kind name =
+    finds-present (finds t kind name) ∙ holds-lookup kind name (entriesOf t) ∙ ap (holds kind name) (entries-complete p)
+
+-- what is found lies within the table
+abbrev Within : List ℕ → Found → Type 0
+Within t (Found.Entry status start end) = (start ≤ end) × (end ≤ length t)
+Within t Found.Missing = Unit {0}
+
+finds-within : {t : List ℕ} {l : Lookup} {r : Found} → Finds t l r → Within t r
+finds-within (found a z e) = (a, z)
+finds-within missing = tt
+
+pub found-within : (t : List ℕ) (kind : ℕ) (name : List ℕ) (status start end : ℕ) → findAt t kind name ≡ Found.Entry status start end
+    → (start ≤ end) × (end ≤ length t)
+found-within t kind name status start end e = subst (Within t) e (finds-within (finds t kind name))

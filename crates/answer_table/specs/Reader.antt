@@ -1,0 +1,142 @@
+-- The table as the code reads it: total on any bytes. The laws say that on an accepted table this is what the productions say.
+use Prim.Native.Nat.{ℕ, zero, suc, _+_, _-_, _*_, min}
+use mathlib.Core.List.{List, [], _∷_}
+use mathlib.Core.Bool.{Bool, true, false, cond, _&&_}
+use lib.ListN.{length, take, drop}
+use lib.Dec.{leb, ltb, eqb}
+use Rattle.text.specs.Bytes.{at}
+use Rattle.text.specs.Lists.{same}
+use Rattle.domain.specs.Names.{isTableName}
+use Rattle.answer_table.specs.Layout.{Entry, isKind, status-answered, isStatus, isItem, header-size}
+use Rattle.answer_table.specs.Answers.{most-bytes, most-entries}
+use Rattle.answer_table.specs.declared.entries.Header.{Header}
+use Rattle.answer_table.specs.declared.entries.Header.the-variants.{Whole, Broken}
+use Rattle.answer_table.specs.declared.Found.{Found}
+use Rattle.answer_table.specs.declared.Step.{Step}
+use Rattle.answer_table.specs.declared.TableAnswer.{TableAnswer}
+use Rattle.answer_table.specs.declared.TableAnswer.the-variants.{Accepted, TooLong, Malformed, Repeated}
+
+-- the 2-byte number at the front
+unfoldable pub number : List ℕ → ℕ
+number s = at s 0 + 256 * at s 1
+
+-- the first item, and what follows it
+unfoldable pub firstItem : List ℕ → List ℕ
+firstItem s = take (number s) (drop 2 s)
+
+unfoldable pub otherItems : List ℕ → List ℕ
+otherItems s = drop (2 + number s) s
+
+-- at most n items; each takes two bytes or more
+unfoldable pub itemsFrom : ℕ → List ℕ → List (List ℕ)
+itemsFrom zero s = []
+itemsFrom (suc n) s = cond (eqb (length s) 0) [] (firstItem s ∷ itemsFrom n (otherItems s))
+
+-- all items
+unfoldable pub itemsOf : List ℕ → List (List ℕ)
+itemsOf s = itemsFrom (length s) s
+
+-- the place just after the item that begins at a place
+unfoldable pub nextItem : List ℕ → ℕ → ℕ
+nextItem s i = min (i + (2 + number (drop i s))) (length s)
+
+-- whether items of a kind stand end to end
+unfoldable pub itemsFitFrom : ℕ → ℕ → List ℕ → Bool
+itemsFitFrom zero kind s = true
+itemsFitFrom (suc n) kind s =
+    cond (eqb (length s) 0) true
+    (cond (ltb (length s) (2 + number s)) false
+    (cond (isItem kind (firstItem s)) (itemsFitFrom n kind (otherItems s)) false))
+
+unfoldable pub itemsFit : ℕ → List ℕ → Bool
+itemsFit kind s = itemsFitFrom (length s) kind s
+
+-- the entry at the front: its header is there, its name ends within it and it within the list; not yet whether it is well-formed
+unfoldable pub headerOf : List ℕ → Header
+headerOf s =
+    cond (ltb (length s) header-size) Broken
+    (cond (ltb (length s) (2 + number s)) Broken
+    (cond (ltb (2 + number s) (header-size + at s 5)) Broken
+    (Whole (number (drop 2 s)) (at s 4) (at s 5) (2 + number s))))
+
+-- its name and its items' bytes, by the name's length and the entry's size
+unfoldable pub nameOf : List ℕ → ℕ → List ℕ
+nameOf s n = take n (drop header-size s)
+
+unfoldable pub itemBytes : List ℕ → ℕ → ℕ → List ℕ
+itemBytes s n size = take (size - (header-size + n)) (drop (header-size + n) s)
+
+-- whether the entry at the front, with this header, is well-formed
+unfoldable pub isWell : List ℕ → Header → Bool
+isWell s Broken = false
+isWell s (Whole kind status n size) =
+    isKind kind
+    && (isStatus status
+    && (isTableName (nameOf s n)
+    && (cond (eqb status status-answered) (itemsFit kind (itemBytes s n size)) (eqb size (header-size + n)))))
+
+-- what it holds
+unfoldable pub entryOf : List ℕ → ℕ → ℕ → ℕ → ℕ → Entry
+entryOf s kind status n size = record { kind = kind; status = status; name = nameOf s n; items = itemsOf (itemBytes s n size) }
+
+-- the entries up to the first broken header, at most f of them
+unfoldable pub entriesAfter : List ℕ → Header → (List ℕ → List Entry) → List Entry
+entriesAfter s Broken rest = []
+entriesAfter s (Whole kind status n size) rest = entryOf s kind status n size ∷ rest (drop size s)
+
+unfoldable pub entriesFrom : ℕ → List ℕ → List Entry
+entriesFrom zero s = []
+entriesFrom (suc f) s = entriesAfter s (headerOf s) (entriesFrom f)
+
+unfoldable pub entriesOf : List ℕ → List Entry
+entriesOf s = entriesFrom (length s) s
+
+-- where `find` finds the entry of a kind and a name, from a place on
+unfoldable pub findAfter : List ℕ → ℕ → List ℕ → ℕ → Header → (ℕ → Found) → Found
+findAfter t kind name i Broken rest = Found.Missing
+findAfter t kind name i (Whole k status n size) rest =
+    cond (eqb k kind && same (nameOf (drop i t) n) name) (Found.Entry status (i + (header-size + n)) (i + size)) (rest (i + size))
+
+unfoldable pub findFrom : ℕ → List ℕ → ℕ → List ℕ → ℕ → Found
+findFrom zero t kind name i = Found.Missing
+findFrom (suc f) t kind name i = findAfter t kind name i (headerOf (drop i t)) (findFrom f t kind name)
+
+unfoldable pub findAt : List ℕ → ℕ → List ℕ → Found
+findAt t kind name = findFrom (length t) t kind name 0
+
+-- whether it has found
+unfoldable pub isFound : Found → Bool
+isFound (Found.Entry status start end) = true
+isFound Found.Missing = false
+
+-- the items' bytes of what was found
+unfoldable pub foundItems : List ℕ → Found → List ℕ
+foundItems t (Found.Entry status start end) = cond (leb start end && leb end (length t)) (take (end - start) (drop start t)) []
+foundItems t Found.Missing = []
+
+-- the entry at a place in the check: malformed, of a pair that stands before it, or whole, with the place after it
+unfoldable pub stepAfter : List ℕ → ℕ → Header → Step
+stepAfter t i Broken = Step.Malformed
+stepAfter t i (Whole kind status n size) =
+    cond (isWell (drop i t) (Whole kind status n size))
+    (cond (isFound (findAt (take i t) kind (nameOf (drop i t) n))) Step.Repeated (Step.Next (i + size)))
+    Step.Malformed
+
+unfoldable pub stepAt : List ℕ → ℕ → Step
+stepAt t i = stepAfter t i (headerOf (drop i t))
+
+-- the check from a place on, after that many entries
+unfoldable pub checkAfter : ℕ → ℕ → Step → (ℕ → ℕ → TableAnswer) → TableAnswer
+checkAfter i count (Step.Next next) rest = rest next (count + 1)
+checkAfter i count Step.Malformed rest = Malformed i
+checkAfter i count Step.Repeated rest = Repeated i
+
+unfoldable pub checkFrom : ℕ → List ℕ → ℕ → ℕ → TableAnswer
+checkFrom zero t i count = Accepted count
+checkFrom (suc f) t i count =
+    cond (ltb i (length t))
+    (cond (eqb count most-entries) (Malformed i) (checkAfter i count (stepAt t i) (checkFrom f t)))
+    (Accepted count)
+
+unfoldable pub checkTable : List ℕ → TableAnswer
+checkTable t = cond (ltb most-bytes (length t)) TooLong (checkFrom (suc (length t)) t 0 0)

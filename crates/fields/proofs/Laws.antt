@@ -1,2 +1,0 @@
--- Walking: the loops over a text's fields.
-pub mod Walking

@@ -1,2 +1,0 @@
--- Fields: the parts of a text between separators.
-pub mod Fields

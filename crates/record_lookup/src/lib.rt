@@ -1,0 +1,111 @@
+// Record lookup: the one record of a domain, by its place in the table.
+ghost use mathlib.Core.Path.{_≡_};
+ghost use Rattle.text.specs.Bytes.{part};
+ghost use Rattle.answer_table.specs.Reader.{itemsOf};
+ghost use Rattle.rules.specs.Tree.{run};
+ghost use Rattle.rules.specs.Tables.{tableIn};
+ghost use Rattle.rules.specs.Evaluation.{recordLookup, versioned};
+ghost use Rattle.rules.specs.Outcomes.{SaysSelection};
+ghost use Rattle.record_lookup.specs.Picking.{hasTexts, textsAt, oneMore, joined, PickedIs};
+use answer_table::Found;
+use answer_table::items;
+use rules::Counts;
+use rules::Selected;
+use rules::Span;
+use text::bytes;
+
+pub mod modifiers;
+
+// Which of some texts are records: none; several; or one, by its place in the table.
+pub enum Picked {
+    Nothing,
+    Several,
+    One { from: usize, to: usize },
+}
+
+// Whether an entry was found that isn't failed and has items.
+fn has_texts(found: Found) -> bool
+    ensures { λ r. ⌜ r ≡ hasTexts found ⌝ }
+{
+    let Found::Entry { status, start, end } = found else {
+        return false;
+    };
+    if status == 2 {
+        return false;
+    }
+    start < end
+}
+
+// The entry that a domain's record is among: of SPF where it is answered with items, otherwise of TXT.
+fn find_texts(table: &[u8], domain: &[u8]) -> Found
+    ensures { λ r. ⌜ r ≡ textsAt (now (table .entry)) (now (domain .entry)) ⌝ }
+{
+    let found = answer_table::find(table, 99, domain);
+    if has_texts(found) {
+        return found;
+    }
+    answer_table::find(table, 16, domain)
+}
+
+// The records so far and one more.
+fn one_more(earlier: Picked, from: usize, to: usize) -> Picked
+    ensures { λ r. ⌜ r ≡ oneMore earlier from to ⌝ }
+{
+    match earlier {
+        Picked::Nothing => Picked::One { from, to },
+        Picked::Several => Picked::Several,
+        Picked::One { from: _, to: _ } => Picked::Several,
+    }
+}
+
+// The records so far and a further text, which is one if it has a version section.
+fn join_text(table: &[u8], earlier: Picked, from: usize, to: usize) -> Picked
+    ensures { λ r. ⌜ r ≡ joined (now (table .entry)) earlier from to ⌝ }
+{
+    if records::has_version(bytes::part(table, from, to)) {
+        return one_more(earlier, from, to);
+    }
+    earlier
+}
+
+// Which of the items from a place of the table up to another are records.
+fn pick(table: &[u8], start: usize, end: usize) -> Picked
+    ensures { λ r. ⌜ PickedIs (now (table .entry)) (versioned (itemsOf (part (now (table .entry)) start end))) r ⌝ }
+{
+    let texts = bytes::part(table, start, end);
+    let mut at = 0;
+    let mut seen = Picked::Nothing;
+    while at < texts.len() {
+        let next = items::next_item(texts, at);
+        seen = join_text(table, seen, start + at + 2, start + next);
+        at = next;
+    }
+    seen
+}
+
+// The record of a domain: of an answered SPF entry with items, otherwise of the TXT question.
+pub fn select_record(table: &[u8], domain: &[u8], counts: Counts, out: &mut [u8]) -> Selected
+    ensures { λ r. ⌜ SaysSelection counts (now (domain .entry)) (now (table .entry)) (run (tableIn (now (table .entry))) (recordLookup (now (domain .entry)) counts)) r (now (out .entry)) (now (out .exit)) ⌝ }
+{
+    let Found::Entry { status, start, end } = find_texts(table, domain) else {
+        client_match::want(domain, out);
+        return Selected::Wanting {
+            kind: 16,
+            length: domain.len(),
+        };
+    };
+    if status == 2 {
+        return Selected::Ends(5);
+    }
+    match pick(table, start, end) {
+        Picked::Nothing => Selected::Ends(0),
+        Picked::Several => Selected::Ends(6),
+        Picked::One { from, to } => Selected::One {
+            domain: Span {
+                from: start - domain.len(),
+                to: start,
+            },
+            text: Span { from, to },
+        },
+    }
+}

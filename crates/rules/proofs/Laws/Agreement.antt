@@ -1,0 +1,42 @@
+-- What a check consults of a table decides it: a table with the same answers there settles the same.
+-- By induction on the tree, for every check.
+use Prim.Native.Nat.{ℕ}
+use mathlib.Core.Path.{_≡_, refl}
+use mathlib.Core.List.{List, [], _∷_}
+use Rattle.records.specs.Readings.{Optional, absent, present}
+use Rattle.rules.specs.Tree.{Reply, Table, Check, give, ask, peek, Settled, wanting, answered, run}
+
+pub record Question : Type 0 where
+  pub kind : ℕ
+  pub name : List ℕ
+
+unfoldable pub onward : Optional Reply → (Reply → List Question) → List Question
+onward absent f = []
+onward (present r) f = f r
+
+-- the questions met on the way, in order: those answered, the SPF entries looked at, and last the one that is missing
+unfoldable pub trail : {A : Type 0} → Table → Check A → List Question
+trail t (give a) = []
+trail t (ask k d c g) = record { kind = k; name = d } ∷ onward (t k d) (λ r. trail t (g r))
+trail t (peek d g) = record { kind = 99; name = d } ∷ trail t (g (t 99 d))
+
+pub data All (P : Question → Type 0) : List Question → Type 0 where
+  done : All P []
+  both : {q : Question} {qs : List Question} → P q → All P qs → All P (q ∷ qs)
+
+-- two tables have the same for a question
+abbrev pub SameAt : Table → Table → Question → Type 0
+SameAt t u q = u (q .kind) (q .name) ≡ t (q .kind) (q .name)
+
+answered-agrees : {A : Type 0} (t u : Table) (w : Settled A) (f g : Reply → Settled A) (h : Reply → List Question)
+    → ((r : Reply) → All (SameAt t u) (h r) → g r ≡ f r) → (x : Optional Reply) → All (SameAt t u) (onward x h) → answered x w g ≡ answered x w f
+unfolding answered onward
+answered-agrees t u w f g h e absent a = refl
+answered-agrees t u w f g h e (present r) a = e r a
+
+pub agrees : {A : Type 0} (t u : Table) (m : Check A) → All (SameAt t u) (trail t m) → run u m ≡ run t m
+unfolding run trail
+agrees t u (give a) x = refl
+agrees t u (ask k d c g) (both p x) =
+    rw p (answered-agrees t u (wanting k d c) (λ r. run t (g r)) (λ r. run u (g r)) (λ r. trail t (g r)) (λ r y. agrees t u (g r) y) (t k d) x)
+agrees t u (peek d g) (both p x) = rw p (agrees t u (g (t 99 d)) x)

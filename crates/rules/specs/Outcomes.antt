@@ -1,0 +1,147 @@
+-- What the code's answers say of what a table settles: one definition for each kind of answer, and one for the name buffer. For private functions and
+-- between crates: places are left open up to the bytes that stand there, and of a scratch buffer only the front is said. `evaluate` leaves nothing open.
+use Prim.Native.Nat.{ℕ, _≤_}
+use mathlib.Core.Path.{_≡_}
+use mathlib.Core.List.{List}
+use lib.ListN.{length, take}
+use Rattle.text.specs.Bytes.{part}
+use Rattle.text.specs.Texts.{bytes}
+use Rattle.text.specs.Writing.{overwritten}
+use Rattle.address.specs.declared.Address.{Address}
+use Rattle.domain.specs.Normal.{Naming, name, malformed}
+use Rattle.records.specs.Readings.{Optional, absent}
+use Rattle.rules.specs.declared.Counts.{Counts}
+use Rattle.rules.specs.declared.Ending.{Ending}
+use Rattle.rules.specs.declared.Matched.{Matched}
+use Rattle.rules.specs.declared.Stepped.{Stepped}
+use Rattle.rules.specs.declared.Target.{Target}
+use Rattle.rules.specs.declared.PValue.{PValue}
+use Rattle.rules.specs.declared.Span.{Span}
+use Rattle.rules.specs.declared.Selected.{Selected}
+use Rattle.rules.specs.declared.FailingPlace.{FailingPlace}
+use Rattle.rules.specs.declared.Checked.{Checked}
+use Rattle.rules.specs.declared.Explained.{Explained}
+use Rattle.rules.specs.Tree.{Settled, settled, wanting}
+use Rattle.rules.specs.Mechanisms.{Mail, Match, yes, no, stop, Step}
+use Rattle.rules.specs.Evaluation.{Failing, failingAt, Result, Selection, ends, one, modifierOf, termsOf}
+
+-- what a table settles a check to, and the question that it lacks for it, with the counts so far
+abbrev pub Settles : {A : Type 0} → Settled A → A → Type 0
+Settles x a = x ≡ settled a
+
+abbrev pub Lacks : {A : Type 0} → Settled A → ℕ → List ℕ → Counts → Type 0
+Lacks x kind n c = x ≡ wanting kind n c
+
+-- what the calls are lent, as the definitions have it
+abbrev pub mailOf : Address → (sender helo receiver : List ℕ) → ℕ → Mail
+mailOf client sender helo receiver seconds = record { client = client; sender = sender; helo = helo; receiver = receiver; seconds = seconds }
+
+-- the name buffer afterwards: the name of a wanted question at its front and all bytes after it kept; otherwise as it was
+unfoldable pub wantedBuffer : {A : Type 0} → Settled A → List ℕ → List ℕ
+wantedBuffer (settled a) before = before
+wantedBuffer (wanting kind n c) before = overwritten n before
+
+-- a term
+unfoldable pub matchedOf : Match → Matched
+matchedOf yes = Matched.Yes
+matchedOf no = Matched.No
+matchedOf (stop v) = Matched.Stop (Ending.Result v)
+
+abbrev pub stepOf : Step → Stepped
+stepOf s = record { matched = matchedOf (s .match); counts = s .counts }
+
+unfoldable pub steppedOf : Settled Step → Stepped
+steppedOf (settled s) = stepOf s
+steppedOf (wanting kind n c) = record { matched = Matched.Stop (Ending.Wanting kind (length n)); counts = c }
+
+pub record SaysStep (x : Settled Step) (r : Stepped) (before after : List ℕ) : Type 0 where
+  pub outcome : r ≡ steppedOf x
+  pub buffer : after ≡ wantedBuffer x before
+
+-- a domain-spec's name, written at the front of a buffer
+unfoldable pub NamingIs : Naming → Target → List ℕ → Type 0
+NamingIs (name s) r to = (r ≡ Target.Name (length s)) × (take (length s) to ≡ s) × (length s ≤ 253)
+NamingIs malformed r to = r ≡ Target.Malformed
+
+-- or a question of p, which has the counts that were handed in
+unfoldable pub TargetIs : Counts → Settled Naming → Target → List ℕ → Type 0
+TargetIs c (settled n) r to = NamingIs n r to
+TargetIs c (wanting kind n e) r to = (r ≡ Target.Wanting kind (length n)) × (e ≡ c)
+
+pub record SaysTarget (c : Counts) (x : Settled Naming) (r : Target) (to before after : List ℕ) : Type 0 where
+  pub target : TargetIs c x r to
+  pub buffer : after ≡ wantedBuffer x before
+
+-- the value of p, with the current domain d and the table's bytes t
+unfoldable pub ValueIs : (d t : List ℕ) → List ℕ → PValue → Type 0
+ValueIs d t s PValue.Current = s ≡ d
+ValueIs d t s (PValue.Listed from to) = s ≡ part t from to
+ValueIs d t s PValue.Unknown = s ≡ bytes "unknown"
+ValueIs d t s (PValue.Wanting kind n) = ⊥
+
+unfoldable pub PIs : Counts → (d t : List ℕ) → Settled (List ℕ) → PValue → Type 0
+PIs c d t (settled s) r = ValueIs d t s r
+PIs c d t (wanting kind n e) r = (r ≡ PValue.Wanting kind (length n)) × (e ≡ c)
+
+pub record SaysP (c : Counts) (d t : List ℕ) (x : Settled (List ℕ)) (r : PValue) (before after : List ℕ) : Type 0 where
+  pub value : PIs c d t x r
+  pub buffer : after ≡ wantedBuffer x before
+
+-- record lookup, for the domain d in the table's bytes t
+abbrev pub spanOf : List ℕ → Span → List ℕ
+spanOf t s = part t (s .from) (s .to)
+
+unfoldable pub SelectionIs : (d t : List ℕ) → Selection → Selected → Type 0
+SelectionIs d t (ends v) r = r ≡ Selected.Ends v
+SelectionIs d t (one s) r = (domain text : Span) × (r ≡ Selected.One domain text) × (spanOf t domain ≡ d) × (spanOf t text ≡ s)
+
+unfoldable pub SelectedIs : Counts → (d t : List ℕ) → Settled Selection → Selected → Type 0
+SelectedIs c d t (settled s) r = SelectionIs d t s r
+SelectedIs c d t (wanting kind n e) r = (r ≡ Selected.Wanting kind (length n)) × (e ≡ c)
+
+pub record SaysSelection (c : Counts) (d t : List ℕ) (x : Settled Selection) (r : Selected) (before after : List ℕ) : Type 0 where
+  pub lookup : SelectedIs c d t x r
+  pub buffer : after ≡ wantedBuffer x before
+
+-- where a fail's explanation is
+unfoldable pub failingOf : List ℕ → FailingPlace → Optional Failing
+failingOf t FailingPlace.Nowhere = absent
+failingOf t (FailingPlace.In domain text terms) = failingAt (spanOf t domain) (modifierOf (bytes "exp") (termsOf (spanOf t text) terms))
+
+-- a check
+abbrev pub ResultIs : List ℕ → Result → Checked → Type 0
+ResultIs t r o = (o .ending ≡ Ending.Result (r .value)) × (o .counts ≡ r .counts) × (failingOf t (o .failing) ≡ r .failing)
+
+unfoldable pub CheckedIs : List ℕ → Settled Result → Checked → Type 0
+CheckedIs t (settled r) o = ResultIs t r o
+CheckedIs t (wanting kind n c) o = (o .ending ≡ Ending.Wanting kind (length n)) × (o .counts ≡ c)
+
+pub record SaysCheck (t : List ℕ) (x : Settled Result) (o : Checked) (before after : List ℕ) : Type 0 where
+  pub checked : CheckedIs t x o
+  pub buffer : after ≡ wantedBuffer x before
+
+-- an explanation, written at the front of the text buffer; a question of it has the counts that were handed in
+unfoldable pub ExplainedIs : Counts → Settled (List ℕ) → Explained → Type 0
+ExplainedIs c (settled s) r = r ≡ Explained.Text (length s)
+ExplainedIs c (wanting kind n e) r = (r ≡ Explained.Wanting kind (length n)) × (e ≡ c)
+
+unfoldable pub textBuffer : Settled (List ℕ) → List ℕ → List ℕ
+textBuffer (settled s) before = overwritten s before
+textBuffer (wanting kind n e) before = before
+
+pub record SaysText (c : Counts) (x : Settled (List ℕ)) (r : Explained) (text text′ before after : List ℕ) : Type 0 where
+  pub explained : ExplainedIs c x r
+  pub text-buffer : text′ ≡ textBuffer x text
+  pub buffer : after ≡ wantedBuffer x before
+
+-- a question that is wanted: its kind, its name's length, and the name buffer
+pub record Wants {A : Type 0} (x : Settled A) (kind size : ℕ) (c : Counts) (before after : List ℕ) : Type 0 where
+  pub asked : List ℕ
+  pub is : Lacks x kind asked c
+  pub size-is : size ≡ length asked
+  pub buffer : after ≡ overwritten asked before
+
+-- a value that is settled, and the name buffer as it was
+pub record Gives {A : Type 0} (x : Settled A) (a : A) (before after : List ℕ) : Type 0 where
+  pub is : Settles x a
+  pub kept : after ≡ before

@@ -1,0 +1,151 @@
+-- 01's sentences on evaluation, one computed example for each: a zone, and what example.com's evaluation answers for a client. Examples.antt computes them.
+use Prim.Native.Nat.{ℕ}
+use mathlib.Core.Path.{_≡_}
+use mathlib.Core.List.{List, [], _∷_, _++_}
+use lib.ListN.{replicate}
+use Rattle.text.specs.Texts.{bytes}
+use Rattle.rules.specs.Tree.{run}
+use Rattle.rules.specs.Evaluation.{verdict}
+use Rattle.rules.specs.Zones.{Row, zone, txt, row, broken, spf, included, mail, here, elsewhere, here6, elsewhere6, answer, answer6, decided, fails, wants}
+
+-- record lookup
+pub record LookupRules : Type 0 where
+  -- "A malformed or single-label domain gives none."
+  pub malformed-domain : run (zone []) (verdict mail (bytes "example..com")) ≡ decided 0 0 0
+  pub single-label : run (zone []) (verdict mail (bytes "localhost.")) ≡ decided 0 0 0
+  -- "Failed gives temperror."
+  pub lookup-failed : answer (broken 16 "example.com" ∷ []) ≡ decided 5 0 0
+  -- "none gives none, several permerror, a single one is selected"
+  pub no-record : answer (row 16 "example.com" (bytes "v=spf2 -all" ∷ []) ∷ []) ≡ decided 0 0 0
+  pub several-records : answer (row 16 "example.com" (bytes "v=spf1 -all" ∷ bytes "v=spf1 -all" ∷ []) ∷ []) ≡ decided 6 0 0
+  pub single-record : answer (row 16 "example.com" (bytes "hello" ∷ bytes "v=spf1 -all" ∷ []) ∷ []) ≡ decided 3 0 0
+  -- "if the table holds an answered SPF entry with items, those texts; otherwise the TXT question"
+  pub spf-first : answer (spf "v=spf1 -all" ∷ row 99 "example.com" (bytes "v=spf1 +all" ∷ []) ∷ []) ≡ decided 2 0 0
+  pub spf-void : answer (spf "v=spf1 -all" ∷ row 99 "example.com" [] ∷ []) ≡ decided 3 0 0
+
+-- "the first match gives its sign's result"; "No match: ..; without it, neutral"
+pub record SignRules : Type 0 where
+  pub plus : answer (spf "v=spf1 +all -all" ∷ []) ≡ decided 2 0 0
+  pub unwritten : answer (spf "v=spf1 all -all" ∷ []) ≡ decided 2 0 0
+  pub minus : answer (spf "v=spf1 -all +all" ∷ []) ≡ decided 3 0 0
+  pub tilde : answer (spf "v=spf1 ~all -all" ∷ []) ≡ decided 4 0 0
+  pub question-mark : answer (spf "v=spf1 ?all -all" ∷ []) ≡ decided 1 0 0
+  pub no-match : answer (spf "v=spf1 ip4:192.0.2.128/32" ∷ []) ≡ decided 1 0 0
+
+-- "Pass matches; fail, softfail, neutral don't; temperror stays; permerror and none give permerror."
+pub record IncludeRules : Type 0 where
+  pub pass : answer (spf "v=spf1 -include:b.example ?all" ∷ included "v=spf1 +all" ∷ []) ≡ decided 3 1 0
+  pub softfail : answer (spf "v=spf1 -include:b.example +all" ∷ included "v=spf1 ~all" ∷ []) ≡ decided 2 1 0
+  pub neutral : answer (spf "v=spf1 -include:b.example +all" ∷ included "v=spf1" ∷ []) ≡ decided 2 1 0
+  pub temperror : answer (spf "v=spf1 -include:b.example +all" ∷ broken 16 "b.example" ∷ []) ≡ decided 5 1 0
+  pub permerror : answer (spf "v=spf1 -include:b.example +all" ∷ included "v=spf1 moo" ∷ []) ≡ decided 6 1 0
+  pub none : answer (spf "v=spf1 -include:b.example +all" ∷ row 16 "b.example" [] ∷ []) ≡ decided 6 1 0
+
+-- a: "the address question of the client's family", at the length of that family
+pub record ARules : Type 0 where
+  pub four-matches : answer (spf "v=spf1 a/24//128 -all" ∷ row 1 "example.com" (elsewhere ∷ []) ∷ []) ≡ decided 2 1 0
+  pub four-differs : answer (spf "v=spf1 a/25//64 -all" ∷ row 1 "example.com" (elsewhere ∷ []) ∷ []) ≡ decided 3 1 0
+  pub six-matches : answer6 (spf "v=spf1 a/32//64 -all" ∷ row 28 "example.com" (elsewhere6 ∷ []) ∷ []) ≡ decided 2 1 0
+  pub six-differs : answer6 (spf "v=spf1 a/0//127 -all" ∷ row 28 "example.com" (elsewhere6 ∷ []) ∷ []) ≡ decided 3 1 0
+  pub six-asks : answer6 (spf "v=spf1 a:b.example -all" ∷ []) ≡ wants 28 "b.example" 1
+  -- "A failed question gives temperror."
+  pub failed : answer (spf "v=spf1 a +all" ∷ broken 1 "example.com" ∷ []) ≡ decided 5 1 0
+  -- exists: "always A, matched by any item"
+  pub exists-asks-a : answer6 (spf "v=spf1 exists:b.example -all" ∷ row 1 "b.example" (elsewhere ∷ []) ∷ []) ≡ decided 2 1 0
+  -- "families never match each other, and a length over the width matches nothing"
+  pub other-family : answer6 (spf "v=spf1 ip4:0.0.0.0/0 -all" ∷ []) ≡ decided 3 0 0
+
+-- an MX item of a preference below 256; without a name
+abbrev pub host : ℕ → List ℕ → List ℕ
+host preference name = preference ∷ 0 ∷ name
+
+abbrev pub nameless : List ℕ
+nameless = host 0 []
+
+-- mx: "over 10 items gives permerror; otherwise addresses are asked by preference until one matches, ties in item order; a nameless item asks nothing"
+pub record MxRules : Type 0 where
+  pub ten-items : answer (spf "v=spf1 mx -all" ∷ row 15 "example.com" (replicate 9 nameless ++ (host 9 (bytes "m.example") ∷ [])) ∷ row 1 "m.example" (here ∷ []) ∷ [])
+      ≡ decided 2 1 0
+  pub eleven-items : answer (spf "v=spf1 mx -all" ∷ row 15 "example.com" (replicate 10 nameless ++ (host 9 (bytes "m.example") ∷ [])) ∷ row 1 "m.example" (here ∷ []) ∷ [])
+      ≡ decided 6 1 0
+  pub by-preference : answer (spf "v=spf1 mx -all" ∷ row 15 "example.com" (host 20 (bytes "m.example") ∷ host 10 (bytes "n.example") ∷ []) ∷ row 1 "m.example" (here ∷ []) ∷ [])
+      ≡ wants 1 "n.example" 1
+  pub ties-in-order : answer (spf "v=spf1 mx -all" ∷ row 15 "example.com" (host 10 (bytes "n.example") ∷ host 10 (bytes "m.example") ∷ []) ∷ row 1 "m.example" (here ∷ []) ∷ [])
+      ≡ wants 1 "n.example" 1
+  pub until-one-matches : answer (spf "v=spf1 mx -all" ∷ row 15 "example.com" (host 10 (bytes "m.example") ∷ host 10 (bytes "n.example") ∷ []) ∷ row 1 "m.example" (here ∷ []) ∷ [])
+      ≡ decided 2 1 0
+  pub nameless-item : answer (spf "v=spf1 mx -all" ∷ row 15 "example.com" (nameless ∷ []) ∷ []) ≡ decided 3 1 0
+  -- "A failed question gives temperror."
+  pub failed-host : answer (spf "v=spf1 mx -all" ∷ row 15 "example.com" (host 10 (bytes "n.example") ∷ host 20 (bytes "m.example") ∷ [])
+      ∷ broken 1 "n.example" ∷ row 1 "m.example" (here ∷ []) ∷ []) ≡ decided 5 1 0
+  pub at-its-length : answer (spf "v=spf1 mx/24 -all" ∷ row 15 "example.com" (host 10 (bytes "m.example") ∷ []) ∷ row 1 "m.example" (elsewhere ∷ []) ∷ [])
+      ≡ decided 2 1 0
+
+-- the PTR entries of the two clients
+abbrev pub pointers : List (List ℕ) → Row
+pointers ns = row 12 "129.2.0.192.in-addr.arpa" ns
+
+abbrev pub pointers6 : List (List ℕ) → Row
+pointers6 ns = row 12 "1.0.0.0.0.0.0.0.0.0.0.0.0.0.0.0.0.0.0.0.0.0.0.0.8.b.d.0.1.0.0.2.ip6.arpa" ns
+
+-- ptr: "the first 10 names, asked in order until one matches; one is validated if its addresses include the client, and a validated name matches if it is
+-- the target or below it"
+pub record PtrRules : Type 0 where
+  pub target-itself : answer (spf "v=spf1 ptr -all" ∷ pointers (bytes "example.com" ∷ []) ∷ row 1 "example.com" (elsewhere ∷ here ∷ []) ∷ []) ≡ decided 2 1 0
+  pub below-target : answer (spf "v=spf1 ptr -all" ∷ pointers (bytes "m.example.com" ∷ []) ∷ row 1 "m.example.com" (here ∷ []) ∷ []) ≡ decided 2 1 0
+  pub by-whole-labels : answer (spf "v=spf1 ptr -all" ∷ pointers (bytes "anexample.com" ∷ []) ∷ row 1 "anexample.com" (here ∷ []) ∷ []) ≡ decided 3 1 0
+  pub not-validated : answer (spf "v=spf1 ptr -all" ∷ pointers (bytes "example.com" ∷ []) ∷ row 1 "example.com" (elsewhere ∷ []) ∷ []) ≡ decided 3 1 0
+  pub ten-names : answer (spf "v=spf1 ptr -all" ∷ pointers (replicate 9 (bytes "n.example") ++ (bytes "example.com" ∷ []))
+      ∷ row 1 "n.example" [] ∷ row 1 "example.com" (here ∷ []) ∷ []) ≡ decided 2 1 0
+  pub eleventh-name : answer (spf "v=spf1 ptr -all" ∷ pointers (replicate 10 (bytes "n.example") ++ (bytes "example.com" ∷ []))
+      ∷ row 1 "n.example" [] ∷ row 1 "example.com" (here ∷ []) ∷ []) ≡ decided 3 1 0
+  -- "A failed PTR question yields no names; a failed address question skips its name."
+  pub failed-question : answer (spf "v=spf1 ptr -all" ∷ broken 12 "129.2.0.192.in-addr.arpa" ∷ []) ≡ decided 3 1 0
+  pub failed-name : answer (spf "v=spf1 ptr -all" ∷ pointers (bytes "n.example" ∷ bytes "example.com" ∷ []) ∷ broken 1 "n.example" ∷ row 1 "example.com" (here ∷ []) ∷ [])
+      ≡ decided 2 1 0
+  -- "A void answer is status 3, or 0 without items"
+  pub void-question : answer (spf "v=spf1 ptr -all" ∷ pointers [] ∷ []) ≡ decided 3 1 1
+  -- the whole IPv6 address decides, not its upper 64 bits
+  pub six-validated : answer6 (spf "v=spf1 ptr -all" ∷ pointers6 (bytes "example.com" ∷ []) ∷ row 28 "example.com" (here6 ∷ []) ∷ []) ≡ decided 2 1 0
+  pub six-not-validated : answer6 (spf "v=spf1 ptr -all" ∷ pointers6 (bytes "example.com" ∷ []) ∷ row 28 "example.com" (elsewhere6 ∷ []) ∷ []) ≡ decided 3 1 0
+
+-- p: "among those validated .., the current domain if there, else the first below it, else the first, else `unknown`"
+pub record PRules : Type 0 where
+  pub current-domain : answer (spf "v=spf1 exists:%{p}.t -all" ∷ pointers (bytes "o.example" ∷ bytes "m.example.com" ∷ bytes "example.com" ∷ [])
+      ∷ row 1 "o.example" (here ∷ []) ∷ row 1 "m.example.com" (here ∷ []) ∷ row 1 "example.com" (here ∷ []) ∷ []) ≡ wants 1 "example.com.t" 1
+  pub after-current-domain : answer (spf "v=spf1 exists:%{p}.t -all" ∷ pointers (bytes "example.com" ∷ bytes "m.example.com" ∷ [])
+      ∷ row 1 "m.example.com" (here ∷ []) ∷ row 1 "example.com" (here ∷ []) ∷ []) ≡ wants 1 "example.com.t" 1
+  pub first-below : answer (spf "v=spf1 exists:%{p}.t -all" ∷ pointers (bytes "o.example" ∷ bytes "m.example.com" ∷ bytes "n.example.com" ∷ [])
+      ∷ row 1 "o.example" (here ∷ []) ∷ row 1 "m.example.com" (here ∷ []) ∷ row 1 "n.example.com" (here ∷ []) ∷ []) ≡ wants 1 "m.example.com.t" 1
+  pub first : answer (spf "v=spf1 exists:%{p}.t -all" ∷ pointers (bytes "example.com" ∷ bytes "o.example" ∷ bytes "n.example" ∷ [])
+      ∷ row 1 "example.com" (elsewhere ∷ []) ∷ row 1 "o.example" (here ∷ []) ∷ row 1 "n.example" (here ∷ []) ∷ []) ≡ wants 1 "o.example.t" 1
+  pub unknown : answer (spf "v=spf1 exists:%{p}.t -all" ∷ broken 12 "129.2.0.192.in-addr.arpa" ∷ []) ≡ wants 1 "unknown.t" 1
+  -- "all of the first 10 names are asked in order"
+  pub all-are-asked : answer (spf "v=spf1 exists:%{p}.t -all" ∷ pointers (bytes "example.com" ∷ bytes "n.example" ∷ []) ∷ row 1 "example.com" (here ∷ []) ∷ [])
+      ≡ wants 1 "n.example" 1
+
+-- "Fail at the outermost check, or through redirects only, fetches exp of the failing record: one TXT text, expanded. A failed, void, doubled or malformed
+-- case, a byte outside 32 to 126, or over 500 bytes: empty text. It counts nothing, but a missing entry gives 7."
+pub record ExplanationRules : Type 0 where
+  pub missing : answer (spf "v=spf1 -all exp=e.example" ∷ []) ≡ wants 16 "e.example" 0
+  pub through-redirect : answer (spf "v=spf1 redirect=b.example exp=f.example" ∷ included "v=spf1 -all exp=e.example" ∷ txt (bytes "e.example") (bytes "%{d}") ∷ [])
+      ≡ fails 1 (bytes "b.example")
+  pub through-include : answer (spf "v=spf1 include:b.example -all" ∷ included "v=spf1 -all exp=e.example" ∷ []) ≡ decided 3 1 0
+  pub lookup-failed : answer (spf "v=spf1 -all exp=e.example" ∷ broken 16 "e.example" ∷ []) ≡ decided 3 0 0
+  pub void : answer (spf "v=spf1 -all exp=e.example" ∷ row 16 "e.example" [] ∷ []) ≡ decided 3 0 0
+  pub doubled : answer (spf "v=spf1 -all exp=e.example" ∷ row 16 "e.example" (bytes "no" ∷ bytes "no" ∷ []) ∷ []) ≡ decided 3 0 0
+  pub malformed-text : answer (spf "v=spf1 -all exp=e.example" ∷ txt (bytes "e.example") (bytes "no %{x}") ∷ []) ≡ decided 3 0 0
+  pub malformed-name : answer (spf "v=spf1 -all exp=%{l}..%{d}" ∷ []) ≡ decided 3 0 0
+  pub unprintable : answer (spf "v=spf1 -all exp=e.example" ∷ txt (bytes "e.example") (110 ∷ 111 ∷ 127 ∷ []) ∷ []) ≡ decided 3 0 0
+  pub of-500-bytes : answer (spf "v=spf1 -all exp=e.example" ∷ txt (bytes "e.example") (replicate 500 120) ∷ []) ≡ fails 0 (replicate 500 120)
+  pub of-501-bytes : answer (spf "v=spf1 -all exp=e.example" ∷ txt (bytes "e.example") (replicate 501 120) ∷ []) ≡ decided 3 0 0
+
+pub record Rules : Type 0 where
+  pub lookup : LookupRules
+  pub signs : SignRules
+  pub include : IncludeRules
+  pub a : ARules
+  pub mx : MxRules
+  pub ptr : PtrRules
+  pub p : PRules
+  pub explanation : ExplanationRules

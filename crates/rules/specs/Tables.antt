@@ -1,0 +1,22 @@
+-- An answer table as what it has for each question.
+use Prim.Native.Nat.{ℕ}
+use mathlib.Core.List.{List}
+use mathlib.Core.Bool.{cond}
+use lib.Dec.{eqb}
+use Rattle.answer_table.specs.Layout.{status-failed}
+use Rattle.answer_table.specs.Lookup.{Lookup, lookup}
+use Rattle.answer_table.specs.Reader.{entriesOf}
+use Rattle.records.specs.Readings.{Optional, absent, present}
+use Rattle.rules.specs.Tree.{Reply, failed, items, Table}
+
+-- "status (0 answered, 2 failed, 3 no such name)"; the last has no items
+unfoldable pub replyBy : ℕ → List (List ℕ) → Reply
+replyBy status ds = cond (eqb status status-failed) failed (items ds)
+
+unfoldable pub replyOf : Lookup → Optional Reply
+replyOf Lookup.absent = absent
+replyOf (Lookup.present e) = present (replyBy (e .status) (e .items))
+
+-- the table that bytes encode
+unfoldable pub tableIn : List ℕ → Table
+tableIn t kind name = replyOf (lookup kind name (entriesOf t))

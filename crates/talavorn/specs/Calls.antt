@@ -1,0 +1,108 @@
+-- What each call comes to: the numbers that it hands back, the lent arrays and the lent buffers afterwards.
+use Prim.Native.Nat.{ℕ, _+_, _-_}
+use mathlib.Core.Path.{_≡_}
+use mathlib.Core.Logic.{_↔_}
+use mathlib.Core.List.{List}
+use lib.ListN.{length}
+use Rattle.text.specs.Bytes.{part}
+use Rattle.text.specs.Writing.{overwritten}
+use Rattle.address.specs.declared.Address.{Address}
+use Rattle.address.specs.declared.FromOctets.{FromOctets}
+use Rattle.address.specs.declared.FromOctets.the-variants.{Is, NoAddress}
+use Rattle.address.specs.Matching.{Matches}
+use Rattle.networks.specs.Reader6.{readAddress}
+use Rattle.networks.specs.Answers.{NetworkAnswer, AddressText}
+use Rattle.answer_table.specs.Numbers.{reported as table-reported}
+use Rattle.answer_table.specs.Reader.{checkTable}
+use Rattle.answer_table.specs.Answers.{TableAnswers}
+use Rattle.macros.specs.declared.Form.{Form}
+use Rattle.macros.specs.Expansion.{Given}
+use Rattle.macros.specs.Numbers.{Outcome as Expansion, refused as expansion-refused, answerOf as expandedOf, bufferOf}
+use Rattle.macros.specs.Answers.{Expands}
+use Rattle.records.specs.Readings.{argumentBytes}
+use Rattle.records.specs.Numbers.{recordReport, saidOf, termReport}
+use Rattle.records.specs.Answers.{RecordAnswers, TermAnswers}
+use Rattle.records.specs.Reader.{readRecord, readTerm}
+use Rattle.records.specs.declared.TermAnswer.{TermAnswer}
+use Rattle.evaluation.specs.Numbers.{Outcome, refused, answerOf, nameAfter, textAfter}
+use Rattle.evaluation.specs.Answers.{lent, Answers}
+use Rattle.talavorn.specs.declared.numbers.FormAnswer.{FormAnswer}
+use Rattle.talavorn.specs.Numbers.{no-address, no-form, encoded, recordNumbers, tableNumbers, expandedNumbers, matchNumber, addressOctets, shapeOf, termNumbers, termOctets}
+
+-- an evaluation: octets that are no client's are refused before all else
+abbrev pub evaluateFor : FromOctets → (Address → Outcome) → Outcome
+evaluateFor NoAddress f = refused no-address
+evaluateFor (Is a) f = f a
+
+pub record EvaluateSays (o : Outcome) (numbers name name′ text text′ : List ℕ) : Type 0 where
+  pub answer : numbers ≡ encoded (answerOf o)
+  pub name-buffer : name′ ≡ nameAfter o name
+  pub text-buffer : text′ ≡ textAfter o text
+
+-- the same by the table's list of entries
+pub data EvaluateOutcome (client : FromOctets) (domain sender helo receiver : List ℕ) (seconds : ℕ) (table name text : List ℕ) : Outcome → Type 0 where
+  no-client : client ≡ NoAddress → EvaluateOutcome client domain sender helo receiver seconds table name text (refused no-address)
+  for-client : {a : Address} {o : Outcome} → client ≡ Is a → Answers (lent a domain sender helo receiver seconds table name text) o
+      → EvaluateOutcome client domain sender helo receiver seconds table name text o
+
+pub record EvaluateAnswers (client : FromOctets) (domain sender helo receiver : List ℕ) (seconds : ℕ) (table numbers name name′ text text′ : List ℕ) : Type 0 where
+  pub outcome : Outcome
+  pub answers : EvaluateOutcome client domain sender helo receiver seconds table name text outcome
+  pub says : EvaluateSays outcome numbers name name′ text text′
+
+-- reading a record
+pub record RecordSays (s numbers : List ℕ) : Type 0 where
+  pub answer : numbers ≡ recordNumbers (recordReport (readRecord s))
+  pub produced : RecordAnswers s (recordReport (readRecord s))
+
+-- the argument of a term that was read is the part of the record between the two places that are handed back
+abbrev pub ArgumentStands : List ℕ → TermAnswer → Type 0
+ArgumentStands s TermAnswer.End = Unit {0}
+ArgumentStands s (TermAnswer.Refused number place) = Unit {0}
+ArgumentStands s (TermAnswer.Is at next t) =
+    part s (at + shapeOf (next - at) t .from) (at + shapeOf (next - at) t .to) ≡ argumentBytes (saidOf (part s at next) t)
+
+-- reading one term
+pub record TermSays (s : List ℕ) (place : ℕ) (numbers octets octets′ : List ℕ) : Type 0 where
+  pub answer : numbers ≡ termNumbers (readTerm s place)
+  pub network : octets′ ≡ overwritten (termOctets (readTerm s place)) octets
+  pub argument : ArgumentStands s (readTerm s place)
+  pub produced : TermAnswers s place (termReport s (readTerm s place))
+
+-- an expansion: a form that is none and then octets that are no client's are refused before all else
+abbrev pub expandFor : FormAnswer → FromOctets → (Form → Address → Expansion) → Expansion
+expandFor FormAnswer.NoForm client f = expansion-refused no-form
+expandFor (FormAnswer.Is form) NoAddress f = expansion-refused no-address
+expandFor (FormAnswer.Is form) (Is a) f = f form a
+
+pub record ExpandSays (o : Expansion) (numbers before after : List ℕ) : Type 0 where
+  pub answer : numbers ≡ expandedNumbers (expandedOf o)
+  pub buffer : after ≡ bufferOf o before
+
+-- the same by the productions
+pub data ExpandOutcome (form : FormAnswer) (client : FromOctets) (text : List ℕ) (g : Address → Given) (room : ℕ) : Expansion → Type 0 where
+  no-kind : form ≡ FormAnswer.NoForm → ExpandOutcome form client text g room (expansion-refused no-form)
+  no-client : {f : Form} → form ≡ FormAnswer.Is f → client ≡ NoAddress → ExpandOutcome form client text g room (expansion-refused no-address)
+  for-client : {f : Form} {a : Address} {o : Expansion} → form ≡ FormAnswer.Is f → client ≡ Is a → Expands f text (g a) room o
+      → ExpandOutcome form client text g room o
+
+pub record ExpandAnswers (form : FormAnswer) (client : FromOctets) (text : List ℕ) (g : Address → Given) (numbers before after : List ℕ) : Type 0 where
+  pub outcome : Expansion
+  pub answers : ExpandOutcome form client text g (length before) outcome
+  pub says : ExpandSays outcome numbers before after
+
+-- a match: 1 exactly when two addresses match
+pub record MatchSays (client network : FromOctets) (bits r : ℕ) : Type 0 where
+  pub answer : r ≡ matchNumber client network bits
+  pub matches : (a b : Address) → client ≡ Is a → network ≡ Is b → (r ≡ 1) ↔ Matches a b bits
+
+-- a check of a table
+pub record TableSays (t numbers : List ℕ) : Type 0 where
+  pub answer : numbers ≡ tableNumbers (table-reported (checkTable t))
+  pub checked : TableAnswers t (table-reported (checkTable t))
+
+-- reading an address
+pub record AddressSays (s : List ℕ) (r : ℕ) (octets octets′ : List ℕ) : Type 0 where
+  pub answer : r ≡ length (addressOctets (readAddress s))
+  pub buffer : octets′ ≡ overwritten (addressOctets (readAddress s)) octets
+  pub produced : NetworkAnswer (AddressText s) (readAddress s)

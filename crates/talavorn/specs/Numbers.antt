@@ -1,0 +1,132 @@
+-- The numbers that a call hands back for an answer: first the one that is returned, then those of the lent array, in their order.
+use Prim.Native.Nat.{ℕ, _+_, _-_, _≤_}
+use mathlib.Core.List.{List, [], _∷_}
+use mathlib.Core.Bool.{cond}
+use lib.Dec.{eqb}
+use Rattle.address.specs.declared.Address.{Address}
+use Rattle.address.specs.declared.Address.the-variants.{IPv4, IPv6}
+use Rattle.address.specs.declared.FromOctets.{FromOctets}
+use Rattle.address.specs.Octets.{octets}
+use Rattle.address.specs.Matching.{matchesAt}
+use Rattle.networks.specs.declared.Network.{Network}
+use Rattle.answer_table.specs.Numbers.{nowhere, byte, Report as TableReport, accepted as table-accepted, refused as table-refused}
+use Rattle.macros.specs.declared.Form.{Form}
+use Rattle.macros.specs.declared.Expanded.{Expanded}
+use Rattle.records.specs.Readings.{Optional, absent, present}
+use Rattle.records.specs.Numbers.{RecordReport, accepted, refused}
+use Rattle.records.specs.declared.Term.{Term}
+use Rattle.records.specs.declared.TermAnswer.{TermAnswer}
+use Rattle.evaluation.specs.declared.Answer.{Answer}
+use Rattle.evaluation.specs.Numbers.{Report, reported}
+use Rattle.talavorn.specs.declared.numbers.Shape.{Shape}
+use Rattle.talavorn.specs.declared.numbers.FormAnswer.{FormAnswer}
+
+-- what 01 has no number for: octets that are neither 4 nor 16, and a form that is none
+abbrev pub no-address : ℕ
+no-address = 90
+
+abbrev pub no-form : ℕ
+no-form = 91
+
+-- what is absent is handed back as 0
+abbrev pub orZero : Optional ℕ → ℕ
+orZero absent = 0
+orZero (present n) = n
+
+-- an evaluation: 01's number; kind or place, both counts, and the length of what was written, a result's text or a wanted question's name
+abbrev pub written : Answer → ℕ
+written (Answer.Decided value c n) = n
+written (Answer.Wanting kind n c) = n
+written (Answer.Refused number) = 0
+written (Answer.RefusedAt number place) = 0
+
+abbrev pub row : Report → ℕ → List ℕ
+row r n = r .number ∷ orZero (r .kind-or-place) ∷ r .lookups ∷ r .voids ∷ n ∷ []
+
+unfoldable pub encoded : Answer → List ℕ
+encoded a = row (reported a) (written a)
+
+-- reading a record: 0; the place just after the version. Or 01's number; its place
+unfoldable pub recordNumbers : RecordReport → List ℕ
+recordNumbers (accepted next) = 0 ∷ next ∷ []
+recordNumbers (refused number place) = number ∷ place ∷ []
+
+-- a check of the table: 0; how many entries. Or 01's number; its place
+unfoldable pub tableNumbers : TableReport → List ℕ
+tableNumbers (table-accepted n) = 0 ∷ n ∷ []
+tableNumbers (table-refused number nowhere) = number ∷ 0 ∷ []
+tableNumbers (table-refused number (byte p)) = number ∷ p ∷ []
+
+-- an expansion: 0; the length. Or 01's number; 0
+unfoldable pub expandedNumbers : Expanded → List ℕ
+expandedNumbers (Expanded.Written n) = 0 ∷ n ∷ []
+expandedNumbers (Expanded.Refused number) = number ∷ 0 ∷ []
+
+-- the form of a number: "told whether it reads a domain-spec or an explanation text"
+unfoldable pub formOf : ℕ → FormAnswer
+formOf n = cond (eqb n 0) (FormAnswer.Is Form.DomainSpec) (cond (eqb n 1) (FormAnswer.Is Form.Explanation) FormAnswer.NoForm)
+
+-- whether a client matches a network at a prefix length
+unfoldable pub matchNumber : FromOctets → FromOctets → ℕ → ℕ
+matchNumber (FromOctets.Is a) (FromOctets.Is b) n = cond (matchesAt a b n) 1 0
+matchNumber (FromOctets.Is a) FromOctets.NoAddress n = no-address
+matchNumber FromOctets.NoAddress b n = no-address
+
+-- the octets of an address that was read
+unfoldable pub addressOctets : Network → List ℕ
+addressOctets (Network.Is a) = octets a
+addressOctets Network.NoNetwork = []
+
+-- a term: its kind; its sign, 0 for a modifier; where its argument stands in the term's own text, at the text's end where it has none; its prefix
+-- lengths, 0 where it has none
+abbrev pub shape : (kind sign from to four six : ℕ) → Shape
+shape kind sign from to four six = record { kind = kind; sign = sign; from = from; to = to; four = four; six = six }
+
+unfoldable pub networkShape : (sign from to : ℕ) → Address → ℕ → Shape
+networkShape sign from to (IPv4 v) n = shape 6 sign from to n 0
+networkShape sign from to (IPv6 h l) n = shape 7 sign from to 0 n
+
+unfoldable pub shapeOf : ℕ → Term → Shape
+shapeOf size (Term.All sign) = shape 1 sign size size 0 0
+shapeOf size (Term.Include sign from to) = shape 2 sign from to 0 0
+shapeOf size (Term.A sign from to n m) = shape 3 sign from to n m
+shapeOf size (Term.Mx sign from to n m) = shape 4 sign from to n m
+shapeOf size (Term.Ptr sign from to) = shape 5 sign from to 0 0
+shapeOf size (Term.Network sign from to a n) = networkShape sign from to a n
+shapeOf size (Term.Exists sign from to) = shape 8 sign from to 0 0
+shapeOf size (Term.Redirect from to) = shape 9 0 from to 0 0
+shapeOf size (Term.Explanation from to) = shape 10 0 from to 0 0
+shapeOf size (Term.Unknown name to) = shape 11 0 (name + 1) to 0 0
+
+-- the argument stands within the term's text, of this size
+abbrev pub Inside : ℕ → Term → Type 0
+Inside size t = (shapeOf size t .from ≤ shapeOf size t .to) × (shapeOf size t .to ≤ size)
+
+-- the octets of a term's network; none for any other term
+unfoldable pub networkOf : Term → List ℕ
+networkOf (Term.Network sign from to a n) = octets a
+networkOf (Term.All sign) = []
+networkOf (Term.Include sign from to) = []
+networkOf (Term.A sign from to n m) = []
+networkOf (Term.Mx sign from to n m) = []
+networkOf (Term.Ptr sign from to) = []
+networkOf (Term.Exists sign from to) = []
+networkOf (Term.Redirect from to) = []
+networkOf (Term.Explanation from to) = []
+networkOf (Term.Unknown name to) = []
+
+-- reading a term: 1; its first byte's place and the next place, kind, sign, where its argument stands in the record, and both lengths. Or 0, the end.
+-- Or 01's number; its place
+abbrev pub termRow : ℕ → ℕ → Shape → List ℕ
+termRow at next x = at ∷ next ∷ x .kind ∷ x .sign ∷ (at + x .from) ∷ (at + x .to) ∷ x .four ∷ x .six ∷ []
+
+unfoldable pub termNumbers : TermAnswer → List ℕ
+termNumbers TermAnswer.End = 0 ∷ 0 ∷ 0 ∷ 0 ∷ 0 ∷ 0 ∷ 0 ∷ 0 ∷ 0 ∷ []
+termNumbers (TermAnswer.Refused number place) = number ∷ place ∷ 0 ∷ 0 ∷ 0 ∷ 0 ∷ 0 ∷ 0 ∷ 0 ∷ []
+termNumbers (TermAnswer.Is at next t) = 1 ∷ termRow at next (shapeOf (next - at) t)
+
+-- the octets that reading a term writes
+unfoldable pub termOctets : TermAnswer → List ℕ
+termOctets TermAnswer.End = []
+termOctets (TermAnswer.Refused number place) = []
+termOctets (TermAnswer.Is at next t) = networkOf t

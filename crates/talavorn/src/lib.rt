@@ -1,0 +1,181 @@
+// The calls for programs in C and in other languages: numbers and byte slices go in, a number comes back, and all else is written into lent arrays
+// and buffers. embed/talavorn.h says in C what the contracts here say. No call keeps anything, and none has a `requires`.
+ghost use mathlib.Core.List.{[], _∷_};
+ghost use lib.ListN.{length};
+ghost use Rattle.address.specs.Octets.{fromOctets};
+ghost use Rattle.macros.specs.Expansion.{given};
+ghost use Rattle.macros.specs.Numbers.{outcome};
+ghost use Rattle.evaluation.specs.Evaluating.{evaluated};
+ghost use Rattle.talavorn.specs.Numbers.{formOf};
+ghost use Rattle.talavorn.specs.Calls.{evaluateFor, expandFor, EvaluateSays, EvaluateAnswers, RecordSays, TermSays, ExpandSays, ExpandAnswers, MatchSays, TableSays, AddressSays};
+use address::FromOctets;
+use answer_table::TableAnswer;
+use networks::Network;
+use numbers::FormAnswer;
+use records::RecordAnswer;
+use records::TermAnswer;
+
+pub mod numbers;
+
+// Evaluates a domain for a client of 4 or 16 octets: 90 for any other client, then as evaluation::evaluate.
+#[no_mangle]
+pub extern "C" fn talavorn_evaluate(
+    client: &[u8],
+    domain: &[u8],
+    sender: &[u8],
+    helo: &[u8],
+    receiver: &[u8],
+    seconds: u64,
+    table: &[u8],
+    name: &mut [u8],
+    text: &mut [u8],
+    values: &mut [usize; 4],
+) -> u8
+    ensures { λ r. ⌜ EvaluateSays (evaluateFor (fromOctets (now (client .entry))) (λ a. evaluated a (now (domain .entry)) (now (sender .entry)) (now (helo .entry)) (now (receiver .entry)) seconds (now (table .entry)) (now (name .entry)) (now (text .entry)))) (r ∷ now (values .exit)) (now (name .entry)) (now (name .exit)) (now (text .entry)) (now (text .exit)) ⌝ }
+    ensures { λ r. ⌜ EvaluateAnswers (fromOctets (now (client .entry))) (now (domain .entry)) (now (sender .entry)) (now (helo .entry)) (now (receiver .entry)) seconds (now (table .entry)) (r ∷ now (values .exit)) (now (name .entry)) (now (name .exit)) (now (text .entry)) (now (text .exit)) ⌝ }
+{
+    let FromOctets::Is(a) = address::from_octets(client) else {
+        *values = [0, 0, 0, 0];
+        return 90;
+    };
+    let answer = evaluation::evaluate(
+        a,
+        domain,
+        sender,
+        helo,
+        receiver,
+        seconds,
+        table,
+        name,
+        text,
+    );
+    numbers::put_answer(answer, values)
+}
+
+// Reads a record: 0 and the place just after the version, or 30 to 33 and the place that is to blame.
+#[no_mangle]
+pub extern "C" fn talavorn_read_record(s: &[u8], place: &mut usize) -> u8
+    ensures { λ r. ⌜ RecordSays (now (s .entry)) (r ∷ now (place .exit) ∷ []) ⌝ }
+{
+    match records::read_record(s) {
+        RecordAnswer::Accepted(next) => {
+            *place = next;
+            0
+        }
+        RecordAnswer::Refused { number, at } => {
+            *place = at;
+            number
+        }
+    }
+}
+
+// Reads one term from a place on: 1 and the term, 0 for the end, or 30, 34 or 32 and the place. A network's octets are written.
+#[no_mangle]
+pub extern "C" fn talavorn_read_term(
+    s: &[u8],
+    place: usize,
+    values: &mut [usize; 8],
+    network: &mut [u8; 16],
+) -> u8
+    ensures { λ r. ⌜ TermSays (now (s .entry)) place (r ∷ now (values .exit)) (now (network .entry)) (now (network .exit)) ⌝ }
+{
+    match records::read_term(s, place) {
+        TermAnswer::End => {
+            *values = [0, 0, 0, 0, 0, 0, 0, 0];
+            0
+        }
+        TermAnswer::Refused { number, at } => {
+            *values = [at, 0, 0, 0, 0, 0, 0, 0];
+            number
+        }
+        TermAnswer::Is { at, next, term } => {
+            numbers::put_term(at, next, term, values);
+            numbers::put_network(term, network);
+            1
+        }
+    }
+}
+
+// Expands a macro string: 91 for a form that is neither 0, a domain-spec, nor 1, an explanation text; 90 for a client that is not 4 or 16 octets; then
+// as macros::expand.
+#[no_mangle]
+pub extern "C" fn talavorn_expand(
+    form: u8,
+    text: &[u8],
+    client: &[u8],
+    domain: &[u8],
+    sender: &[u8],
+    helo: &[u8],
+    receiver: &[u8],
+    p: &[u8],
+    seconds: u64,
+    out: &mut [u8],
+    size: &mut usize,
+) -> u8
+    ensures { λ r. ⌜ ExpandSays (expandFor (formOf form) (fromOctets (now (client .entry))) (λ f a. outcome f (now (text .entry)) (given (now (sender .entry)) (now (helo .entry)) (now (receiver .entry)) (now (domain .entry)) (now (p .entry)) a seconds) (length (now (out .entry))))) (r ∷ now (size .exit) ∷ []) (now (out .entry)) (now (out .exit)) ⌝ }
+    ensures { λ r. ⌜ ExpandAnswers (formOf form) (fromOctets (now (client .entry))) (now (text .entry)) (λ a. given (now (sender .entry)) (now (helo .entry)) (now (receiver .entry)) (now (domain .entry)) (now (p .entry)) a seconds) (r ∷ now (size .exit) ∷ []) (now (out .entry)) (now (out .exit)) ⌝ }
+{
+    let FormAnswer::Is(f) = numbers::form_of(form) else {
+        *size = 0;
+        return 91;
+    };
+    let FromOctets::Is(a) = address::from_octets(client) else {
+        *size = 0;
+        return 90;
+    };
+    let answer = macros::expand(f, text, sender, helo, receiver, domain, p, a, seconds, out);
+    numbers::put_expanded(answer, size)
+}
+
+// Whether a client matches a network at a prefix length: 1 or 0; 90 where one of the two is not 4 or 16 octets.
+#[no_mangle]
+pub extern "C" fn talavorn_matches(client: &[u8], network: &[u8], bits: usize) -> u8
+    ensures { λ r. ⌜ MatchSays (fromOctets (now (client .entry))) (fromOctets (now (network .entry))) bits r ⌝ }
+{
+    let FromOctets::Is(a) = address::from_octets(client) else {
+        return 90;
+    };
+    let FromOctets::Is(b) = address::from_octets(network) else {
+        return 90;
+    };
+    if address::matches(a, b, bits) {
+        return 1;
+    }
+    0
+}
+
+// Checks a table: 0 and the number of its entries, or 24 to 26 and the place.
+#[no_mangle]
+pub extern "C" fn talavorn_check_table(table: &[u8], place: &mut usize) -> u8
+    ensures { λ r. ⌜ TableSays (now (table .entry)) (r ∷ now (place .exit) ∷ []) ⌝ }
+{
+    match answer_table::check_table(table) {
+        TableAnswer::Accepted(count) => {
+            *place = count;
+            0
+        }
+        TableAnswer::TooLong => {
+            *place = 0;
+            24
+        }
+        TableAnswer::Malformed(at) => {
+            *place = at;
+            25
+        }
+        TableAnswer::Repeated(at) => {
+            *place = at;
+            26
+        }
+    }
+}
+
+// Reads an address, written as for ip4 or ip6: 4 or 16, with as many octets written, or 0.
+#[no_mangle]
+pub extern "C" fn talavorn_read_address(text: &[u8], octets: &mut [u8; 16]) -> u8
+    ensures { λ r. ⌜ AddressSays (now (text .entry)) r (now (octets .entry)) (now (octets .exit)) ⌝ }
+{
+    let Network::Is(a) = networks::read_address(text) else {
+        return 0;
+    };
+    numbers::put_octets(a, octets)
+}

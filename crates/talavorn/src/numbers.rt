@@ -1,0 +1,201 @@
+// The numbers and octets that the calls hand back for an answer.
+ghost use Prim.Native.Nat.{_-_, _≤_};
+ghost use mathlib.Core.Path.{_≡_};
+ghost use mathlib.Core.List.{[], _∷_};
+ghost use lib.ListN.{length};
+ghost use Rattle.text.specs.Writing.{overwritten};
+ghost use Rattle.address.specs.Octets.{octets};
+ghost use Rattle.talavorn.specs.Numbers.{encoded, expandedNumbers, formOf, Inside, shape, networkShape, shapeOf, termRow, networkOf};
+use address::Address;
+use evaluation::Answer;
+use macros::Expanded;
+use macros::Form;
+use records::Term;
+use text::writing;
+
+// The form of a number, or that it is none.
+pub enum FormAnswer {
+    Is(Form),
+    NoForm,
+}
+
+// The numbers of a term: its kind, its sign or 0, where its argument stands in the term's own text, and its prefix lengths or 0.
+pub struct Shape {
+    pub kind: u8,
+    pub sign: u8,
+    pub from: usize,
+    pub to: usize,
+    pub four: u8,
+    pub six: u8,
+}
+
+// Writes what an evaluation answers: kind or place, both counts, and the length of the text or name; answers the number.
+pub fn put_answer(answer: Answer, values: &mut [usize; 4]) -> u8
+    ensures { λ r. ⌜ (r ∷ now (values .exit)) ≡ encoded answer ⌝ }
+{
+    match answer {
+        Answer::Decided {
+            value,
+            counts,
+            text,
+        } => {
+            *values = [0, counts.lookups as usize, counts.voids as usize, text];
+            value
+        }
+        Answer::Wanting {
+            kind,
+            length: size,
+            counts,
+        } => {
+            *values = [
+                kind as usize,
+                counts.lookups as usize,
+                counts.voids as usize,
+                size,
+            ];
+            7
+        }
+        Answer::Refused(number) => {
+            *values = [0, 0, 0, 0];
+            number
+        }
+        Answer::RefusedAt { number, at } => {
+            *values = [at, 0, 0, 0];
+            number
+        }
+    }
+}
+
+// Writes what an expansion answers: the length; answers 0, or the number of the refusal.
+pub fn put_expanded(answer: Expanded, size: &mut usize) -> u8
+    ensures { λ r. ⌜ (r ∷ now (size .exit) ∷ []) ≡ expandedNumbers answer ⌝ }
+{
+    match answer {
+        Expanded::Written(n) => {
+            *size = n;
+            0
+        }
+        Expanded::Refused(number) => {
+            *size = 0;
+            number
+        }
+    }
+}
+
+// 0 a domain-spec, 1 an explanation text.
+pub fn form_of(form: u8) -> FormAnswer
+    ensures { λ r. ⌜ r ≡ formOf form ⌝ }
+{
+    if form == 0 {
+        return FormAnswer::Is(Form::DomainSpec);
+    }
+    if form == 1 {
+        return FormAnswer::Is(Form::Explanation);
+    }
+    FormAnswer::NoForm
+}
+
+// Writes the octets of an address at the front; answers how many.
+pub fn put_octets(a: Address, out: &mut [u8; 16]) -> u8
+    ensures { λ r. ⌜ (r ≡ length (octets a)) × (now (out .exit) ≡ overwritten (octets a) (now (out .entry))) ⌝ }
+{
+    match a {
+        Address::IPv4(v) => {
+            writing::put_all(&address::octets4(v), out, 0);
+            4
+        }
+        Address::IPv6(high, low) => {
+            writing::put_all(&address::octets16(high, low), out, 0);
+            16
+        }
+    }
+}
+
+// Writes the octets of a term's network; for any other term nothing.
+pub fn put_network(term: Term, out: &mut [u8; 16])
+    ensures { λ _. ⌜ now (out .exit) ≡ overwritten (networkOf term) (now (out .entry)) ⌝ }
+{
+    if let Term::Network { address, .. } = term {
+        put_octets(address, out);
+    }
+}
+
+fn make_shape(kind: u8, sign: u8, from: usize, to: usize, four: u8, six: u8) -> Shape
+    ensures { λ r. ⌜ r ≡ shape kind sign from to four six ⌝ }
+{
+    Shape {
+        kind,
+        sign,
+        from,
+        to,
+        four,
+        six,
+    }
+}
+
+// The shape of a network: its family's prefix length.
+fn network(sign: u8, from: usize, to: usize, a: Address, bits: u8) -> Shape
+    ensures { λ r. ⌜ r ≡ networkShape sign from to a bits ⌝ }
+{
+    match a {
+        Address::IPv4(_) => make_shape(6, sign, from, to, bits, 0),
+        Address::IPv6(_, _) => make_shape(7, sign, from, to, 0, bits),
+    }
+}
+
+// The shape of a term whose text has a size.
+fn shape_of(size: usize, term: Term) -> Shape
+    requires { ⌜ Inside size term ⌝ }
+    ensures { λ r. ⌜ r ≡ shapeOf size term ⌝ }
+{
+    match term {
+        Term::All { sign } => make_shape(1, sign, size, size, 0, 0),
+        Term::Include { sign, from, to } => make_shape(2, sign, from, to, 0, 0),
+        Term::A {
+            sign,
+            from,
+            to,
+            four,
+            six,
+        } => make_shape(3, sign, from, to, four, six),
+        Term::Mx {
+            sign,
+            from,
+            to,
+            four,
+            six,
+        } => make_shape(4, sign, from, to, four, six),
+        Term::Ptr { sign, from, to } => make_shape(5, sign, from, to, 0, 0),
+        Term::Network {
+            sign,
+            from,
+            to,
+            address,
+            length,
+        } => network(sign, from, to, address, length),
+        Term::Exists { sign, from, to } => make_shape(8, sign, from, to, 0, 0),
+        Term::Redirect { from, to } => make_shape(9, 0, from, to, 0, 0),
+        Term::Explanation { from, to } => make_shape(10, 0, from, to, 0, 0),
+        Term::Unknown { name, to } => make_shape(11, 0, name + 1, to, 0, 0),
+    }
+}
+
+// Writes the numbers of a term that stands in its record from a place up to another.
+pub fn put_term(at: usize, next: usize, term: Term, values: &mut [usize; 8])
+    requires { ⌜ (at ≤ next) × Inside (next - at) term ⌝ }
+    ensures { λ _. ⌜ now (values .exit) ≡ termRow at next (shapeOf (next - at) term) ⌝ }
+{
+    let s = shape_of(next - at, term);
+    let from = s.from;
+    let to = s.to;
+    *values = [
+        at,
+        next,
+        s.kind as usize,
+        s.sign as usize,
+        at + from,
+        at + to,
+        s.four as usize,
+        s.six as usize,
+    ];
+}
