@@ -1,4 +1,4 @@
--- 01's cases: 192.0.2.129 against 192.0.2.0 matches at /24 and doesn't at /25.
+-- 192.0.2.129 against 192.0.2.0 matches at /24 and doesn't at /25.
 use mathlib.Core.Path.{_≡_, refl}
 use mathlib.Core.List.{[], _∷_}
 use mathlib.Core.Bool.{true, false}

@@ -3,5 +3,5 @@
 pub mod Octets
 -- Matching: the bits of an address, and when two addresses match at a prefix length.
 pub mod Matching
--- Examples: the cases of 01 that are proved.
+-- Examples: cases that are proved by computation.
 pub mod Examples

@@ -1,4 +1,4 @@
--- 01's sentences on the table, an example for each, computed: bytes, and what their check answers.
+-- The sentences on the table, an example for each, computed: bytes, and what their check answers.
 use Prim.Native.Nat.{ℕ, _+_, _/_, _%_}
 use mathlib.Core.Path.{_≡_, refl}
 use mathlib.Core.List.{List, [], _∷_, _++_}

@@ -1,7 +1,7 @@
 -- What the contracts of this crate are said in.
 -- Layout: the answer table as productions: entries and the bytes that encode them.
 pub mod Layout
--- Numbers: 01's number and place for each answer of a check of the table.
+-- Numbers: the number and place of each answer of a check of the table.
 pub mod Numbers
 -- Answers: when a table is accepted, and when and where it is refused.
 pub mod Answers
@@ -11,5 +11,5 @@ pub mod Lookup
 pub mod Reader
 -- Marks: the bits that are set for the pairs that a check has met.
 pub mod Marks
--- Examples: 01's sentences on the table, computed.
+-- Examples: the sentences on the table, computed.
 pub mod Examples

@@ -1,4 +1,4 @@
--- 01's number and place for each answer of a check of the table.
+-- The number and place of each answer of a check of the table.
 use Prim.Native.Nat.{ℕ}
 use Rattle.answer_table.specs.declared.TableAnswer.{TableAnswer}
 use Rattle.answer_table.specs.declared.TableAnswer.the-variants.{Accepted, TooLong, Malformed, Repeated}
@@ -8,7 +8,7 @@ pub data Place : Type 0 where
   nowhere : Place
   byte : ℕ → Place
 
--- accepted, with the number of entries; or refused, with 01's number and the place
+-- accepted, with the number of entries; or refused, with the number and the place
 pub data Report : Type 0 where
   accepted : ℕ → Report
   refused : ℕ → Place → Report

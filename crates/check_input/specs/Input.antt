@@ -1,4 +1,4 @@
--- What an input of the check program means. 01: "The other program reads client (written as for ip4 or ip6), domain, sender, HELO, receiver and t, a line
+-- What an input of the check program means: "The other program reads client (written as for ip4 or ip6), domain, sender, HELO, receiver and t, a line
 -- each, then the table."
 use Prim.Native.Nat.{ℕ}
 use mathlib.Core.Path.{_≡_}
@@ -22,7 +22,7 @@ pub data InputOutcome : Type 0 where
   unreadable : InputOutcome
   evaluates : Outcome → InputOutcome
 
--- Q48: "An unreadable client or t wins over 20 to 26."
+-- "An unreadable client or t wins over 20 to 26."
 unfoldable pub onClientAndTime : Network → Number → (Address → ℕ → Outcome) → InputOutcome
 onClientAndTime NoNetwork t f = unreadable
 onClientAndTime (Is client) Refused f = unreadable
@@ -33,7 +33,7 @@ unfoldable pub checkedLines : (client domain sender helo receiver seconds table 
 checkedLines client domain sender helo receiver seconds table name text =
     onClientAndTime (readAddress client) (readDecimal 18446744073709551615 seconds) (λ address t. evaluated address domain sender helo receiver t table name text)
 
--- "client .., domain, sender, HELO, receiver and t, a line each, then the table"; Q49: "Only byte 10 ends a line". A missing line is an empty one.
+-- "client .., domain, sender, HELO, receiver and t, a line each, then the table"; "Only byte 10 ends a line". A missing line is an empty one.
 unfoldable pub checkedInput : (input name text : List ℕ) → InputOutcome
 checkedInput input name text =
     checkedLines (field 10 0 input) (field 10 1 input) (field 10 2 input) (field 10 3 input) (field 10 4 input) (field 10 5 input) (afterFields 10 6 input) name text

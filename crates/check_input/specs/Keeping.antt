@@ -11,7 +11,7 @@ use Rattle.text.specs.Runs.{run}
 use Rattle.text.specs.Writing.{overwritten}
 use Rattle.text.specs.Fields.{isNot, firstField, afterField}
 
--- the end of the first line, where it has one; Q49: "Only byte 10 ends a line"
+-- the end of the first line, where it has one; "Only byte 10 ends a line"
 unfoldable pub lineEnd : List ℕ → List ℕ
 lineEnd s = cond (ltb (run (isNot 10) s) (length s)) (10 ∷ []) []
 

@@ -1,5 +1,5 @@
--- What the check program prints. 01: "It prints number, kind or place (`.` where absent) and both counts on a line, and for 3 and 7 the text or name
--- on a second; an unreadable client or t prints `input`." Q49: "Every printed line, the last too, ends in a newline".
+-- What the check program prints: "It prints number, kind or place (`.` where absent) and both counts on a line, and for 3 and 7 the text or name
+-- on a second; an unreadable client or t prints `input`." "Every printed line, the last too, ends in a newline".
 use Prim.Native.Nat.{ℕ}
 use mathlib.Core.Path.{_≡_}
 use mathlib.Core.List.{List, [], _++_}

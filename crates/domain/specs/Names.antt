@@ -1,4 +1,4 @@
--- Domain names as 01 has them, by their labels.
+-- Domain names by their labels.
 use Prim.Native.Nat.{ℕ}
 use mathlib.Core.List.{List}
 use mathlib.Core.Bool.{Bool, _&&_}

@@ -1,7 +1,7 @@
 -- What the contracts of this crate are said in, and demand 3.
 -- Checks: what the parts of a check answer.
 pub mod Checks
--- Numbers: 01's number and values for each answer, and the lent buffers afterwards.
+-- Numbers: the number and values of each answer, and the lent buffers afterwards.
 pub mod Numbers
 -- Evaluating: an evaluation for any arguments, refusals first.
 pub mod Evaluating

@@ -1,4 +1,4 @@
--- 01's number and values for each answer of an evaluation, and the lent buffers afterwards.
+-- The number and values of each answer of an evaluation, and the lent buffers afterwards.
 use Prim.Native.Nat.{ℕ}
 use mathlib.Core.Path.{_≡_}
 use mathlib.Core.List.{List}

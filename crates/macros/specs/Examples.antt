@@ -1,4 +1,4 @@
--- The sender strong-bad@email.example.com and the current domain email.example.com, each text as a domain-spec: 01's three cases, an absent local
+-- The sender strong-bad@email.example.com and the current domain email.example.com, each text as a domain-spec: the three cases of the house rules, an absent local
 -- part, and refusals.
 use Prim.Native.Nat.{ℕ}
 use mathlib.Core.Path.{_≡_, refl}

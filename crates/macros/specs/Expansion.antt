@@ -1,4 +1,4 @@
--- What a macro string expands to: the value of each letter, and the texts of the pieces, in 01's words and order.
+-- What a macro string expands to: the value of each letter, and the texts of the pieces, in the words and order of the house rules.
 use Prim.Native.Nat.{ℕ}
 use mathlib.Core.List.{List, [], _∷_, _++_}
 use mathlib.Core.Bool.{Bool, cond, _&&_}

@@ -1,4 +1,4 @@
--- Macro strings as productions: RFC 7208 section 7.1 in the RFC's names, each rule after those that it uses, with 01's amendments, which are quoted.
+-- Macro strings as productions: RFC 7208 section 7.1 in the RFC's names, each rule after those that it uses, with the house amendments, which are quoted.
 -- Each relates bytes to their pieces. Any split that the ABNF allows is a derivation; nothing of a reader is imported. The rules of one byte are
 -- classes of `text`: alphanum is isAlphanumeric, macro-literal isMacroLiteral, delimiter isDelimiter, and alphanum / "-" isToplabelByte.
 use Prim.Native.Nat.{ℕ}

@@ -1,4 +1,4 @@
--- 01's number for each answer of an expansion, and the lent buffer afterwards.
+-- The number of each answer of an expansion, and the lent buffer afterwards.
 use Prim.Native.Nat.{ℕ}
 use mathlib.Core.Path.{_≡_}
 use mathlib.Core.List.{List}

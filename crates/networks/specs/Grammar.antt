@@ -1,4 +1,4 @@
--- Networks and prefix lengths as productions: RFC 7208's collected ABNF (its section 12) and RFC 4291 section 2.2, with 01's amendments. Each relates
+-- Networks and prefix lengths as productions: RFC 7208's collected ABNF (its section 12) and RFC 4291 section 2.2, with the house amendments. Each relates
 -- bytes to what they write. Nothing of a reader is imported.
 use Prim.Native.Nat.{ℕ, _+_, _-_, _*_, _≤_}
 use mathlib.Core.Path.{_≡_}

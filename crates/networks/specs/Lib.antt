@@ -1,5 +1,5 @@
 -- What the contracts of this crate are said in.
--- Grammar: networks and prefix lengths as productions (RFC 7208 section 12, RFC 4291 section 2.2, with 01's amendments).
+-- Grammar: networks and prefix lengths as productions (RFC 7208 section 12, RFC 4291 section 2.2, with the house amendments).
 pub mod Grammar
 -- Answers: what each call answers, by the productions.
 pub mod Answers

@@ -1,4 +1,4 @@
--- What the record printer prints. 01: it "drops one final newline, and prints a header and a line per term: place, name in lower case, sign, argument
+-- What the record printer prints: it "drops one final newline, and prints a header and a line per term: place, name in lower case, sign, argument
 -- led by `:` or `=`, IPv4 length, IPv6 length; `.` where the term has none. A refusal prints `refused`, number, `at`, place, and no header."
 use Prim.Native.Nat.{ℕ, _-_, _≤_}
 use mathlib.Core.Path.{_≡_}

@@ -1,4 +1,4 @@
--- 01's cases about records that are proved, as one statement.
+-- The cases about records that the house rules want proved, as one statement.
 use mathlib.Core.Path.{_≡_, refl}
 use Rattle.text.specs.Bytes.{within, lower, isSpace, isNotSpace, isNotSlash, isUpper, isAlpha, isDigit, isAlphanumeric, isHexDigit, isNameByte, isToplabelByte, isMacroLiteral}
 use Rattle.text.specs.Decimal.{decimalFrom, decimal, isDecimal, readDecimal, hasNoLeadingZero, readNumber}

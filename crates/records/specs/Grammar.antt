@@ -1,5 +1,5 @@
--- Records as productions: RFC 7208's collected ABNF (its section 12; 01 calls it appendix A) in the RFC's names, each rule after those that it uses,
--- with 01's amendments, which are quoted. Each relates bytes to what they say. Domain-specs and macro-strings are those of `macros`, networks and
+-- Records as productions: RFC 7208's collected ABNF (its section 12) in the RFC's names, each rule after those that it uses,
+-- with the house amendments, which are quoted. Each relates bytes to what they say. Domain-specs and macro-strings are those of `macros`, networks and
 -- prefix lengths those of `networks`. Nothing of a reader is imported.
 use Prim.Native.Nat.{ℕ, _+_, _≤_}
 use mathlib.Core.Path.{_≡_}

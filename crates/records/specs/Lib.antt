@@ -1,9 +1,9 @@
 -- What the contracts of this crate are said in.
 -- Readings: what a term says; a reading is a list of them with their places.
 pub mod Readings
--- Grammar: records as productions (RFC 7208's collected ABNF with 01's amendments).
+-- Grammar: records as productions (RFC 7208's collected ABNF with the house amendments).
 pub mod Grammar
--- Numbers: 01's number and values for each answer.
+-- Numbers: the number and values of each answer.
 pub mod Numbers
 -- Answers: what each call answers, by the productions.
 pub mod Answers
@@ -13,5 +13,5 @@ pub mod Reader
 pub mod Opening
 -- Claim: what reading a record and then its terms promise together.
 pub mod Claim
--- Examples: the cases of 01 that are proved.
+-- Examples: cases that are proved by computation.
 pub mod Examples

@@ -1,4 +1,4 @@
--- 01's number and values for each answer.
+-- The number and values of each answer.
 use Prim.Native.Nat.{ℕ, _+_}
 use mathlib.Core.List.{List}
 use mathlib.Core.Bool.{cond}

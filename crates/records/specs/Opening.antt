@@ -15,7 +15,7 @@ use Rattle.records.specs.declared.opening.Opening.{Opening}
 use Rattle.records.specs.Reader.{readTerm, after-version, checkFrom, readRecord}
 
 -- what a term says of a client without a lookup: a network of the client matches, and so does `all`; any other network and a modifier pass. Lookups are
--- those that 01 counts: "include, a, mx, ptr, exists and a used redirect count one each when begun"
+-- those that count as lookups: "include, a, mx, ptr, exists and a used redirect count one each when begun"
 unfoldable pub unaided : Address → Term → Unaided
 unaided client (Term.All sign) = Unaided.Matches sign
 unaided client (Term.Network sign from to a n) = cond (matchesAt client a n) (Unaided.Matches sign) Unaided.Passes

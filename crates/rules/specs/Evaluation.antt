@@ -1,4 +1,4 @@
--- Record lookup, terms, include, redirect and the explanation, in 01's words and order.
+-- Record lookup, terms, include, redirect and the explanation, in the words and order of the house rules.
 use Prim.Native.Nat.{ℕ, zero, suc}
 use mathlib.Core.List.{List, [], _∷_}
 use mathlib.Core.Bool.{cond, _&&_}
@@ -30,7 +30,7 @@ pub record Failing : Type 0 where
   pub domain : List ℕ
   pub exp : List ℕ
 
--- 01's result by its number; both counts; for a fail, where its explanation is
+-- the result by its number; both counts; for a fail, where its explanation is
 pub record Result : Type 0 where
   pub value : ℕ
   pub counts : Counts

@@ -1,4 +1,4 @@
--- 01's cases about evaluation and its section "Errors that look right", and one example for each of its sentences (Rules.antt), computed: each is a zone, a
+-- The scope paper's cases about evaluation, its "Errors that look right", and one example for each of its sentences (Rules.antt), computed: each is a zone, a
 -- mail and what the evaluation answers.
 use Prim.Native.Nat.{ℕ}
 use mathlib.Core.Path.{_≡_, refl}
@@ -76,7 +76,7 @@ pub record Cases : Type 0 where
   pub explained-fail : answer (txt (bytes "example.com") (bytes "v=spf1 -all exp=e.example") ∷ txt (bytes "e.example") (bytes "%{i} at %{t}") ∷ [])
       ≡ settled (record { value = 3; counts = record { lookups = 0; voids = 0 }; text = bytes "192.0.2.129 at 7" })
 
--- 01's cases, and its sentences
+-- the paper's cases, and its sentences
 pub record Computed : Type 0 where
   pub scope : Cases
   pub rules : Rules

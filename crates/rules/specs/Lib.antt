@@ -1,5 +1,5 @@
--- 01's evaluation as definitions.
--- Results: 01's results by name.
+-- The rules of evaluation as definitions.
+-- Results: the results by name.
 pub mod Results
 -- Tree: a check as a tree of questions, and what a table settles of it.
 pub mod Tree
@@ -17,11 +17,11 @@ pub mod Outcomes
 pub mod Reached
 -- Zones: zones and mails for examples.
 pub mod Zones
--- Rules: 01's sentences on evaluation, an example for each.
+-- Rules: the sentences on evaluation, an example for each.
 pub mod Rules
--- Examples: cases of 01 about evaluation and those of Rules, computed.
+-- Examples: cases about evaluation and those of Rules, computed.
 pub mod Examples
 -- ReachedExample: a record outside the grammar, reached by an include and a redirect.
 pub mod ReachedExample
--- ScopeCases: 01's proved cases as a single statement.
+-- ScopeCases: the paper's proved cases as a single statement.
 pub mod ScopeCases

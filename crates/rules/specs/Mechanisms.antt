@@ -1,4 +1,4 @@
--- What each mechanism asks and whether it matches, in 01's words and order.
+-- What each mechanism asks and whether it matches, in the words and order of the house rules.
 use Prim.Native.Nat.{ℕ, _+_}
 use mathlib.Core.List.{List, [], _∷_, _++_}
 use mathlib.Core.Bool.{Bool, false, cond, _&&_, _||_}

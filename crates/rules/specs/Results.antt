@@ -1,4 +1,4 @@
--- 01's results by name.
+-- The results by name.
 use Prim.Native.Nat.{ℕ}
 
 -- results: "0 none, 1 neutral, 2 pass, 3 fail, 4 softfail, 5 temperror, 6 permerror"

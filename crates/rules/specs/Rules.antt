@@ -1,4 +1,4 @@
--- 01's sentences on evaluation, one computed example for each: a zone, and what example.com's evaluation answers for a client. Examples.antt computes them.
+-- The sentences on evaluation, one computed example for each: a zone, and what example.com's evaluation answers for a client. Examples.antt computes them.
 use Prim.Native.Nat.{ℕ}
 use mathlib.Core.Path.{_≡_}
 use mathlib.Core.List.{List, [], _∷_, _++_}

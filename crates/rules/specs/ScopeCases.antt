@@ -1,4 +1,4 @@
--- 01's cases marked P, "proved as a single statement": those about records, macros and addresses, and with them those computed about evaluation.
+-- The cases that are to be "proved as a single statement": those about records, macros and addresses, and with them those computed about evaluation.
 use Rattle.address.specs.Examples.{Cases as AddressCases, cases as address-cases}
 use Rattle.macros.specs.Examples.{Cases as MacroCases, cases as macro-cases}
 use Rattle.records.specs.Examples.{Cases as RecordCases, cases as record-cases}

@@ -1,4 +1,4 @@
-// The types that an evaluation is said in. This crate has no functions: its specs are 01's evaluation as definitions, and theorems on them.
+// The types that an evaluation is said in. This crate has no functions: its specs are the rules of evaluation as definitions, and theorems on them.
 
 // The lookups begun and the void answers met so far.
 pub struct Counts {
@@ -6,7 +6,7 @@ pub struct Counts {
     pub voids: u8,
 }
 
-// How a check ends: 01's result by its number, or a question without an entry, its kind and its name's length.
+// How a check ends: the result by its number, or a question without an entry, its kind and its name's length.
 pub enum Ending {
     Result(u8),
     Wanting { kind: u16, length: usize },

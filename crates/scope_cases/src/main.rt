@@ -1,4 +1,4 @@
-// Runs the cases of 01's sections "Both sides of each line" and "Errors that look right" and of the list of readings, a line each, and prints what is
+// Runs the cases of the scope paper's sections "Both sides of each line" and "Errors that look right" and of the list of readings, a line each, and prints what is
 // answered to each, led by the case's label. Bytes stand in hex, `-` for none.
 //
 //     record LABEL RECORD               `accepted` and the place after the version, or `refused`, number, `at`, place

@@ -21,7 +21,7 @@ use Rattle.evaluation.specs.Numbers.{Report, reported}
 use Rattle.talavorn.specs.declared.numbers.Shape.{Shape}
 use Rattle.talavorn.specs.declared.numbers.FormAnswer.{FormAnswer}
 
--- what 01 has no number for: octets that are neither 4 nor 16, and a form that is none
+-- what the house rules have no number for: octets that are neither 4 nor 16, and a form that is none
 abbrev pub no-address : ℕ
 no-address = 90
 
@@ -33,7 +33,7 @@ abbrev pub orZero : Optional ℕ → ℕ
 orZero absent = 0
 orZero (present n) = n
 
--- an evaluation: 01's number; kind or place, both counts, and the length of what was written, a result's text or a wanted question's name
+-- an evaluation: the result's or refusal's number; kind or place, both counts, and the length of what was written, a result's text or a wanted question's name
 abbrev pub written : Answer → ℕ
 written (Answer.Decided value c n) = n
 written (Answer.Wanting kind n c) = n
@@ -46,18 +46,18 @@ row r n = r .number ∷ orZero (r .kind-or-place) ∷ r .lookups ∷ r .voids �
 unfoldable pub encoded : Answer → List ℕ
 encoded a = row (reported a) (written a)
 
--- reading a record: 0; the place just after the version. Or 01's number; its place
+-- reading a record: 0; the place just after the version. Or the refusal's number; its place
 unfoldable pub recordNumbers : RecordReport → List ℕ
 recordNumbers (accepted next) = 0 ∷ next ∷ []
 recordNumbers (refused number place) = number ∷ place ∷ []
 
--- a check of the table: 0; how many entries. Or 01's number; its place
+-- a check of the table: 0; how many entries. Or the refusal's number; its place
 unfoldable pub tableNumbers : TableReport → List ℕ
 tableNumbers (table-accepted n) = 0 ∷ n ∷ []
 tableNumbers (table-refused number nowhere) = number ∷ 0 ∷ []
 tableNumbers (table-refused number (byte p)) = number ∷ p ∷ []
 
--- an expansion: 0; the length. Or 01's number; 0
+-- an expansion: 0; the length. Or the refusal's number; 0
 unfoldable pub expandedNumbers : Expanded → List ℕ
 expandedNumbers (Expanded.Written n) = 0 ∷ n ∷ []
 expandedNumbers (Expanded.Refused number) = number ∷ 0 ∷ []
@@ -116,7 +116,7 @@ networkOf (Term.Explanation from to) = []
 networkOf (Term.Unknown name to) = []
 
 -- reading a term: 1; its first byte's place and the next place, kind, sign, where its argument stands in the record, and both lengths. Or 0, the end.
--- Or 01's number; its place
+-- Or the refusal's number; its place
 abbrev pub termRow : ℕ → ℕ → Shape → List ℕ
 termRow at next x = at ∷ next ∷ x .kind ∷ x .sign ∷ (at + x .from) ∷ (at + x .to) ∷ x .four ∷ x .six ∷ []
 
