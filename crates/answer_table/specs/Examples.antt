@@ -8,7 +8,7 @@ use Rattle.text.specs.Lists.{same, all, grow, split}
 use Rattle.text.specs.Texts.{bytes}
 use Rattle.domain.specs.Names.{labels, isLabel, isName, isTableName}
 use Rattle.answer_table.specs.Layout.{isKind, isStatus, isMailExchange, isItem}
-use Rattle.answer_table.specs.Reader.{number, firstItem, otherItems, itemsFitFrom, itemsFit, headerOf, nameOf, itemBytes, isWell, findAfter, findFrom, findAt, isFound, stepAfter, stepAt, checkAfter, checkFrom, checkTable}
+use Rattle.answer_table.specs.Reader.{number, firstItem, otherItems, itemsFitFrom, itemsFit, headerOf, nameOf, itemBytes, isEntry, isWell, findAfter, findFrom, findAt, isFound, stepAfter, stepAt, checkAfter, checkFrom, checkTable}
 use Rattle.answer_table.specs.declared.TableAnswer.the-variants.{Accepted, Malformed, Repeated}
 
 -- a 2-byte number, an item, and an entry, as the table writes them
@@ -61,7 +61,7 @@ pub record Cases : Type 0 where
   pub cut-short : checkTable (answered ++ (9 ∷ [])) ≡ Malformed 15
 
 pub cases : Cases
-unfolding within isUpper isNotUpper isVisible same all grow split labels isLabel isName isTableName isKind isStatus isMailExchange isItem number firstItem otherItems itemsFitFrom itemsFit headerOf nameOf itemBytes isWell findAfter findFrom findAt isFound stepAfter stepAt checkAfter checkFrom checkTable
+unfolding within isUpper isNotUpper isVisible same all grow split labels isLabel isName isTableName isKind isStatus isMailExchange isItem number firstItem otherItems itemsFitFrom itemsFit headerOf nameOf itemBytes isEntry isWell findAfter findFrom findAt isFound stepAfter stepAt checkAfter checkFrom checkTable
 cases = record {
   empty = refl;
   status-0 = refl;

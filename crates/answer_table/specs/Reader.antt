@@ -66,14 +66,15 @@ nameOf s n = take n (drop header-size s)
 unfoldable pub itemBytes : List ℕ → ℕ → ℕ → List ℕ
 itemBytes s n size = take (size - (header-size + n)) (drop (header-size + n) s)
 
+-- whether a kind, a status, a name and items' bytes make a well-formed entry
+unfoldable pub isEntry : (kind status : ℕ) (name items : List ℕ) → Bool
+isEntry kind status name items =
+    isKind kind && (isStatus status && (isTableName name && cond (eqb status status-answered) (itemsFit kind items) (eqb (length items) 0)))
+
 -- whether the entry at the front, with this header, is well-formed
 unfoldable pub isWell : List ℕ → Header → Bool
 isWell s Broken = false
-isWell s (Whole kind status n size) =
-    isKind kind
-    && (isStatus status
-    && (isTableName (nameOf s n)
-    && (cond (eqb status status-answered) (itemsFit kind (itemBytes s n size)) (eqb size (header-size + n)))))
+isWell s (Whole kind status n size) = isEntry kind status (nameOf s n) (itemBytes s n size)
 
 -- what it holds
 unfoldable pub entryOf : List ℕ → ℕ → ℕ → ℕ → ℕ → Entry

@@ -4,7 +4,7 @@ ghost use mathlib.Core.Bool.{_&&_};
 ghost use lib.Dec.{eqb};
 ghost use Rattle.text.specs.Lists.{same};
 ghost use Rattle.answer_table.specs.Layout.{isKind, isStatus};
-ghost use Rattle.answer_table.specs.Reader.{headerOf, isWell, nameOf, itemBytes};
+ghost use Rattle.answer_table.specs.Reader.{headerOf, isEntry, isWell, nameOf, itemBytes};
 use crate::items;
 use text::bytes;
 use text::words;
@@ -95,6 +95,25 @@ pub fn is_pair(s: &[u8], k: u16, n: u8, kind: u16, name: &[u8]) -> bool
     false
 }
 
+// Whether a kind, a status, a name and items' bytes make a well-formed entry, apart from its length.
+pub fn is_entry(kind: u16, status: u8, name: &[u8], items: &[u8]) -> bool
+    ensures { λ r. ⌜ r ≡ isEntry kind status (now (name .entry)) (now (items .entry)) ⌝ }
+{
+    if is_kind(kind) {
+        if is_status(status) {
+            if domain::is_table_name(name) {
+                if status == 0 {
+                    return items::items_fit(kind, items);
+                }
+                return items.len() == 0;
+            }
+            return false;
+        }
+        return false;
+    }
+    false
+}
+
 // Whether the entry at the front, with this header, is well-formed.
 pub fn is_well(s: &[u8], h: Header) -> bool
     ensures { λ r. ⌜ r ≡ isWell (now (s .entry)) h ⌝ }
@@ -108,19 +127,7 @@ pub fn is_well(s: &[u8], h: Header) -> bool
     else {
         return false;
     };
-    if is_kind(kind) {
-        if is_status(status) {
-            if domain::is_table_name(name_of(s, n)) {
-                if status == 0 {
-                    return items::items_fit(kind, item_bytes(s, n, size));
-                }
-                return size == 6 + n as usize;
-            }
-            return false;
-        }
-        return false;
-    }
-    false
+    is_entry(kind, status, name_of(s, n), item_bytes(s, n, size))
 }
 
 // The bytes of the items of the entry at the front, by its name's length and its size.

@@ -4,5 +4,3 @@ pub mod Hex
 pub mod Values
 -- Reading: a line as it is read.
 pub mod Reading
--- Entries: the bytes of an entry.
-pub mod Entries

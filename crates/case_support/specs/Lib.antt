@@ -2,5 +2,3 @@
 pub mod Words
 -- Lines: what is promised of a line of the input.
 pub mod Lines
--- Entries: the bytes of an entry of an answer table.
-pub mod Entries

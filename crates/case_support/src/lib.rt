@@ -13,8 +13,6 @@ use text::decimal;
 use text::decimal::Number;
 use text::writing;
 
-pub mod entries;
-
 // A line that was read, with its length, or the end of the input.
 pub enum Line {
     Of(usize),

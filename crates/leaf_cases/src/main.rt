@@ -10,9 +10,13 @@
 //     table TABLE                       `entries` and their number, or `refused`, number and place
 //     find KIND NAME TABLE              `missing`, or the status and the items
 //     mx NAME TABLE                     the preference and host of each MX item
+//     append KIND STATUS NAME ITEMS BUFFER SIZE
+//                                       `appended`, the new length and the bytes from the old length on; or `refused`, number and place (`.` for none);
+//                                       and last `kept` or `changed`, of the other bytes
 //
 // Any other line is printed as it is.
 use address::FromOctets;
+use answer_entry::AppendAnswer;
 use answer_table::Found;
 use answer_table::TableAnswer;
 use case_support::Line;
@@ -165,6 +169,68 @@ fn run_mx(line: &[u8]) {
     case_support::print_line(b"");
 }
 
+// Prints whether the first n bytes of a buffer are as they were.
+fn print_kept(before: &[u8], after: &[u8], n: usize) {
+    if words::equal(part(before, 0, n), part(after, 0, n)) {
+        return case_support::print_line(b" kept");
+    }
+    case_support::print_line(b" changed");
+}
+
+fn print_text(s: &[u8]) {
+    io::write_all(1, s);
+}
+
+// Prints a number after a text.
+fn print_with(text: &[u8], n: usize) {
+    io::write_all(1, text);
+    io::print_decimal(1, n as u64);
+}
+
+// Prints what an append answers, with the buffer before and after.
+fn print_append(answer: AppendAnswer, before: &[u8], after: &[u8], size: usize) {
+    match answer {
+        AppendAnswer::Appended(end) => {
+            print_with(b"appended ", end);
+            io::write_all(1, b" ");
+            case_support::print_bytes(part(after, size, after.len()));
+            return print_kept(before, after, size);
+        }
+        AppendAnswer::TooLong => print_text(b"refused 24 ."),
+        AppendAnswer::Malformed(place) => print_with(b"refused 25 ", place),
+        AppendAnswer::Repeated(place) => print_with(b"refused 26 ", place),
+        AppendAnswer::InTable => print_text(b"refused 64 ."),
+        AppendAnswer::Unfit => print_text(b"refused 65 ."),
+    }
+    print_kept(before, after, before.len());
+}
+
+// Appends to a buffer, of which another is a copy.
+fn run_append_to(line: &[u8], before: &[u8], after: &mut [u8]) {
+    let mut name = [0u8; 1024];
+    let mut items = [0u8; 65552];
+    let n = case_support::unhex(case_support::word(line, 3), &mut name);
+    let m = case_support::unhex(case_support::word(line, 4), &mut items);
+    let size = case_support::number_of(case_support::word(line, 6)) as usize;
+    let answer = answer_entry::append_entry(
+        (case_support::number_of(case_support::word(line, 1)) % 65536) as u16,
+        (case_support::number_of(case_support::word(line, 2)) % 256) as u8,
+        part(&name, 0, n),
+        part(&items, 0, m),
+        after,
+        size,
+    );
+    print_append(answer, before, after, size);
+}
+
+fn run_append(line: &[u8]) {
+    let mut before = [0u8; 65552];
+    let mut after = [0u8; 65552];
+    let n = case_support::unhex(case_support::word(line, 5), &mut before);
+    let m = case_support::unhex(case_support::word(line, 5), &mut after);
+    run_append_to(line, part(&before, 0, n), &mut after[..m]);
+}
+
 // The kinds of line that concern names.
 fn run_name_line(line: &[u8], kind: &[u8]) {
     if words::equal(kind, b"name") {
@@ -201,6 +267,9 @@ fn run_line(line: &[u8]) {
     }
     if words::equal(kind, b"mx") {
         return run_mx(line);
+    }
+    if words::equal(kind, b"append") {
+        return run_append(line);
     }
     run_name_line(line, kind);
 }

@@ -1,7 +1,7 @@
 // The relay: it begins with an empty table, fetches each answer that is missing from the zone, and asks again until the check is decided.
 use address::Address;
+use answer_entry::encoding;
 use answer_table::Found;
-use case_support::entries;
 use evaluation::Answer;
 use evaluation::evaluate;
 use text::bytes::part;
@@ -14,7 +14,7 @@ fn put_answer(zone: &[u8], kind: u16, name: &[u8], out: &mut [u8], at: usize) ->
             status,
             start: _,
             end: _,
-        } => entries::put_entry(
+        } => encoding::put_entry(
             out,
             at,
             kind,
@@ -22,7 +22,7 @@ fn put_answer(zone: &[u8], kind: u16, name: &[u8], out: &mut [u8], at: usize) ->
             name,
             answer_table::found_items(zone, found),
         ),
-        Found::Missing => entries::put_entry(out, at, kind, 3, name, b""),
+        Found::Missing => encoding::put_entry(out, at, kind, 3, name, b""),
     }
 }
 

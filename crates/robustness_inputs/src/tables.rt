@@ -2,7 +2,7 @@
 use crate::random;
 use crate::terms;
 use crate::texts;
-use case_support::entries;
+use answer_entry::encoding;
 use text::bytes::part;
 use text::words;
 use text::writing;
@@ -46,7 +46,7 @@ fn put_host(seed: u64, out: &mut [u8], at: usize) -> usize {
 
 // A preference and a host, or no host.
 fn put_exchange(seed: u64, out: &mut [u8], at: usize) -> usize {
-    let preferred = entries::put_number(out, at, random::up_to(seed, 1, 2) * 10);
+    let preferred = encoding::put_number(out, at, random::up_to(seed, 1, 2) * 10);
     if random::chance(seed, 2, 50) {
         return preferred;
     }
@@ -92,9 +92,9 @@ fn put_value(seed: u64, kind: u16, name: &[u8], out: &mut [u8], at: usize) -> us
 
 // An item: its length and its bytes.
 fn put_item(seed: u64, kind: u16, name: &[u8], out: &mut [u8], at: usize) -> usize {
-    let start = entries::put_number(out, at, 0);
+    let start = encoding::put_number(out, at, 0);
     let end = put_value(seed, kind, name, out, start);
-    entries::put_number(out, at, distance(start, end));
+    encoding::put_number(out, at, distance(start, end));
     end
 }
 
@@ -152,10 +152,10 @@ fn put_answers(seed: u64, kind: u16, status: u8, name: &[u8], out: &mut [u8], at
 // An entry of a kind and name.
 fn put_entry(seed: u64, kind: u16, name: &[u8], out: &mut [u8], at: usize) -> usize {
     let status = pick_status(random::draw(seed, 1), kind);
-    let start = entries::put_number(out, at, 0);
-    let headed = entries::put_head(out, start, kind, status, name);
+    let start = encoding::put_number(out, at, 0);
+    let headed = encoding::put_head(out, start, kind, status, name);
     let end = put_answers(random::draw(seed, 2), kind, status, name, out, headed);
-    entries::put_number(out, at, distance(start, end));
+    encoding::put_number(out, at, distance(start, end));
     end
 }
 
@@ -199,7 +199,7 @@ fn put_pairs(seed: u64, times: usize, out: &mut [u8], at: usize) -> usize {
 // An entry of a name of its own without items.
 fn put_small(k: usize, out: &mut [u8], at: usize) -> usize {
     let name = [97 + (k % 26) as u8, 97 + (k / 26 % 26) as u8];
-    entries::put_entry(out, at, 1, 0, &name, b"")
+    encoding::put_entry(out, at, 1, 0, &name, b"")
 }
 
 // A crowd of entries.

@@ -2,9 +2,9 @@
 use Prim.Native.Nat.{ℕ, _+_, _-_}
 use mathlib.Core.Path.{_≡_}
 use mathlib.Core.Logic.{_↔_}
-use mathlib.Core.List.{List}
+use mathlib.Core.List.{List, map}
 use lib.ListN.{length}
-use Rattle.text.specs.Bytes.{part}
+use Rattle.text.specs.Bytes.{part, lower}
 use Rattle.text.specs.Writing.{overwritten}
 use Rattle.address.specs.declared.Address.{Address}
 use Rattle.address.specs.declared.FromOctets.{FromOctets}
@@ -15,6 +15,7 @@ use Rattle.networks.specs.Answers.{NetworkAnswer, AddressText}
 use Rattle.answer_table.specs.Numbers.{reported as table-reported}
 use Rattle.answer_table.specs.Reader.{checkTable}
 use Rattle.answer_table.specs.Answers.{TableAnswers}
+use Rattle.answer_entry.specs.Appending.{Outcome as AppendOutcome, Appends}
 use Rattle.macros.specs.declared.Form.{Form}
 use Rattle.macros.specs.Expansion.{Given}
 use Rattle.macros.specs.Numbers.{Outcome as Expansion, refused as expansion-refused, answerOf as expandedOf, bufferOf}
@@ -27,7 +28,7 @@ use Rattle.records.specs.declared.TermAnswer.{TermAnswer}
 use Rattle.evaluation.specs.Numbers.{Outcome, refused, answerOf, nameAfter, textAfter}
 use Rattle.evaluation.specs.Answers.{lent, Answers}
 use Rattle.talavorn.specs.declared.numbers.FormAnswer.{FormAnswer}
-use Rattle.talavorn.specs.Numbers.{no-address, no-form, encoded, recordNumbers, tableNumbers, expandedNumbers, matchNumber, addressOctets, shapeOf, termNumbers, termOctets}
+use Rattle.talavorn.specs.Numbers.{no-address, no-form, encoded, recordNumbers, tableNumbers, appendedNumbers, expandedNumbers, matchNumber, addressOctets, shapeOf, termNumbers, termOctets}
 
 -- an evaluation: octets that are no client's are refused before all else
 abbrev pub evaluateFor : FromOctets → (Address → Outcome) → Outcome
@@ -100,6 +101,12 @@ pub record MatchSays (client network : FromOctets) (bits r : ℕ) : Type 0 where
 pub record TableSays (t numbers : List ℕ) : Type 0 where
   pub answer : numbers ≡ tableNumbers (table-reported (checkTable t))
   pub checked : TableAnswers t (table-reported (checkTable t))
+
+-- appending an entry, its name in lower case, to a table in a buffer
+pub record AppendSays (kind status : ℕ) (name items table : List ℕ) (size : ℕ) (numbers table′ : List ℕ) : Type 0 where
+  pub outcome : AppendOutcome
+  pub appends : Appends kind status (map lower name) items table size outcome table′
+  pub answer : numbers ≡ appendedNumbers size outcome
 
 -- reading an address
 pub record AddressSays (s : List ℕ) (r : ℕ) (octets octets′ : List ℕ) : Type 0 where

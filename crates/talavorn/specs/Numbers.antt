@@ -10,6 +10,7 @@ use Rattle.address.specs.Octets.{octets}
 use Rattle.address.specs.Matching.{matchesAt}
 use Rattle.networks.specs.declared.Network.{Network}
 use Rattle.answer_table.specs.Numbers.{nowhere, byte, Report as TableReport, accepted as table-accepted, refused as table-refused}
+use Rattle.answer_entry.specs.Appending.{Outcome as AppendOutcome, appended, refused as append-refused}
 use Rattle.macros.specs.declared.Form.{Form}
 use Rattle.macros.specs.declared.Expanded.{Expanded}
 use Rattle.records.specs.Readings.{Optional, absent, present}
@@ -56,6 +57,12 @@ unfoldable pub tableNumbers : TableReport → List ℕ
 tableNumbers (table-accepted n) = 0 ∷ n ∷ []
 tableNumbers (table-refused number nowhere) = number ∷ 0 ∷ []
 tableNumbers (table-refused number (byte p)) = number ∷ p ∷ []
+
+-- appending an entry: 0; the length of the new table; 0. Or the refusal's number; the length as it was; its place
+unfoldable pub appendedNumbers : ℕ → AppendOutcome → List ℕ
+appendedNumbers size (appended n) = 0 ∷ n ∷ 0 ∷ []
+appendedNumbers size (append-refused number nowhere) = number ∷ size ∷ 0 ∷ []
+appendedNumbers size (append-refused number (byte p)) = number ∷ size ∷ p ∷ []
 
 -- an expansion: 0; the length. Or the refusal's number; 0
 unfoldable pub expandedNumbers : Expanded → List ℕ

@@ -7,7 +7,7 @@ ghost use Rattle.macros.specs.Expansion.{given};
 ghost use Rattle.macros.specs.Numbers.{outcome};
 ghost use Rattle.evaluation.specs.Evaluating.{evaluated};
 ghost use Rattle.talavorn.specs.Numbers.{formOf};
-ghost use Rattle.talavorn.specs.Calls.{evaluateFor, expandFor, EvaluateSays, EvaluateAnswers, RecordSays, TermSays, ExpandSays, ExpandAnswers, MatchSays, TableSays, AddressSays};
+ghost use Rattle.talavorn.specs.Calls.{evaluateFor, expandFor, EvaluateSays, EvaluateAnswers, RecordSays, TermSays, ExpandSays, ExpandAnswers, MatchSays, TableSays, AppendSays, AddressSays};
 use address::FromOctets;
 use answer_table::TableAnswer;
 use networks::Network;
@@ -167,6 +167,24 @@ pub extern "C" fn talavorn_check_table(table: &[u8], place: &mut usize) -> u8
             26
         }
     }
+}
+
+// Appends an entry to the table in the first bytes of a lent buffer: 0 and the new length; or 24 to 26, 64 or 65 with the buffer and the length as
+// they were. The place is that of 25 and 26, else 0.
+#[no_mangle]
+pub extern "C" fn talavorn_append_entry(
+    kind: u16,
+    status: u8,
+    name: &[u8],
+    items: &[u8],
+    table: &mut [u8],
+    size: &mut usize,
+    place: &mut usize,
+) -> u8
+    ensures { λ r. ⌜ AppendSays kind status (now (name .entry)) (now (items .entry)) (now (table .entry)) (now (size .entry)) (r ∷ now (size .exit) ∷ now (place .exit) ∷ []) (now (table .exit)) ⌝ }
+{
+    let answer = answer_entry::append_entry(kind, status, name, items, table, *size);
+    numbers::put_appended(answer, size, place)
 }
 
 // Reads an address, written as for ip4 or ip6: 4 or 16, with as many octets written, or 0.

@@ -5,8 +5,10 @@ ghost use mathlib.Core.List.{[], _∷_};
 ghost use lib.ListN.{length};
 ghost use Rattle.text.specs.Writing.{overwritten};
 ghost use Rattle.address.specs.Octets.{octets};
-ghost use Rattle.talavorn.specs.Numbers.{encoded, expandedNumbers, formOf, Inside, shape, networkShape, shapeOf, termRow, networkOf};
+ghost use Rattle.answer_entry.specs.Numbers.{outcomeOf};
+ghost use Rattle.talavorn.specs.Numbers.{encoded, appendedNumbers, expandedNumbers, formOf, Inside, shape, networkShape, shapeOf, termRow, networkOf};
 use address::Address;
+use answer_entry::AppendAnswer;
 use evaluation::Answer;
 use macros::Expanded;
 use macros::Form;
@@ -198,4 +200,37 @@ pub fn put_term(at: usize, next: usize, term: Term, values: &mut [usize; 8])
         s.four as usize,
         s.six as usize,
     ];
+}
+
+// Writes what appending an entry answers: the length of the new table, or the place of a refusal, 0 where it has none; answers the number.
+pub fn put_appended(answer: AppendAnswer, size: &mut usize, place: &mut usize) -> u8
+    ensures { λ r. ⌜ (r ∷ now (size .exit) ∷ now (place .exit) ∷ []) ≡ appendedNumbers (now (size .entry)) (outcomeOf answer) ⌝ }
+{
+    match answer {
+        AppendAnswer::Appended(end) => {
+            *size = end;
+            *place = 0;
+            0
+        }
+        AppendAnswer::TooLong => {
+            *place = 0;
+            24
+        }
+        AppendAnswer::Malformed(at) => {
+            *place = at;
+            25
+        }
+        AppendAnswer::Repeated(at) => {
+            *place = at;
+            26
+        }
+        AppendAnswer::InTable => {
+            *place = 0;
+            64
+        }
+        AppendAnswer::Unfit => {
+            *place = 0;
+            65
+        }
+    }
 }

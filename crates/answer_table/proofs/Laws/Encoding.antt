@@ -2,7 +2,7 @@
 -- entry is read, whatever follows it.
 use Prim.Native.Nat.{ℕ, _+_, _-_, _≤_}
 use mathlib.Core.Path.{_≡_, refl, sym, ap, subst, _∙_}
-use mathlib.Core.List.{List, [], _∷_, _++_, append-assoc}
+use mathlib.Core.List.{List, [], _∷_, _++_, append-nil, append-assoc}
 use mathlib.Core.Bool.{Bool, true, false, cond}
 use native.Mathlib.Omega.{arith}
 use lib.Dec.{ltb, eqb}
@@ -10,10 +10,11 @@ use lib.ListN.{length, take, drop, length-append, length-drop, drop-of-length-le
 use lib.Seq.{take-at, drop-at, drop-drop, take-add, getD-drop, length-take-le}
 use borrow.Author.Tests.{ltb-false, le-ltb, eqb-true, eq-eqb}
 use Rattle.text.specs.Bytes.{at}
-use Rattle.text.proofs.Laws.Tests.{cond-elim, and-left, and-right}
+use Rattle.text.proofs.Laws.Tests.{cond-elim, and-left, and-right, true-false}
 use Rattle.domain.specs.Names.{isTableName}
 use Rattle.answer_table.specs.Layout.{Entry, isKind, isStatus, Two, two, Items, none, more, mayHold, body, Encodes, entry}
-use Rattle.answer_table.specs.Reader.{number, itemsOf, itemsFit, headerOf, nameOf, itemBytes, isWell, entryOf}
+use Rattle.answer_table.specs.Answers.{NoEntry}
+use Rattle.answer_table.specs.Reader.{number, itemsOf, itemsFit, headerOf, nameOf, itemBytes, isEntry, isWell, entryOf}
 use Rattle.answer_table.specs.declared.entries.Header.{Header}
 use Rattle.answer_table.specs.declared.entries.Header.the-variants.{Whole, Broken}
 use Rattle.answer_table.proofs.Laws.Items.{two-front, of-none, items-sound, items-complete}
@@ -86,9 +87,9 @@ unfolding itemBytes
 bytes-length s n size h = length-take-le (size - (6 + n)) (drop (6 + n) s) (simp length-drop (omega arith))
 
 -- items, and none where the status is 2 or 3
-record Held (kind status : ℕ) (i : List ℕ) : Type 0 where
-  held : Items kind i (itemsOf i)
-  may : mayHold status (itemsOf i) ≡ true
+pub record Held (kind status : ℕ) (i : List ℕ) : Type 0 where
+  pub held : Items kind i (itemsOf i)
+  pub may : mayHold status (itemsOf i) ≡ true
 
 zero-may : (status : ℕ) (ds : List (List ℕ)) → eqb status 0 ≡ true → mayHold status ds ≡ true
 unfolding mayHold
@@ -100,15 +101,28 @@ unfolding mayHold
 held-none kind status i e =
     record { held = rw (e, of-none) none; may = ap (mayHold status) (ap itemsOf e ∙ of-none) }
 
-held-items : (s : List ℕ) (kind status n size : ℕ) → size ≤ length s
-    → cond (eqb status 0) (itemsFit kind (itemBytes s n size)) (eqb size (6 + n)) ≡ true → Held kind status (itemBytes s n size)
-held-items s kind status n size l h =
-    let i = itemBytes s n size in
-    cond-elim (λ (b : Bool). b ≡ true → Held kind status i) (eqb status 0) {x = itemsFit kind i} {y = eqb size (6 + n)}
+held-items : (kind status : ℕ) (i : List ℕ) → cond (eqb status 0) (itemsFit kind i) (eqb (length i) 0) ≡ true → Held kind status i
+held-items kind status i h =
+    cond-elim (λ (b : Bool). b ≡ true → Held kind status i) (eqb status 0) {x = itemsFit kind i} {y = eqb (length i) 0}
     (λ z f. record { held = items-sound kind i f; may = zero-may status (itemsOf i) z })
-    (λ _ f. let e = eqb-true size (6 + n) f in
-    held-none kind status i (drop-of-length-le i {i = 0} (omega (arith, bytes-length s n size l))))
+    (λ _ f. let e = eqb-true (length i) 0 f in held-none kind status i (drop-of-length-le i {i = 0} (omega arith)))
     h
+
+-- what the test of an entry says of its items
+pub entry-items : (kind status : ℕ) (name i : List ℕ) → isEntry kind status name i ≡ true → Held kind status i
+unfolding isEntry
+entry-items kind status name i h =
+    held-items kind status i (and-right (isTableName name) _ (and-right (isStatus status) _ (and-right (isKind kind) _ h)))
+
+-- what it takes for well-formed is so, in any bytes that lay it out
+pub entry-encoded : {l k : List ℕ} {kind : ℕ} (status : ℕ) (name i : List ℕ) → Two l (length (body k status name i)) → Two k kind
+    → isEntry kind status name i ≡ true → Encodes (l ++ body k status name i) (record { kind = kind; status = status; name = name; items = itemsOf i })
+unfolding isEntry
+entry-encoded {kind = kind} status name i tl tk h =
+    let h₁ = and-right (isKind kind) _ h in
+    let h₂ = and-right (isStatus status) _ h₁ in
+    let q = entry-items kind status name i h in
+    entry tl tk (and-left (isKind kind) _ h) (and-left (isStatus status) _ h₁) (and-left (isTableName name) _ h₂) (q .held) (q .may)
 
 -- the same bytes by the productions
 module _ (s : List ℕ) (kind status n size : ℕ) (p : Placed s kind status n size) where
@@ -140,13 +154,8 @@ pub well-sound : (s : List ℕ) (kind status n size : ℕ) → headerOf s ≡ Wh
 unfolding isWell entryOf
 well-sound s kind status n size e h =
     let p = placed s kind status n size e in
-    let h₁ = and-right (isKind kind) _ h in
-    let h₂ = and-right (isStatus status) _ h₁ in
-    let h₃ = and-right (isTableName (nameOf s n)) _ h₂ in
-    let q = held-items s kind status n size (p .within) h₃ in
     subst (λ (w : List ℕ). Encodes w (entryOf s kind status n size)) (sym (whole s kind status n size p))
-    (entry (whole-size s kind status n size p) (whole-kind s kind status n size p) (and-left (isKind kind) _ h) (and-left (isStatus status) _ h₁)
-    (and-left (isTableName (nameOf s n)) _ h₂) (q .held) (q .may))
+    (entry-encoded status (nameOf s n) (itemBytes s n size) (whole-size s kind status n size p) (whole-kind s kind status n size p) h)
 
 -- a well-formed entry w of what e holds, read with anything after it
 pub record Read (w rest : List ℕ) (e : Entry) : Type 0 where
@@ -199,12 +208,12 @@ no-bytes : {kind : ℕ} {i : List ℕ} {items : List (List ℕ)} → Items kind 
 no-bytes none e = refl
 no-bytes (more t h r) e = let z : _≡_ {A = ℕ} 0 1 = cc in cc
 
-held-test : (kind status : ℕ) (name i : List ℕ) (items : List (List ℕ)) (size : ℕ) → size ≡ 6 + (length name + length i) → Items kind i items
-    → mayHold status items ≡ true → cond (eqb status 0) (itemsFit kind i) (eqb size (6 + length name)) ≡ true
-held-test kind status name i items size l it may =
-    cond-elim (λ (b : Bool). b ≡ true) (eqb status 0) {x = itemsFit kind i} {y = eqb size (6 + length name)}
+held-test : (kind status : ℕ) (i : List ℕ) (items : List (List ℕ)) → Items kind i items → mayHold status items ≡ true
+    → cond (eqb status 0) (itemsFit kind i) (eqb (length i) 0) ≡ true
+held-test kind status i items it may =
+    cond-elim (λ (b : Bool). b ≡ true) (eqb status 0) {x = itemsFit kind i} {y = eqb (length i) 0}
     (λ _. items-complete it .0)
-    (λ k. let e = ap length (no-bytes it (may-none status items may k)) in eq-eqb size (6 + length name) (omega arith))
+    (λ k. eq-eqb (length i) 0 (ap length (no-bytes it (may-none status items may k))))
 
 laid-bytes : {l k : List ℕ} {m kind : ℕ} → Two l m → Two k kind → (status : ℕ) (name i rest : List ℕ) → m ≡ 4 + (length name + length i)
     → Laid (l ++ (k ++ (status ∷ length name ∷ (name ++ (i ++ rest))))) kind status name i rest (2 + m)
@@ -220,9 +229,17 @@ laid-bytes two two status name i rest e =
       total = omega arith;
     }
 
-pub well-complete : {w : List ℕ} {e : Entry} → Encodes w e → (rest : List ℕ) → Read w rest e
-unfolding isWell entryOf body
-well-complete (entry {l = l} {k = k} {name = name} {i = i} {kind = kind} {status = status} {items = items} tl tk hk hs hn it may) rest =
+-- bytes that lay out an entry, well-formed or not, read with anything after them
+record LaidOut (w rest : List ℕ) (kind status : ℕ) (name i : List ℕ) : Type 0 where
+  header : headerOf (w ++ rest) ≡ Whole kind status (length name) (length w)
+  name-read : nameOf (w ++ rest) (length name) ≡ name
+  bytes-read : itemBytes (w ++ rest) (length name) (length w) ≡ i
+  total : length w ≡ 6 + (length name + length i)
+
+laid-out : {l k : List ℕ} {kind : ℕ} (status : ℕ) (name i : List ℕ) → Two l (length (body k status name i)) → Two k kind → (rest : List ℕ)
+    → LaidOut (l ++ body k status name i) rest kind status name i
+unfolding body
+laid-out {l} {k} {kind} status name i tl tk rest =
     let w = l ++ (k ++ (status ∷ length name ∷ (name ++ i))) in
     let m : length (k ++ (status ∷ length name ∷ (name ++ i))) ≡ 4 + (length name + length i) =
     simp length-append (omega (arith, two-front tk [] .size)) in
@@ -230,11 +247,31 @@ well-complete (entry {l = l} {k = k} {name = name} {i = i} {kind = kind} {status
     let p : Laid (w ++ rest) kind status name i rest (length w) = simp (append-assoc, size) (laid-bytes tl tk status name i rest m) in
     record {
       header = read-header (w ++ rest) kind status name i rest (length w) p;
-      well =
-          simp (hk, hs, read-name (w ++ rest) kind status name i rest (length w) p, hn, read-bytes (w ++ rest) kind status name i rest (length w) p)
-          (held-test kind status name i items (length w) (p .total) it may);
-      holds =
-          simp
-          (read-name (w ++ rest) kind status name i rest (length w) p, read-bytes (w ++ rest) kind status name i rest (length w) p, items-complete it .1);
-      some = omega arith;
+      name-read = read-name (w ++ rest) kind status name i rest (length w) p;
+      bytes-read = read-bytes (w ++ rest) kind status name i rest (length w) p;
+      total = p .total;
     }
+
+pub well-complete : {w : List ℕ} {e : Entry} → Encodes w e → (rest : List ℕ) → Read w rest e
+unfolding isWell isEntry entryOf
+well-complete (entry {l = l} {k = k} {name = name} {i = i} {kind = kind} {status = status} {items = items} tl tk hk hs hn it may) rest =
+    let x = laid-out status name i tl tk rest in
+    record {
+      header = x .header;
+      well = simp (hk, hs, x .name-read, hn, x .bytes-read) (held-test kind status i items it may);
+      holds = simp (x .name-read, x .bytes-read, items-complete it .1);
+      some = omega (arith, x .total);
+    }
+
+-- and what it takes for malformed begins no entry
+pub entry-none : {l k : List ℕ} {kind : ℕ} (status : ℕ) (name i : List ℕ) → Two l (length (body k status name i)) → Two k kind
+    → isEntry kind status name i ≡ false → NoEntry (l ++ body k status name i)
+unfolding isWell
+entry-none {l} {k} {kind} status name i tl tk h w after e q p =
+    let r = well-complete p after in
+    let s = l ++ body k status name i in
+    let x = laid-out status name i tl tk [] in
+    let o : s ++ [] ≡ s = append-nil s in
+    let a : isWell s (headerOf s) ≡ true = rw (q, r .header) (r .well) in
+    let b : isWell s (headerOf s) ≡ false = rw (rw o at (x .header), rw o at (x .name-read), rw o at (x .bytes-read)) h in
+    true-false (isWell s (headerOf s)) a b

@@ -15,7 +15,7 @@ use Rattle.text.specs.Lists.{same}
 use Rattle.text.proofs.Laws.Spans.{rest-part}
 use Rattle.domain.specs.Names.{isTableName}
 use Rattle.answer_table.specs.Layout.{isKind, isStatus, isMailExchange, isItem}
-use Rattle.answer_table.specs.Reader.{number, firstItem, otherItems, nextItem, itemsFit, headerOf, nameOf, itemBytes, isWell}
+use Rattle.answer_table.specs.Reader.{number, firstItem, otherItems, nextItem, itemsFit, headerOf, nameOf, itemBytes, isEntry, isWell}
 use Rattle.answer_table.specs.declared.entries.Header.{Header}
 use Rattle.answer_table.specs.declared.entries.Header.the-variants.{Whole, Broken}
 use Rattle.answer_table.proofs.Laws.Items.{fit-of, fit-empty}
@@ -108,35 +108,38 @@ module _ (s : List ℕ) (n k kind : ℕ) (name : List ℕ) where
   pub pair-other : (k ≡ kind → ⊥) → false ≡ (eqb k kind && same (nameOf s n) name)
   pair-other h = simp (ne-eqb k kind h)
 
+-- `is_entry`
+module _ (kind status : ℕ) (name items : List ℕ) (k : Bool) (ek : k ≡ isKind kind) where
+  pub entry-kind : k ≡ false → false ≡ isEntry kind status name items
+  unfolding isEntry
+  entry-kind q = simp (sym ek ∙ q)
+
+  module _ (qk : k ≡ true) (t : Bool) (et : t ≡ isStatus status) where
+    pub entry-status : t ≡ false → false ≡ isEntry kind status name items
+    unfolding isEntry
+    entry-status q = simp (sym ek ∙ qk, sym et ∙ q)
+
+    module _ (qt : t ≡ true) (d : Bool) (ed : d ≡ isTableName name) where
+      pub entry-name : d ≡ false → false ≡ isEntry kind status name items
+      unfolding isEntry
+      entry-name q = simp (sym ek ∙ qk, sym et ∙ qt, sym ed ∙ q)
+
+      module _ (qd : d ≡ true) where
+        pub entry-items : status ≡ 0 → (r : Bool) → r ≡ itemsFit kind items → r ≡ isEntry kind status name items
+        unfolding isEntry
+        entry-items z r er = er ∙ simp (sym ek ∙ qk, sym et ∙ qt, sym ed ∙ qd, eq-eqb status 0 z)
+
+        pub entry-void : (status ≡ 0 → ⊥) → eqb (length items) 0 ≡ isEntry kind status name items
+        unfolding isEntry
+        entry-void z = simp (sym ek ∙ qk, sym et ∙ qt, sym ed ∙ qd, ne-eqb status 0 z)
+
 -- `is_well`
 module _ (s : List ℕ) (h : Header) where
   pub well-broken : h ≡ Broken → false ≡ isWell s h
   unfolding isWell
   well-broken e = simp e
 
-  module _ (kind status n size : ℕ) (e : h ≡ Whole kind status n size) (k : Bool) (ek : k ≡ isKind kind) where
-    pub well-kind : k ≡ false → false ≡ isWell s h
-    unfolding isWell
-    well-kind q = simp (e, sym ek ∙ q)
-
-    module _ (qk : k ≡ true) (t : Bool) (et : t ≡ isStatus status) where
-      pub well-status : t ≡ false → false ≡ isWell s h
-      unfolding isWell
-      well-status q = simp (e, sym ek ∙ qk, sym et ∙ q)
-
-      module _ (qt : t ≡ true) (w : List ℕ) (ew : w ≡ nameOf s n) (d : Bool) (ed : d ≡ isTableName w) where
-        name-test : d ≡ isTableName (nameOf s n)
-        name-test = ed ∙ ap isTableName ew
-
-        pub well-name : d ≡ false → false ≡ isWell s h
-        unfolding isWell
-        well-name q = simp (e, sym ek ∙ qk, sym et ∙ qt, sym name-test ∙ q)
-
-        module _ (qd : d ≡ true) where
-          pub well-items : status ≡ 0 → (b : List ℕ) → b ≡ itemBytes s n size → (r : Bool) → r ≡ itemsFit kind b → r ≡ isWell s h
-          unfolding isWell
-          well-items z b eb r er = er ∙ simp (e, sym ek ∙ qk, sym et ∙ qt, sym name-test ∙ qd, eq-eqb status 0 z, eb)
-
-          pub well-none : (status ≡ 0 → ⊥) → eqb size (6 + n) ≡ isWell s h
-          unfolding isWell
-          well-none z = simp (e, sym ek ∙ qk, sym et ∙ qt, sym name-test ∙ qd, ne-eqb status 0 z)
+  pub well-whole : (kind status n size : ℕ) → h ≡ Whole kind status n size → (w i : List ℕ) → w ≡ nameOf s n → i ≡ itemBytes s n size
+      → (r : Bool) → r ≡ isEntry kind status w i → r ≡ isWell s h
+  unfolding isWell
+  well-whole kind status n size e w i ew ei r er = er ∙ simp (e, ew, ei)

@@ -5,12 +5,11 @@ use mathlib.Core.Path.{_≡_, refl, sym, ap, _∙_}
 use mathlib.Core.List.{List, _∷_, _++_}
 use mathlib.Core.Bool.{Bool, true, false, _&&_}
 use native.Mathlib.Omega.{arith}
-use lib.ListN.{length, take, drop, length-take}
-use lib.Seq.{take-at}
+use lib.ListN.{length, take}
 use borrow.Author.Tests.{eq-eqb, ne-eqb, le-leb, lt-leb}
 use Rattle.text.specs.Texts.{bytes}
 use Rattle.text.specs.Writing.{Wrote}
-use Rattle.text.proofs.Laws.Writing.{wrote-front, wrote-over, wrote-length, length-wrote}
+use Rattle.text.proofs.Laws.Writing.{wrote-over, value-taken}
 use Rattle.address.specs.declared.Address.{Address}
 use Rattle.address.specs.Octets.{asClient}
 use Rattle.domain.specs.Normal.{Naming, malformed, withoutDot, lowered, nameAnswer, nameBuffer}
@@ -29,20 +28,6 @@ use Rattle.macros.specs.declared.Form.{Form}
 use Rattle.macros.specs.declared.Expanded.{Expanded}
 use Rattle.macros.specs.declared.Expanded.the-variants.{Written, Refused}
 use Rattle.macros.proofs.Laws.Senders.{local-length, sender-length}
-
--- a text that was written into an array with room for it: what was written is read back
-module _ (xs z v : List ℕ) (n : ℕ) (w : Wrote xs z 0 v n) (h : length xs ≤ length z) where
-  value-size : n ≡ length xs
-  value-size = let r = w .room in wrote-length xs z v n w (omega arith)
-
-  pub value-taken : take n v ≡ xs
-  value-taken = rw (wrote-front xs z v n w h) (take-at xs (drop (length xs) z) n (sym value-size))
-
-  pub value-inside : n ≤ length v
-  value-inside = omega (arith, value-size, length-wrote z 0 xs v n w)
-
-  pub value-whole : n ≡ length (take n v)
-  value-whole = simp length-take (let i = value-inside in omega arith)
 
 -- the room of each array
 pub dotted-fits : (a : Address) (z : List ℕ) → length z ≡ 63 → length (dotted a) ≤ length z

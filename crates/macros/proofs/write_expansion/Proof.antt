@@ -1,5 +1,6 @@
 -- `macros::write_expansion` meets its contract. From the laws of Expanding.
-use Rattle.macros.proofs.Laws.Expanding.{value-inside, value-whole, sender-fits, local-fits, with-sender-texts}
+use Rattle.text.proofs.Laws.Writing.{value-inside, value-whole}
+use Rattle.macros.proofs.Laws.Expanding.{sender-fits, local-fits, with-sender-texts}
 use borrow.Author.Needs.{needs}
 use Rattle.macros.proofs.write_expansion.Statement.{statement}
 use Rattle.macros.proofs.write_expansion.Tie as tie

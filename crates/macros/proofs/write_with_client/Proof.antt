@@ -1,5 +1,6 @@
 -- `macros::write_with_client` meets its contract. From the laws of Expanding.
-use Rattle.macros.proofs.Laws.Expanding.{value-inside, value-whole, dotted-fits, family-fits, readable-fits, decimal-fits, with-client-texts}
+use Rattle.text.proofs.Laws.Writing.{value-inside, value-whole}
+use Rattle.macros.proofs.Laws.Expanding.{dotted-fits, family-fits, readable-fits, decimal-fits, with-client-texts}
 use borrow.Author.Needs.{needs}
 use Rattle.macros.proofs.write_with_client.Statement.{statement}
 use Rattle.macros.proofs.write_with_client.Tie as tie

@@ -10,11 +10,11 @@ use lib.Dec.{ltb}
 use borrow.Author.Tests.{lt-ltb, le-ltb, eq-eqb, ne-eqb, le-leb, lt-leb}
 use Rattle.text.specs.Bytes.{part}
 use Rattle.text.specs.Writing.{Wrote, overwritten}
+use Rattle.text.proofs.Laws.Writing.{value-taken}
 use Rattle.address.specs.declared.Address.{Address}
 use Rattle.domain.specs.Names.{atOrBelow}
 use Rattle.address_text.specs.Forms.{reversedName}
 use Rattle.address_text.proofs.Laws.Lengths.{length-reversed}
-use Rattle.macros.proofs.Laws.Expanding.{value-taken}
 use Rattle.answer_table.specs.declared.Found.{Found}
 use Rattle.answer_table.specs.Reader.{itemsOf, findAt}
 use Rattle.answer_table.proofs.Laws.Items.{of-more, of-none}

@@ -1,5 +1,5 @@
 -- `mechanism_lookups::ask_ptr` meets its contract. From the laws of Replies.
-use Rattle.macros.proofs.Laws.Expanding.{value-inside, value-whole}
+use Rattle.text.proofs.Laws.Writing.{value-inside, value-whole}
 use Rattle.mechanism_lookups.proofs.Laws.Replies.{ptr-says, reversed-fits}
 use borrow.Author.Needs.{needs}
 use Rattle.mechanism_lookups.proofs.ask_ptr.Statement.{statement}

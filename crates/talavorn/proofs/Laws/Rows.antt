@@ -11,13 +11,15 @@ use Rattle.text.proofs.Laws.Writing.{wrote-over, over-fits}
 use Rattle.address.specs.declared.Address.{Address}
 use Rattle.address.specs.declared.Address.the-variants.{IPv4, IPv6}
 use Rattle.address.specs.Octets.{octetsOf, octets}
+use Rattle.answer_entry.specs.declared.AppendAnswer.{AppendAnswer}
+use Rattle.answer_entry.specs.Numbers.{outcomeOf}
 use Rattle.macros.specs.declared.Expanded.{Expanded}
 use Rattle.records.specs.declared.Term.{Term}
 use Rattle.records.proofs.Term as term-type
 use Rattle.rules.specs.declared.Counts.{Counts}
 use Rattle.evaluation.specs.declared.Answer.{Answer}
 use Rattle.talavorn.specs.declared.numbers.Shape.{Shape}
-use Rattle.talavorn.specs.Numbers.{encoded, expandedNumbers, shape, networkShape, shapeOf, Inside, networkOf, termRow}
+use Rattle.talavorn.specs.Numbers.{encoded, appendedNumbers, expandedNumbers, shape, networkShape, shapeOf, Inside, networkOf, termRow}
 
 -- `put_answer`
 module _ (x : Answer) where
@@ -36,6 +38,10 @@ module _ (x : Answer) where
   pub answer-refused-at : (n p : ℕ) → x ≡ Answer.RefusedAt n p → (n ∷ p ∷ 0 ∷ 0 ∷ 0 ∷ []) ≡ encoded x
   unfolding encoded
   answer-refused-at n p e = rw e
+
+-- `put_appended`: the row of the case that the answer is
+pub appended-row : (size : ℕ) (x y : AppendAnswer) → x ≡ y → (r : List ℕ) → r ≡ appendedNumbers size (outcomeOf y) → r ≡ appendedNumbers size (outcomeOf x)
+appended-row size x y e r h = rw e h
 
 -- `put_expanded`
 module _ (x : Expanded) (n : ℕ) where

@@ -9,13 +9,13 @@ use lib.Seq.{take-nil}
 use Rattle.text.specs.Bytes.{part}
 use Rattle.text.specs.Texts.{bytes}
 use Rattle.text.specs.Writing.{Wrote, overwritten}
+use Rattle.text.proofs.Laws.Writing.{value-taken}
 use Rattle.address.specs.declared.Address.{Address}
 use Rattle.answer_table.specs.declared.Found.{Found}
 use Rattle.answer_table.specs.Reader.{firstItem, itemsOf, nextItem, findAt}
 use Rattle.answer_table.proofs.Laws.Items.{items-step, items-end, next-further}
 use Rattle.address_text.specs.Forms.{reversedName}
 use Rattle.address_text.proofs.Laws.Lengths.{length-reversed}
-use Rattle.macros.proofs.Laws.Expanding.{value-taken}
 use Rattle.rules.specs.declared.Counts.{Counts}
 use Rattle.rules.specs.declared.PValue.{PValue}
 use Rattle.rules.specs.Tree.{failed, items, Table, ask, bind, run}

@@ -1,5 +1,5 @@
 -- `target_name::find_p` meets its contract. From the laws of Asking.
-use Rattle.macros.proofs.Laws.Expanding.{value-inside, value-whole}
+use Rattle.text.proofs.Laws.Writing.{value-inside, value-whole}
 use Rattle.target_name.proofs.Laws.Asking.{reversed-fits, p-asked}
 use borrow.Author.Needs.{needs}
 use Rattle.target_name.proofs.find_p.Statement.{statement}

@@ -6,8 +6,8 @@ use native.Mathlib.Nat.{add-zero, zero-add, add-suc, suc-add}
 use mathlib.Core.Path.{_≡_, refl, sym, ap, _∙_}
 use mathlib.Core.Logic.{_⊎_, ⊎-elim}
 use mathlib.Core.List.{List, [], _∷_, _++_, map, map-append, map-id, append-nil}
-use lib.ListN.{length, getD, take, drop, set, length-append, take-append-drop, drop-of-length-le}
-use lib.Seq.{sets, length-sets, sets-eq, set-out, take-suc, take-all, length-take-le}
+use lib.ListN.{length, getD, take, drop, set, length-append, length-take, take-append-drop, drop-of-length-le}
+use lib.Seq.{sets, length-sets, sets-eq, set-out, take-suc, take-all, take-at, length-take-le}
 use Rattle.text.specs.Writing.{Wrote, overwritten}
 use Rattle.text.proofs.Laws.Orders.{le-or-lt}
 
@@ -69,6 +69,20 @@ wrote-front xs before after n w h = wrote-over xs before after n w ∙ over-fits
 
 pub wrote-length : (xs before after : List ℕ) (n : ℕ) → Wrote xs before 0 after n → length xs ≤ 18446744073709551615 → n ≡ length xs
 wrote-length xs before after n w h = omega (arith, w .next-place)
+
+-- a text that was written into an array with room for it: what was written is read back
+module _ (xs z v : List ℕ) (n : ℕ) (w : Wrote xs z 0 v n) (h : length xs ≤ length z) where
+  value-size : n ≡ length xs
+  value-size = let r = w .room in wrote-length xs z v n w (omega arith)
+
+  pub value-taken : take n v ≡ xs
+  value-taken = rw (wrote-front xs z v n w h) (take-at xs (drop (length xs) z) n (sym value-size))
+
+  pub value-inside : n ≤ length v
+  value-inside = omega (arith, value-size, length-wrote z 0 xs v n w)
+
+  pub value-whole : n ≡ length (take n v)
+  value-whole = simp length-take (let i = value-inside in omega arith)
 
 -- `put` past the end of the buffer
 module _ (out : List ℕ) (at b : ℕ) (h : length out ≤ at) where

@@ -1,8 +1,8 @@
--- `case_support::entries::put_entry` meets its contract. From the laws of Entries.
-use Rattle.case_support.proofs.Laws.Entries.{entry-written}
+-- `encoding::put_entry` meets its contract. From the laws of Encoding.
+use Rattle.answer_entry.proofs.Laws.Encoding.{entry-written}
 use borrow.Author.Needs.{needs}
-use Rattle.case_support.proofs.entries.put_entry.Statement.{statement}
-use Rattle.case_support.proofs.entries.put_entry.Tie as tie
+use Rattle.answer_entry.proofs.encoding.put_entry.Statement.{statement}
+use Rattle.answer_entry.proofs.encoding.put_entry.Tie as tie
 
 add-put-number : tie.Need-add-put-number
 add-put-number c = search needs

@@ -1,8 +1,8 @@
--- `case_support::entries::put_number` meets its contract. From the laws of Entries.
-use Rattle.case_support.proofs.Laws.Entries.{two-written}
+-- `encoding::put_number` meets its contract. From the laws of Encoding.
+use Rattle.answer_entry.proofs.Laws.Encoding.{two-written}
 use borrow.Author.Needs.{needs}
-use Rattle.case_support.proofs.entries.put_number.Statement.{statement}
-use Rattle.case_support.proofs.entries.put_number.Tie as tie
+use Rattle.answer_entry.proofs.encoding.put_number.Statement.{statement}
+use Rattle.answer_entry.proofs.encoding.put_number.Tie as tie
 
 cast-put : tie.Need-cast-put
 cast-put c = search needs

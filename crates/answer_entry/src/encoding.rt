@@ -1,11 +1,11 @@
-// Entries put into an answer table, whether they are well-formed or not.
+// Entries put at a place of an answer table, whether they are well-formed or not.
 ghost use Rattle.text.specs.Writing.{Wrote};
-ghost use Rattle.case_support.specs.Entries.{twoBytes, headBytes, entryBytes};
+ghost use Rattle.answer_entry.specs.Encoding.{lowBytes, headBytes, writtenBytes};
 use text::writing;
 
 // The two bytes of a number below 65,536, the lower one first.
 pub fn put_number(out: &mut [u8], at: usize, n: usize) -> usize
-    ensures { λ r. ⌜ Wrote (twoBytes n) (now (out .entry)) at (now (out .exit)) r ⌝ }
+    ensures { λ r. ⌜ Wrote (lowBytes n) (now (out .entry)) at (now (out .exit)) r ⌝ }
 {
     let next = writing::put(out, at, (n % 256) as u8);
     writing::put(out, next, (n / 256 % 256) as u8)
@@ -30,7 +30,7 @@ pub fn put_entry(
     name: &[u8],
     items: &[u8],
 ) -> usize
-    ensures { λ r. ⌜ Wrote (entryBytes kind status (now (name .entry)) (now (items .entry))) (now (out .entry)) at (now (out .exit)) r ⌝ }
+    ensures { λ r. ⌜ Wrote (writtenBytes kind status (now (name .entry)) (now (items .entry))) (now (out .entry)) at (now (out .exit)) r ⌝ }
 {
     let sized = put_number(out, at, 4 + name.len() % 256 + items.len() % 65536);
     let headed = put_head(out, sized, kind, status, name);

@@ -1,8 +1,8 @@
--- `case_support::entries::put_head` meets its contract. From the laws of Entries.
-use Rattle.case_support.proofs.Laws.Entries.{head-written}
+-- `encoding::put_head` meets its contract. From the laws of Encoding.
+use Rattle.answer_entry.proofs.Laws.Encoding.{head-written}
 use borrow.Author.Needs.{needs}
-use Rattle.case_support.proofs.entries.put_head.Statement.{statement}
-use Rattle.case_support.proofs.entries.put_head.Tie as tie
+use Rattle.answer_entry.proofs.encoding.put_head.Statement.{statement}
+use Rattle.answer_entry.proofs.encoding.put_head.Tie as tie
 
 put-number-requires : tie.Need-put-number-requires
 put-number-requires c κs = search needs
