@@ -91,6 +91,6 @@ int main(void)
     for (int i = 0; i < 16; i++)
         strcat(begin, "%{h}");
     make(9, "redirect=", begin, " ");
-    show("a name of 4,080 bytes and 2,048 labels, behind nine redirects");
+    show("a name of 4,080 bytes and 2,033 labels, behind nine redirects");
     return 0;
 }

@@ -1,10 +1,10 @@
-/* Makes each of the other calls of talavorn.h on a few arguments whose answers are known, and prints how many were as they should be. */
+/* Makes the calls of talavorn.h, its wrapper's too, on arguments whose answers are known, and
+ * prints how many were as they should be. */
 #include <stdio.h>
-#include <string.h>
 
 #include "talavorn.h"
 
-#define TEXT(s) (const uint8_t *)(s), sizeof(s) - 1
+#define TEXT(s) (s), sizeof(s) - 1
 
 static int right, wrong;
 
@@ -19,14 +19,20 @@ static void expect(int holds, const char *what)
 }
 
 static const uint8_t client[4] = { 192, 0, 2, 129 }, network[4] = { 192, 0, 2, 0 };
+static const uint8_t mapped[16] = { 0, 0, 0, 0, 0, 0, 0, 0, 0, 0, 255, 255, 192, 0, 2, 129 };
 
 static void records(void)
 {
     size_t place;
-    expect(talavorn_read_record(TEXT("v=spf1"), &place) == 0 && place == 6, "a record without terms");
-    expect(talavorn_read_record(TEXT("v=spf10 -all"), &place) == TALAVORN_NO_VERSION && place == 0, "another version");
-    expect(talavorn_read_record(TEXT("v=spf1 ip4:192.0.2.0/33"), &place) == TALAVORN_BAD_TERM && place == 7, "a length of 33");
-    expect(talavorn_read_record(TEXT("v=spf1 redirect=a.example exp=b.example redirect=c.example"), &place) == TALAVORN_REPEATED_TERM && place == 40,
+    expect(talavorn_read_record(TEXT("v=spf1"), &place) == 0 && place == 6, "no terms");
+    expect(talavorn_read_record(TEXT("v=spf10 -all"), &place) == TALAVORN_NO_VERSION && place == 0,
+           "another version");
+    expect(talavorn_read_record(TEXT("v=spf1 ip4:192.0.2.0/33"), &place) == TALAVORN_BAD_TERM
+               && place == 7,
+           "a length of 33");
+    expect(talavorn_read_record(TEXT("v=spf1 redirect=a.example exp=b.example redirect=c.example"),
+                                &place) == TALAVORN_REPEATED_TERM
+               && place == 40,
            "a second redirect");
 }
 
@@ -34,20 +40,24 @@ static void terms(void)
 {
     static const char record[] = "v=spf1 mx//64 ip4:192.0.2.0/24 -all exp=why.%{d}";
     static const size_t expected[4][TALAVORN_TERM_VALUES] = {
-        { 7, 13, TALAVORN_MX, '+', 9, 9, 32, 64 },
-        { 14, 30, TALAVORN_IP4, '+', 18, 27, 24, 0 },
-        { 31, 35, TALAVORN_ALL, '-', 35, 35, 0, 0 },
-        { 36, 48, TALAVORN_EXP, 0, 40, 48, 0, 0 },
+        { 7, 13, TALAVORN_TERM_MX, '+', 9, 9, 32, 64 },
+        { 14, 30, TALAVORN_TERM_IP4, '+', 18, 27, 24, 0 },
+        { 31, 35, TALAVORN_TERM_ALL, '-', 35, 35, 0, 0 },
+        { 36, 48, TALAVORN_TERM_EXP, 0, 40, 48, 0, 0 },
     };
     size_t values[TALAVORN_TERM_VALUES], at = 6;
     uint8_t octets[16] = { 0 };
     for (int i = 0; i < 4; i++) {
-        expect(talavorn_read_term(TEXT(record), at, values, octets) == TALAVORN_TERM && memcmp(values, expected[i], sizeof values) == 0, "a term");
+        expect(talavorn_read_term(TEXT(record), at, values, octets) == TALAVORN_TERM
+                   && memcmp(values, expected[i], sizeof values) == 0,
+               "a term");
         at = values[TALAVORN_TERM_NEXT];
     }
     expect(memcmp(octets, network, 4) == 0 && octets[4] == 0, "the network's octets");
     expect(talavorn_read_term(TEXT(record), at, values, octets) == TALAVORN_END, "the end");
-    expect(talavorn_read_term(TEXT(record), 49, values, octets) == TALAVORN_BEYOND_RECORD && values[0] == 49, "a place beyond the record");
+    expect(talavorn_read_term(TEXT(record), 49, values, octets) == TALAVORN_BEYOND_RECORD
+               && values[0] == 49,
+           "a place beyond the record");
 }
 
 static void expansions(void)
@@ -55,7 +65,9 @@ static void expansions(void)
     uint8_t out[16];
     size_t size;
 #define EXPAND(form, text, room) \
-    talavorn_expand(form, TEXT(text), client, 4, TEXT("email.example.com"), TEXT("strong-bad@email.example.com"), TEXT("h.example"), TEXT(""), TEXT(""), 7, out, room, &size)
+    talavorn_expand(form, TEXT(text), client, 4, TEXT("email.example.com"), \
+                    TEXT("strong-bad@email.example.com"), TEXT("h.example"), TEXT(""), TEXT(""), \
+                    7, out, room, &size)
 #define IS(text) (size == sizeof(text) - 1 && memcmp(out, text, size) == 0)
     expect(EXPAND(0, "%{lr-}", 16) == 0 && IS("bad.strong"), "%{lr-}");
     expect(EXPAND(0, "%{d2r}", 16) == 0 && IS("example.email"), "%{d2r}");
@@ -63,6 +75,10 @@ static void expansions(void)
     expect(EXPAND(0, "%{t}", 16) == TALAVORN_BAD_MACRO, "t in a domain-spec");
     expect(EXPAND(1, "at %{t}", 16) == 0 && IS("at 7"), "t in an explanation");
     expect(EXPAND(2, "%{d}", 16) == TALAVORN_BAD_FORM, "a form that is none");
+    expect(talavorn_expand(0, TEXT("%{i}"), mapped, 16, TEXT("a.b"), TEXT("u@a.b"), TEXT(""),
+                           TEXT(""), TEXT(""), 7, out, 16, &size) == 0
+               && IS("192.0.2.129"),
+           "a mapped client");
 }
 
 static void matches(void)
@@ -72,16 +88,526 @@ static void matches(void)
     expect(talavorn_matches(client, 4, network, 4, 0) == 1, "/0");
     expect(talavorn_matches(client, 4, client, 4, 33) == 0, "/33");
     expect(talavorn_matches(client, 3, network, 4, 0) == TALAVORN_BAD_ADDRESS, "three octets");
+    expect(talavorn_matches(mapped, 16, network, 4, 24) == 0, "a mapped address");
+    expect(talavorn_matches(mapped + 12, 4, network, 4, 24) == 1, "its last four octets");
 }
+
+#define GONE "\x0f\0\x10\0\x03\x0b" "example.com" /* no TXT records, since there is no such name */
 
 static void tables(void)
 {
-    static const uint8_t table[] = "\x0f\0\x10\0\x03\x0b" "example.com" "\x0f\0\x10\0\x03\x0b" "example.com";
+    static const char table[] = GONE GONE;
     size_t place;
     expect(talavorn_check_table(table, 0, &place) == 0 && place == 0, "no entry");
     expect(talavorn_check_table(table, 17, &place) == 0 && place == 1, "one entry");
-    expect(talavorn_check_table(table, 34, &place) == TALAVORN_REPEATED_ENTRY && place == 17, "the same twice");
-    expect(talavorn_check_table(table, 33, &place) == TALAVORN_BAD_ENTRY && place == 17, "half an entry");
+    expect(talavorn_check_table(table, 34, &place) == TALAVORN_REPEATED_ENTRY && place == 17,
+           "the same twice");
+    expect(talavorn_check_table(table, 33, &place) == TALAVORN_BAD_ENTRY && place == 17,
+           "half an entry");
+}
+
+/* The table under trial, and a copy of its whole buffer. */
+static uint8_t table[65536], before[65536];
+static size_t size, place;
+
+static void begin_with(const void *bytes, size_t len)
+{
+    memset(table, 0xee, sizeof table);
+    memcpy(table, bytes, len);
+    size = len;
+}
+
+static uint8_t append(
+    uint16_t kind, uint8_t status, const void *name, size_t name_len, const void *items,
+    size_t items_len, size_t room)
+{
+    memcpy(before, table, sizeof table);
+    place = 77;
+    return talavorn_append_entry(
+        kind, status, name, name_len, items, items_len, table, room, &size, &place);
+}
+
+/* Whether a refusal has this place, and left the table and its length as they were. */
+static int kept(size_t len, size_t at)
+{
+    return size == len && place == at && memcmp(table, before, sizeof table) == 0;
+}
+
+/* Whether an entry was written behind the first `len` bytes, and no byte besides. */
+static int added(size_t len, const void *entry, size_t entry_len)
+{
+    return size == len + entry_len && place == 0 && memcmp(table, before, len) == 0
+           && memcmp(table + len, entry, entry_len) == 0
+           && memcmp(table + size, before + size, sizeof table - size) == 0;
+}
+
+static void additions(void)
+{
+    begin_with("", 0);
+    expect(append(TALAVORN_TYPE_TXT, TALAVORN_ANSWERED, TEXT("Example.COM"), TEXT("\x06\0v=SPF1"),
+                  25) == 0
+               && added(0, TEXT("\x17\0\x10\0\0\x0b" "example.com" "\x06\0v=SPF1")),
+           "an entry in a buffer of its length");
+    expect(append(TALAVORN_TYPE_MX, TALAVORN_NO_SUCH_NAME, TEXT("example.com"), NULL, 0, 65535) == 0
+               && added(25, TEXT("\x0f\0\x0f\0\x03\x0b" "example.com")),
+           "a second entry");
+    expect(append(TALAVORN_TYPE_A, TALAVORN_ANSWERED, TEXT("example.com"),
+                  TEXT("\x04\0\xc0\0\x02\x01" "\x04\0\xc0\0\x02\x02"), 65535) == 0
+               && added(42, TEXT("\x1b\0\x01\0\0\x0b" "example.com" "\x04\0\xc0\0\x02\x01"
+                                 "\x04\0\xc0\0\x02\x02")),
+           "two items");
+    expect(talavorn_check_table(table, size, &place) == 0 && place == 3, "three entries");
+}
+
+static void refusals(void)
+{
+    uint8_t name[254];
+    const uint16_t a = TALAVORN_TYPE_A, txt = TALAVORN_TYPE_TXT;
+    begin_with(TEXT(GONE));
+    size = 100;
+    expect(append(a, 0, TEXT("a.b"), NULL, 0, 99) == TALAVORN_LONG_TABLE && kept(100, 0),
+           "a table beyond its buffer");
+    size = 65536;
+    expect(append(a, 0, TEXT("a.b"), NULL, 0, 65536) == TALAVORN_LONG_TABLE && kept(65536, 0),
+           "a table of 65,536 bytes");
+    begin_with(TEXT(GONE "\0"));
+    expect(append(txt, 0, TEXT("example.com"), NULL, 0, 65535) == TALAVORN_BAD_ENTRY
+               && kept(18, 17),
+           "a malformed entry in the table");
+    begin_with(TEXT(GONE GONE));
+    expect(append(txt, 0, TEXT("example.com"), NULL, 0, 65535) == TALAVORN_REPEATED_ENTRY
+               && kept(34, 17),
+           "a repeated entry in the table");
+    begin_with(TEXT(GONE));
+    expect(append(txt, 0, TEXT("example.com"), NULL, 0, 65535) == TALAVORN_IN_TABLE && kept(17, 0),
+           "a pair that is in the table");
+    expect(append(txt, 1, TEXT("EXAMPLE.com"), NULL, 0, 17) == TALAVORN_IN_TABLE && kept(17, 0),
+           "the same, malformed and without room");
+#define UNFIT(what, ...) \
+    expect(append(__VA_ARGS__) == TALAVORN_UNFIT_ENTRY && kept(17, 0), what)
+    UNFIT("kind 2", 2, 0, TEXT("a.b"), NULL, 0, 65535);
+    UNFIT("status 1", a, 1, TEXT("a.b"), NULL, 0, 65535);
+    UNFIT("an address of three octets", a, 0, TEXT("a.b"), TEXT("\x03\0\x01\x02\x03"), 65535);
+    UNFIT("an item beyond the end", a, 0, TEXT("a.b"), TEXT("\x04\0\x01\x02\x03"), 65535);
+    UNFIT("no such name, with an item", a, 3, TEXT("a.b"), TEXT("\x04\0\x01\x02\x03\x04"), 65535);
+    UNFIT("failed, with an item", a, 2, TEXT("a.b"), TEXT("\x04\0\x01\x02\x03\x04"), 65535);
+    UNFIT("a host in upper case", TALAVORN_TYPE_PTR, 0, TEXT("a.b"), TEXT("\x01\0C"), 65535);
+    UNFIT("a trailing dot", a, 0, TEXT("a.b."), NULL, 0, 65535);
+    UNFIT("an empty name", a, 0, TEXT(""), NULL, 0, 65535);
+    UNFIT("a space in a name", a, 0, TEXT("a b"), NULL, 0, 65535);
+    UNFIT("a buffer that is a byte too small", a, 0, TEXT("a.b"), NULL, 0, 25);
+    memset(name, 'x', sizeof name);
+    name[63] = name[127] = name[191] = '.';
+    UNFIT("a name of 254 bytes", a, 0, name, 254, NULL, 0, 65535);
+    expect(append(a, 0, name, 253, NULL, 0, 276) == 0 && size == 276, "a name of 253 bytes");
+}
+
+/* As many entries, and as many bytes, as a table holds. */
+static void fullness(void)
+{
+    static uint8_t items[65530];
+    char name[16];
+    int fine = 1;
+    begin_with("", 0);
+    for (int i = 0; i < 512; i++) {
+        sprintf(name, "n%d", i);
+        fine = fine && append(TALAVORN_TYPE_A, 0, name, strlen(name), NULL, 0, 65535) == 0;
+    }
+    expect(fine, "512 entries");
+    expect(append(TALAVORN_TYPE_A, 0, TEXT("n"), NULL, 0, 65535) == TALAVORN_UNFIT_ENTRY
+               && kept(size, 0),
+           "a 513th");
+    /* 15 texts of 4,096 bytes, and one that fills up 65,535 with the 7 bytes before the items */
+    for (size_t i = 0; i < 15; i++) {
+        items[4098 * i] = 0;
+        items[4098 * i + 1] = 16;
+    }
+    begin_with("", 0);
+    items[61470] = 4057 % 256;
+    items[61471] = 4057 / 256;
+    expect(append(TALAVORN_TYPE_TXT, 0, TEXT("n"), items, 65529, 65536) == TALAVORN_UNFIT_ENTRY
+               && kept(0, 0),
+           "65,536 bytes");
+    items[61470] = 4056 % 256;
+    expect(append(TALAVORN_TYPE_TXT, 0, TEXT("n"), items, 65528, 65536) == 0 && size == 65535,
+           "65,535 bytes");
+    expect(append(TALAVORN_TYPE_A, 0, TEXT("n"), NULL, 0, 65536) == TALAVORN_UNFIT_ENTRY
+               && kept(65535, 0),
+           "an entry more");
+}
+
+/* The items under trial. */
+static uint8_t buffer[70000];
+static struct talavorn_items items;
+
+static void begin_items(size_t room)
+{
+    memset(buffer, 0xee, sizeof buffer);
+    items = talavorn_items_in(buffer, room);
+}
+
+/* Whether these are the items, all of them taken, and no byte was written behind them. */
+static int items_are(const void *bytes, size_t len)
+{
+    return items.len == len && memcmp(buffer, bytes, len) == 0 && !items.unfit
+           && buffer[len] == 0xee;
+}
+
+static void item_bytes(void)
+{
+    begin_items(sizeof buffer);
+    talavorn_item_a(&items, client);
+    expect(items_are(TEXT("\x04\0\xc0\0\x02\x81")), "an A item");
+    begin_items(sizeof buffer);
+    talavorn_item_aaaa(&items, mapped);
+    expect(items_are(TEXT("\x10\0" "\0\0\0\0\0\0\0\0\0\0\xff\xff\xc0\0\x02\x81")), "an AAAA item");
+    begin_items(sizeof buffer);
+    talavorn_item_mx(&items, 10, talavorn_text("Mail.Example.COM."));
+    talavorn_item_mx(&items, 258, talavorn_text("."));
+    talavorn_item_mx(&items, 0, talavorn_text(""));
+    expect(items_are(TEXT("\x12\0\x0a\0mail.example.com" "\x02\0\x02\x01" "\x02\0\0\0")),
+           "MX items");
+    begin_items(sizeof buffer);
+    talavorn_item_ptr(&items, talavorn_text("A.Z@[`{."));
+    expect(items_are(TEXT("\x07\0" "a.z@[`{")), "a PTR item: no byte but A to Z is lowered");
+    begin_items(sizeof buffer);
+    talavorn_item_txt(&items, talavorn_text("Two."));
+    talavorn_item_txt(&items, talavorn_text(""));
+    talavorn_item_txt(&items, talavorn_text(NULL));
+    expect(items_are(TEXT("\x04\0Two." "\0\0" "\0\0")), "TXT items");
+}
+
+static void item_room(void)
+{
+    static uint8_t bytes[65536];
+    begin_items(8);
+    talavorn_item_a(&items, client);
+    talavorn_item_txt(&items, talavorn_text(""));
+    expect(items_are(TEXT("\x04\0\xc0\0\x02\x81" "\0\0")), "items that fill the room");
+    begin_items(5);
+    talavorn_item_a(&items, client);
+    expect(items.len == 0 && items.unfit && buffer[0] == 0xee, "an item without room");
+    talavorn_item_txt(&items, talavorn_text(""));
+    talavorn_item_ptr(&items, talavorn_text("a.b"));
+    expect(items.len == 0 && items.unfit && buffer[0] == 0xee, "items after it");
+    begin_items(10);
+    talavorn_item_txt(&items, talavorn_text("TEXT"));
+    talavorn_item_ptr(&items, talavorn_text("a.b"));
+    expect(items.len == 6 && items.unfit && memcmp(buffer, "\x04\0TEXT\xee", 7) == 0,
+           "a host without room");
+    items = talavorn_items_in(NULL, 0);
+    talavorn_item_txt(&items, talavorn_text(""));
+    expect(items.len == 0 && items.unfit, "no room at all");
+    begin_items(sizeof buffer);
+    talavorn_item(&items, bytes, 2, bytes, 65533);
+    expect(items.len == 65537 && !items.unfit && buffer[0] == 255 && buffer[1] == 255,
+           "65,535 bytes");
+    begin_items(sizeof buffer);
+    talavorn_item(&items, bytes, 2, bytes, 65534);
+    expect(items.len == 0 && items.unfit, "65,536 bytes, which no 2-byte length says");
+    begin_items(sizeof buffer);
+    talavorn_item(&items, bytes, 65536, NULL, 0);
+    expect(items.len == 0 && items.unfit, "the same in one part");
+}
+
+/* Whether a host name, here in lower case, goes in with PTR and MX without its trailing dot. If not
+ * it is left out of the one and leaves the other's preference alone. */
+static int host_goes_in(const char *host)
+{
+    size_t len = strlen(host);
+    uint8_t ptr[300] = { 0 }, mx[300] = { 0, 0, 7, 0 };
+    int in, out;
+    if (len && host[len - 1] == '.')
+        len--;
+    ptr[0] = (uint8_t)len;
+    memcpy(ptr + 2, host, len);
+    mx[0] = (uint8_t)(2 + len);
+    memcpy(mx + 4, host, len);
+    begin_items(sizeof buffer);
+    talavorn_item_ptr(&items, talavorn_text(host));
+    in = items_are(ptr, 2 + len);
+    out = items_are("", 0);
+    begin_items(sizeof buffer);
+    talavorn_item_mx(&items, 7, talavorn_text(host));
+    in = in && items_are(mx, 4 + len);
+    out = out && items_are(TEXT("\2\0\7\0"));
+    expect(in || out, host);
+    return in;
+}
+
+static void item_hosts(void)
+{
+    char name[256], label[66];
+    memset(name, 'x', sizeof name);
+    name[63] = name[127] = name[191] = '.';
+    name[253] = 0;
+    expect(host_goes_in(name), "a host of 253 bytes");
+    memcpy(name + 253, ".", 2);
+    expect(host_goes_in(name), "the same with a dot");
+    memcpy(name + 253, "x", 2);
+    expect(!host_goes_in(name), "a host of 254 bytes");
+    memcpy(name + 254, ".", 2);
+    expect(!host_goes_in(name), "the same with a dot");
+    memset(label, 'x', sizeof label);
+    label[63] = 0;
+    expect(host_goes_in(label), "a label of 63 bytes");
+    memcpy(label + 63, "x", 2);
+    expect(!host_goes_in(label), "a label of 64 bytes");
+    memcpy(label + 63, ".a", 3);
+    expect(host_goes_in(label), "a label of 63 bytes before another");
+    expect(host_goes_in("a"), "a label of 1 byte");
+    expect(host_goes_in("!.~"), "bytes 33 and 126");
+    expect(!host_goes_in("a b"), "byte 32");
+    expect(!host_goes_in("a\x7f"), "byte 127");
+    expect(!host_goes_in("\xc3\xa4.b"), "bytes over 127");
+    expect(!host_goes_in(".a"), "an empty label at the front");
+    expect(!host_goes_in("a..b"), "an empty label within");
+    expect(!host_goes_in("a.."), "two trailing dots");
+}
+
+/* As PTR names a to k, of which some may be put in with a space. */
+static void put_names(int count, int odd)
+{
+    begin_items(sizeof buffer);
+    for (int i = 0; i < count; i++) {
+        const char name[3] = { (char)('a' + i), i < odd ? ' ' : '.', 0 };
+        talavorn_item_ptr(&items, talavorn_text(name));
+    }
+}
+
+static void item_ten_names(void)
+{
+#define UP_TO_J "\1\0b\1\0c\1\0d\1\0e\1\0f\1\0g\1\0h\1\0i\1\0j"
+    put_names(10, 0);
+    expect(items_are(TEXT("\1\0a" UP_TO_J)), "ten names");
+    put_names(11, 0);
+    expect(items_are(TEXT("\1\0a" UP_TO_J)), "an eleventh");
+    put_names(11, 1);
+    expect(items_are(TEXT(UP_TO_J)), "an eleventh where the first was left out");
+}
+
+static void item_texts(void)
+{
+    static char text[4097], expected[4098] = "\0\x10";
+#define LONG(front, len) \
+    (memset(text, 'x', sizeof text), memcpy(text, front, sizeof(front) - 1), \
+     memcpy(expected + 2, text, 4096), begin_items(sizeof buffer), \
+     talavorn_item_txt(&items, talavorn_bytes(text, len)))
+    LONG("", 4096);
+    expect(items_are(expected, 4098), "a text of 4,096 bytes");
+    LONG("v=spf1 ", 4096);
+    expect(items_are(expected, 4098), "a record of 4,096 bytes");
+    LONG("", 4097);
+    expect(items_are(TEXT("\0\0")), "a text of 4,097 bytes");
+    LONG("v=spf1x", 4097);
+    expect(items_are(TEXT("\0\0")), "one of another version");
+    LONG("v=spf1\0", 4097);
+    expect(items_are(TEXT("\0\0")), "one that has 0 for the space");
+    LONG(" v=spf1 ", 4097);
+    expect(items_are(TEXT("\0\0")), "one with a space before");
+    LONG("v=spf1 ", 4097);
+    expect(items.unfit && items.len == 0, "a record of 4,097 bytes");
+    LONG("V=SpF1 ", 4097);
+    expect(items.unfit && items.len == 0, "the same in upper and lower case");
+}
+
+static void result_names(void)
+{
+    static const char *const names[9] = { "none",      "neutral",   "pass",    "fail", "softfail",
+                                          "temperror", "permerror", "wanting", "refused" };
+    int fine = 1;
+    for (unsigned i = 0; i < 9; i++)
+        fine = fine && strcmp(talavorn_result_name(i), names[i]) == 0;
+    expect(fine && strcmp(talavorn_result_name(TALAVORN_BAD_SENDER), "refused") == 0
+               && strcmp(talavorn_result_name(255), "refused") == 0,
+           "the words of results");
+}
+
+static struct talavorn_mail usual_mail(void)
+{
+    struct talavorn_mail mail = {
+        .client = talavorn_bytes(client, 4),
+        .domain = talavorn_text("Example.com."),
+        .sender = talavorn_text("user@example.com"),
+        .helo = talavorn_text("h.example"),
+        .seconds = 7,
+    };
+    return mail;
+}
+
+/* Adds the items to the table as the answer to what a check wants, and checks again. */
+static struct talavorn_answer answered(void)
+{
+    struct talavorn_mail mail = usual_mail();
+    struct talavorn_answer a = talavorn_check(&mail, table, size);
+    if (talavorn_add(&a, 0, &items, table, sizeof table, &size) != 0)
+        expect(0, "an addition");
+    return talavorn_check(&mail, table, size);
+}
+
+/* What a check answers once the TXT question of example.com has this text. */
+static struct talavorn_answer checked(const char *record)
+{
+    size = 0;
+    begin_items(512);
+    talavorn_item_txt(&items, talavorn_text(record));
+    return answered();
+}
+
+static void checks(void)
+{
+    struct talavorn_mail mail = usual_mail();
+    struct talavorn_answer a = talavorn_check(&mail, NULL, 0);
+    expect(a.number == TALAVORN_WANTING && a.kind == TALAVORN_TYPE_TXT && a.name_len == 11
+               && strcmp(a.name, "example.com") == 0 && a.text_len == 0 && a.text[0] == 0
+               && a.place == 0 && a.lookups == 0 && a.voids == 0,
+           "the first question");
+    a = checked("v=spf1 ip4:192.0.2.129 -all");
+    expect(a.number == TALAVORN_PASS && a.kind == 0 && a.place == 0 && a.name_len == 0
+               && a.text_len == 0 && a.lookups == 0,
+           "a pass");
+    a = checked("v=spf1 a -all");
+    expect(a.number == TALAVORN_WANTING && a.kind == TALAVORN_TYPE_A && a.lookups == 1
+               && strcmp(a.name, "example.com") == 0,
+           "a's question");
+    talavorn_add(&a, 0, NULL, table, sizeof table, &size);
+    a = talavorn_check(&mail, table, size);
+    expect(a.number == TALAVORN_FAIL && a.text_len == 0 && a.lookups == 1 && a.voids == 1,
+           "a void answer");
+    a = talavorn_check(&mail, TEXT(GONE GONE));
+    expect(a.number == TALAVORN_REPEATED_ENTRY && a.place == 17 && a.kind == 0, "a repeated entry");
+    mail.sender = talavorn_text("");
+    expect(talavorn_check(&mail, NULL, 0).number == TALAVORN_BAD_SENDER, "an empty sender");
+}
+
+/* Names and texts that can't stand in the table do no harm. */
+static void odd_answers(void)
+{
+    static char text[4097];
+    struct talavorn_answer a = checked("v=spf1 ptr ptr ptr -all");
+    expect(a.number == TALAVORN_WANTING && a.kind == TALAVORN_TYPE_PTR, "ptr's question");
+    put_names(2, 2);
+    a = answered();
+    expect(a.number == TALAVORN_FAIL && a.lookups == 3 && a.voids == 0, "no name but odd ones");
+    checked("v=spf1 ptr ptr ptr -all");
+    put_names(0, 0);
+    a = answered();
+    expect(a.number == TALAVORN_PERMERROR && a.lookups == 3 && a.voids == 3, "no name");
+    checked("v=spf1 ptr -all");
+    put_names(2, 1);
+    a = answered();
+    expect(a.number == TALAVORN_WANTING && a.kind == TALAVORN_TYPE_A && strcmp(a.name, "b") == 0,
+           "the name beside an odd one");
+    checked("v=spf1 mx -all");
+    begin_items(sizeof buffer);
+    talavorn_item_mx(&items, 10, talavorn_text("a b"));
+    talavorn_item_mx(&items, 20, talavorn_text("M.example"));
+    a = answered();
+    expect(a.number == TALAVORN_WANTING && a.kind == TALAVORN_TYPE_A
+               && strcmp(a.name, "m.example") == 0,
+           "the host behind an odd one");
+    checked("v=spf1 mx -all");
+    begin_items(sizeof buffer);
+    for (int i = 0; i < 11; i++)
+        talavorn_item_mx(&items, 10, talavorn_text("a b"));
+    a = answered();
+    expect(a.number == TALAVORN_PERMERROR && a.lookups == 1, "eleven odd hosts");
+    memset(text, 'x', sizeof text);
+    begin_items(sizeof buffer);
+    talavorn_item_txt(&items, talavorn_bytes(text, sizeof text));
+    talavorn_item_txt(&items, talavorn_text("v=spf1 ~all"));
+    size = 0;
+    expect(answered().number == TALAVORN_SOFTFAIL, "a record beside a long text");
+    checked("v=spf1 -all exp=why.example");
+    begin_items(sizeof buffer);
+    talavorn_item_txt(&items, talavorn_bytes(text, sizeof text));
+    a = answered();
+    expect(a.number == TALAVORN_FAIL && a.text_len == 0, "a long explanation");
+    memcpy(text, "v=spf1 ", 7);
+    begin_items(sizeof buffer);
+    talavorn_item_txt(&items, talavorn_bytes(text, sizeof text));
+    size = 0;
+    expect(answered().number == TALAVORN_TEMPERROR, "a long record");
+}
+
+/* Adds to an empty table of so much room, as the answer to the question for `A a.b`. */
+static uint8_t add(unsigned rcode, const struct talavorn_items *given, size_t room)
+{
+    static const struct talavorn_answer asked = {
+        .number = TALAVORN_WANTING, .kind = TALAVORN_TYPE_A, .name_len = 3, .name = "a.b"
+    };
+    begin_with("", 0);
+    memcpy(before, table, sizeof table);
+    place = 0;
+    return talavorn_add(&asked, rcode, given, table, room, &size);
+}
+
+static void wrapped_additions(void)
+{
+    static const char failed[] = "\x07\0\x01\0\x02\x03" "a.b";
+    begin_items(16);
+    talavorn_item_a(&items, client);
+    expect(add(0, &items, 15) == 0
+               && added(0, TEXT("\x0d\0\x01\0\0\x03" "a.b" "\x04\0\xc0\0\x02\x81")),
+           "an answer");
+    expect(add(0, &items, 14) == 0 && added(0, TEXT(failed)), "one that the table has no room for");
+    expect(add(0, &items, 9) == 0 && added(0, TEXT(failed)), "room for a failed one alone");
+    expect(add(0, &items, 8) == TALAVORN_UNFIT_ENTRY && kept(0, 0), "a full table");
+    expect(add(0, NULL, 9) == 0 && added(0, TEXT("\x07\0\x01\0\0\x03" "a.b")), "no records");
+    expect(add(3, &items, 9) == 0 && added(0, TEXT("\x07\0\x01\0\x03\x03" "a.b")), "NXDOMAIN");
+    expect(add(2, &items, 9) == 0 && added(0, TEXT(failed)), "SERVFAIL");
+    expect(add(5, NULL, 9) == 0 && added(0, TEXT(failed)), "REFUSED");
+    expect(add(256, NULL, 9) == 0 && added(0, TEXT(failed)), "an RCODE over 255");
+    talavorn_item_txt(&items, talavorn_text("xyz"));
+    expect(!items.unfit && add(0, &items, 65535) == 0 && added(0, TEXT(failed)),
+           "an item of another kind");
+    begin_items(7);
+    talavorn_item_a(&items, client);
+    talavorn_item_a(&items, client);
+    expect(items.unfit && add(0, &items, 65535) == 0 && added(0, TEXT(failed)),
+           "an item that had no room");
+}
+
+static void put_ten(const struct talavorn_answer *a)
+{
+    char host[300];
+    for (int i = 0; i < 10; i++) {
+        sprintf(host, "h%d.%s", i, a->name);
+        if (a->kind == TALAVORN_TYPE_MX)
+            talavorn_item_mx(&items, 10, talavorn_text(host));
+        else
+            talavorn_item_ptr(&items, talavorn_text(host));
+    }
+}
+
+/* Ten mx of ten hosts each, one of them with macro p, and an explanation. */
+static void most_questions(void)
+{
+    static const uint8_t other[4] = { 198, 51, 100, 1 };
+    struct talavorn_mail mail = usual_mail();
+    struct talavorn_answer a;
+    int questions = 0;
+    for (size = 0; (a = talavorn_check(&mail, table, size)).number == TALAVORN_WANTING;) {
+        begin_items(sizeof buffer);
+        if (a.kind == TALAVORN_TYPE_A)
+            talavorn_item_a(&items, other);
+        else if (a.kind != TALAVORN_TYPE_TXT)
+            put_ten(&a);
+        else if (strcmp(a.name, "example.com") == 0)
+            talavorn_item_txt(&items, talavorn_text(
+                "v=spf1 mx:%{p}.m0.example mx:m1.example mx:m2.example mx:m3.example mx:m4.example "
+                "mx:m5.example mx:m6.example mx:m7.example mx:m8.example mx:m9.example -all "
+                "exp=why.example"));
+        else
+            talavorn_item_txt(&items, talavorn_text("not from %{p}"));
+        if (items.unfit || talavorn_add(&a, 0, &items, table, sizeof table, &size) != 0)
+            break;
+        questions++;
+    }
+    expect(a.number == TALAVORN_FAIL && a.lookups == 10 && a.voids == 0
+               && strcmp(a.text, "not from unknown") == 0,
+           "the result after the most questions");
+    expect(questions == 123, "123 questions");
 }
 
 int main(void)
@@ -91,6 +617,19 @@ int main(void)
     expansions();
     matches();
     tables();
+    additions();
+    refusals();
+    fullness();
+    item_bytes();
+    item_room();
+    item_hosts();
+    item_ten_names();
+    item_texts();
+    result_names();
+    checks();
+    odd_answers();
+    wrapped_additions();
+    most_questions();
     printf("%d as they should be, %d not\n", right, wrong);
     return wrong != 0;
 }

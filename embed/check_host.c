@@ -1,9 +1,9 @@
-/* Checks a client, through talavorn.h: reads client, domain, sender, HELO, receiver and t from standard input, a line each, then the answer table, and
- * prints number, kind or place and both counts on a line, and for 3 and 7 the text or name on a second. A client or t that cannot be read prints
- * `input`. What it prints is what the proved program check_host prints. */
+/* Checks a client, through talavorn.h: reads client, domain, sender, HELO, receiver and t from
+ * standard input, a line each, then the answer table, and prints number, kind or place and both
+ * counts on a line, and for 3 and 7 the text or name on a second. A client or t that cannot be read
+ * prints `input`. What it prints is what the proved program check_host prints. */
 #include <stdio.h>
 #include <stdlib.h>
-#include <string.h>
 
 #include "talavorn.h"
 
@@ -43,9 +43,10 @@ static struct bytes read_all(void)
 /* Takes a line off the front of what is left; one that is missing is empty. */
 static struct bytes take_line(struct bytes *rest)
 {
-    const uint8_t *end = rest->len ? memchr(rest->at, '\n', rest->len) : NULL;
-    struct bytes line = { rest->at, end ? (size_t)(end - rest->at) : rest->len };
-    size_t taken = end ? line.len + 1 : line.len;
+    struct bytes line = { rest->at, 0 };
+    while (line.len < rest->len && rest->at[line.len] != '\n')
+        line.len++;
+    size_t taken = line.len < rest->len ? line.len + 1 : line.len;
     rest->at += taken;
     rest->len -= taken;
     return line;
@@ -58,7 +59,7 @@ static int read_number(struct bytes s, uint64_t *value)
     for (size_t i = 0; i < s.len; i++) {
         if (s.at[i] < '0' || '9' < s.at[i])
             return 0;
-        uint64_t digit = s.at[i] - '0';
+        unsigned digit = s.at[i] - 48u;
         if (*value > (UINT64_MAX - digit) / 10)
             return 0;
         *value = *value * 10 + digit;
@@ -66,36 +67,49 @@ static int read_number(struct bytes s, uint64_t *value)
     return s.len != 0;
 }
 
-static void print_line(const uint8_t *s, size_t len)
+static struct talavorn_view view(struct bytes s)
 {
-    fwrite(s, 1, len, stdout);
-    putchar('\n');
+    return talavorn_bytes(s.at, s.len);
+}
+
+static void check(struct bytes rest)
+{
+    struct bytes client = take_line(&rest), domain = take_line(&rest), sender = take_line(&rest);
+    struct bytes helo = take_line(&rest), receiver = take_line(&rest), t = take_line(&rest);
+    uint8_t octets[16];
+    uint64_t seconds;
+    size_t family = talavorn_read_address(client.at, client.len, octets);
+    if (family == 0 || !read_number(t, &seconds)) {
+        puts("input");
+        return;
+    }
+    struct talavorn_mail mail = {
+        .client = talavorn_bytes(octets, family),
+        .domain = view(domain),
+        .sender = view(sender),
+        .helo = view(helo),
+        .receiver = view(receiver),
+        .seconds = seconds,
+    };
+    struct talavorn_answer a = talavorn_check(&mail, rest.at, rest.len);
+    printf("%u ", a.number);
+    if (a.number == TALAVORN_WANTING)
+        printf("%u", a.kind);
+    else if (a.number == TALAVORN_BAD_ENTRY || a.number == TALAVORN_REPEATED_ENTRY)
+        printf("%zu", a.place);
+    else
+        putchar('.');
+    printf(" %u %u\n", a.lookups, a.voids);
+    if (a.number == TALAVORN_FAIL)
+        puts(a.text);
+    if (a.number == TALAVORN_WANTING)
+        puts(a.name);
 }
 
 int main(void)
 {
-    struct bytes rest = read_all();
-    struct bytes client = take_line(&rest), domain = take_line(&rest), sender = take_line(&rest);
-    struct bytes helo = take_line(&rest), receiver = take_line(&rest), t = take_line(&rest);
-    uint8_t octets[16], name[253], text[500];
-    uint64_t seconds;
-    size_t values[TALAVORN_VALUES];
-    uint8_t family = talavorn_read_address(client.at, client.len, octets);
-    if (family == 0 || !read_number(t, &seconds)) {
-        puts("input");
-        return 0;
-    }
-    uint8_t number = talavorn_evaluate(octets, family, domain.at, domain.len, sender.at, sender.len, helo.at, helo.len, receiver.at, receiver.len, seconds,
-                                       rest.at, rest.len, name, sizeof name, text, sizeof text, values);
-    printf("%u ", (unsigned)number);
-    if (number == TALAVORN_WANTING || number == TALAVORN_BAD_ENTRY || number == TALAVORN_REPEATED_ENTRY)
-        printf("%zu", values[TALAVORN_PLACE]);
-    else
-        putchar('.');
-    printf(" %zu %zu\n", values[TALAVORN_LOOKUPS], values[TALAVORN_VOIDS]);
-    if (number == TALAVORN_FAIL)
-        print_line(text, values[TALAVORN_LENGTH]);
-    if (number == TALAVORN_WANTING)
-        print_line(name, values[TALAVORN_LENGTH]);
+    struct bytes input = read_all();
+    check(input);
+    free((void *)input.at);
     return 0;
 }

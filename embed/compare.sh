@@ -1,6 +1,7 @@
 #!/bin/sh
-# compare.sh CALLER..: runs each caller and the proved program check_host on the same inputs, and compares what they print. The inputs are check_host's
-# stored one and those made below; INPUTS may name further files. The status is 0 only if all agree.
+# compare.sh CALLER..: runs each caller and the proved program check_host on the same inputs, and
+# compares what they print. The inputs are check_host's stored one and those made below; INPUTS may
+# name further files. The status is 0 only if all agree.
 set -u
 cd "$(dirname "$0")/.." || exit 2
 proved=target/bin/check_host
@@ -10,7 +11,9 @@ trap 'rm -rf "$dir"' EXIT
 
 # mail CLIENT DOMAIN SENDER HELO RECEIVER T: six lines
 mail() { for line in "$@"; do printf '%s\n' "$line"; done; }
-usual() { mail 192.0.2.129 example.com user@example.com mail.example.com mx.relay.example 1700000000; }
+usual() {
+    mail 192.0.2.129 example.com user@example.com mail.example.com mx.relay.example 1700000000
+}
 # repeat N TEXT: the text N times
 repeat() { i=0; while [ "$i" -lt "$1" ]; do printf '%s' "$2"; i=$((i + 1)); done; }
 # a TXT entry of example.com with the record `v=spf1 -all`, and one of status 3

@@ -1,40 +1,114 @@
-/* Talavorn: whether a client may send mail for a domain (SPF, RFC 7208), over DNS answers that the caller lends. No call sends a DNS query.
+/* Talavorn: RFC 7208's check_host() (SPF) for mail relays, without I/O.
  *
- * C99. Link target/staticlib/libtalavorn.a, which `rt staticlib talavorn` makes on x86-64 Linux; it needs nothing but the C library's memset.
- * Each function is proved, for every input, to do what its comment says (its contract in crates/talavorn/src/lib.rt says it in the prover's
- * language), to touch no byte outside what it was lent, and to return.
+ * No call sends a DNS query. A check goes over the DNS answers that the caller lends, and names the
+ * one question whose answer is missing. talavorn(3) shows how the calls are put together.
  *
- * For every call
- * - A pair `const uint8_t *x, size_t x_len` is x_len bytes that are only read; they need no final 0 and may be any bytes. Where x_len is 0 the
- *   pointer isn't followed. Such bytes may overlap each other.
- * - A pair `uint8_t *x, size_t x_len` and an array `T x[n]` are lent for the call. They overlap nothing else that is given to the call, and an array
- *   has room for n elements. Of a buffer no more is written than the comment says; every other byte keeps its value.
- * - Nothing is kept between calls, and nothing is allocated, so threads may call at the same time, each with its own lent memory.
- * - Addresses are octets in network order: 4 for IPv4, 16 for IPv6.
- * - A place is a number of bytes from the front, from 0.
- * - The stack that a call needs is said in embed/README.md.
+ *     1  Version
+ *     2  What holds for every call
+ *     3  The answer table
+ *     4  Numbers
+ *     5  The calls: proved, in libtalavorn.a
+ *     6  The wrapper: inline functions over the calls, tested and not proved
  *
- * The answer table, all numbers little-endian: at most 65,535 bytes and 512 entries, end to end; an empty one is allowed. An entry is
- *     2 bytes  length of all that follows in the entry
- *     2 bytes  kind, the DNS type that was asked: 1 A, 12 PTR, 15 MX, 16 TXT, 28 AAAA, 99 SPF
- *     1 byte   status: 0 answered, 2 failed (as after a timeout or a server failure), 3 no such name
- *     1 byte   length of the name
- *     the name
- *     items up to the entry's end, each a 2-byte length and as many bytes: A 4 octets, AAAA 16 octets, PTR a name, MX a 2-byte preference and a name or
- *     nothing, TXT and SPF a text of 0 to 4,096 bytes with its strings joined
- * Status 2 and 3 have no items. No pair of kind and name stands twice. A name is 1 to 253 bytes, labels of 1 to 63 bytes joined by dots, each byte 33 to
- * 126 and none of A to Z, without a trailing dot: a name from the DNS is lowered before it goes into the table. CNAMEs are followed by whoever asks;
- * their targets' answers go in under the name that was asked.
- */
+ * C99 and C++11. Link with `pkg-config --cflags --libs talavorn`. The library is for x86-64 Linux
+ * and needs nothing but the C library's memset. */
 #ifndef TALAVORN_H
 #define TALAVORN_H
 
 #include <stddef.h>
 #include <stdint.h>
+#include <string.h>
 
 #ifdef __cplusplus
 extern "C" {
 #endif
+
+/* ---- 1  Version ------------------------------------------------------------------------------
+ *
+ * Before 1.0.0 a new minor version may change calls and the table's layout; a patch version changes
+ * neither. A number never changes its meaning. */
+#define TALAVORN_VERSION "0.1.0"
+
+/* ---- 2  What holds for every call ------------------------------------------------------------
+ *
+ * Proved, for every input, under the rules on memory below:
+ * - The call does what its comment says; its contract, in crates/talavorn/src/lib.rt, says the same
+ *   in the prover's language.
+ * - It touches no byte outside what it was lent, and it returns.
+ * - It keeps nothing between calls and allocates nothing, so threads may call at the same time,
+ *   each with its own lent memory.
+ *
+ * Memory:
+ * - `const void *x, size_t x_len` is x_len bytes that are only read. They need no final 0 and may
+ *   be any bytes. Where x_len is 0 the pointer isn't followed. Such bytes may overlap each other.
+ * - `void *x, size_t x_len`, an array `T x[n]` and a `size_t *x` are lent for the call. They
+ *   overlap nothing else that is given to it, and an array has room for n elements. No more is
+ *   written than the comment says; every other byte keeps its value.
+ * - `void *` stands for bytes, so that char, unsigned char and uint8_t go in without a cast. In the
+ *   ABI such a pair is a pointer and a length.
+ *
+ * Stack: a call was seen to use up to 90,000 bytes, on hostile input. Give each calling thread a
+ * stack of 256 KiB, besides buffers of its own there. This is measured, not proved.
+ *
+ * Addresses are octets in network order: 4 for IPv4, 16 for IPv6.
+ * A place is a number of bytes from the front, from 0. */
+
+/* ---- 3  The answer table ---------------------------------------------------------------------
+ *
+ * At most 65,535 bytes and 512 entries, end to end; an empty table is allowed. An entry has
+ *     2 bytes  the length of all that follows in it
+ *     2 bytes  kind, the DNS type that was asked
+ *     1 byte   status
+ *     1 byte   the length of the name
+ *     the name that was asked
+ *     items up to the entry's end, one for each record: a 2-byte length and as many bytes
+ * All numbers are little-endian, the preference of an MX item too, UNLIKE on the wire.
+ *
+ * Items by kind:
+ *     A         4 octets
+ *     AAAA      16 octets
+ *     PTR       a name
+ *     MX        a 2-byte preference, then a name, or nothing where the host is the root
+ *     TXT, SPF  a text of 0 to 4,096 bytes, the strings of one record joined with nothing between
+ *
+ * Rules:
+ * - Status 2 and 3 have no items.
+ * - No pair of kind and name stands twice.
+ * - A name is 1 to 253 bytes: labels of 1 to 63 bytes joined by dots, each byte 33 to 126 and none
+ *   of A to Z, without a trailing dot.
+ *
+ * What goes in:
+ * - A reply's records of the asked type, in their order. CNAMEs are followed by whoever asks; what
+ *   is found at their end goes in under the name that was asked.
+ * - A name that exists without such records is answered, without items.
+ * - All texts of a TXT reply. One without a version section, `v=spf1` and then a space or the end,
+ *   is no record and may be left out as long as two texts remain: at an explanation's name one text
+ *   is the explanation and several are none, and a question doesn't say which name it is for.
+ * - A reply that the layout can't hold goes in as failed. But one odd name or text needn't fail all
+ *   of the reply: see talavorn_item_ptr, talavorn_item_mx and talavorn_item_txt.
+ *
+ * An entry doesn't expire: a table is for the checks of one message, HELO and MAIL FROM, and begins
+ * empty, or with answers from the caller's cache. */
+
+/* Kinds: DNS types. No check asks for kind SPF, and none should go in: an answered entry of that
+ * kind with items is taken in place of the domain's TXT texts. */
+enum {
+    TALAVORN_TYPE_A = 1,
+    TALAVORN_TYPE_PTR = 12,
+    TALAVORN_TYPE_MX = 15,
+    TALAVORN_TYPE_TXT = 16,
+    TALAVORN_TYPE_AAAA = 28,
+    TALAVORN_TYPE_SPF = 99
+};
+
+/* Statuses: DNS's RCODEs NOERROR, SERVFAIL and NXDOMAIN. Any other RCODE, and no reply, is 2. */
+enum {
+    TALAVORN_ANSWERED = 0,
+    TALAVORN_FAILED = 2,
+    TALAVORN_NO_SUCH_NAME = 3
+};
+
+/* ---- 4  Numbers ------------------------------------------------------------------------------ */
 
 /* What talavorn_evaluate returns. */
 enum {
@@ -45,16 +119,22 @@ enum {
     TALAVORN_SOFTFAIL = 4,
     TALAVORN_TEMPERROR = 5,
     TALAVORN_PERMERROR = 6,
-    TALAVORN_WANTING = 7            /* a question that was needed has no entry in the table */
+    TALAVORN_WANTING = 7            /* a question that is needed has no entry in the table */
 };
 
-/* Refusals. Each call says which it has, and in which order it tests for them. */
+/* Refusals. Each call says which it has, and in which order it tests for them. They are no SPF
+ * results. Of a check, 20 to 22 are up to what the client sent:
+ *     20  check again with `postmaster@` and the domain as the sender; if it is still 20, none
+ *     21  check MAIL FROM again with an empty HELO; for HELO and for an empty MAIL FROM, none
+ *     22  none
+ * The others are up to the caller: temperror, and fix the caller; but for 21 of the receiver check
+ * again with an empty one. */
 enum {
     TALAVORN_BAD_SENDER = 20,       /* sender not 1 to 320 bytes of 32 to 126 */
-    TALAVORN_BAD_HOST = 21,         /* HELO or receiver over 255 bytes, or with a byte outside 33 to 126 */
+    TALAVORN_BAD_HOST = 21,         /* HELO or receiver over 255 bytes, or a byte not 33 to 126 */
     TALAVORN_LONG_DOMAIN = 22,      /* domain or p over 255 bytes */
     TALAVORN_SMALL_BUFFER = 23,     /* name buffer under 253 bytes or text buffer under 500 */
-    TALAVORN_LONG_TABLE = 24,       /* table over 65,535 bytes */
+    TALAVORN_LONG_TABLE = 24,       /* table over 65,535 bytes, or over its buffer */
     TALAVORN_BAD_ENTRY = 25,        /* entry of the table malformed, or a 513th */
     TALAVORN_REPEATED_ENTRY = 26,   /* kind and name of an entry stand in the table before it */
     TALAVORN_LONG_RECORD = 30,      /* record over 4,096 bytes */
@@ -64,134 +144,475 @@ enum {
     TALAVORN_BEYOND_RECORD = 34,    /* place beyond the record's length */
     TALAVORN_BAD_MACRO = 40,        /* macro string outside the grammar */
     TALAVORN_NO_ROOM = 41,          /* expansion doesn't fit the buffer */
+    TALAVORN_IN_TABLE = 64,         /* kind and name of a new entry stand in the table */
+    TALAVORN_UNFIT_ENTRY = 65,      /* new entry malformed, or too much for table or buffer */
     TALAVORN_BAD_ADDRESS = 90,      /* client or network that isn't 4 or 16 octets */
     TALAVORN_BAD_FORM = 91          /* form that is neither 0 nor 1 */
 };
 
+/* ---- 5  The calls ---------------------------------------------------------------------------- */
+
 /* Where what talavorn_evaluate writes stands in `values`. */
 enum {
-    TALAVORN_KIND = 0,              /* 7: kind of the question. 25 and 26: place in the table. Otherwise 0 */
+    TALAVORN_KIND = 0,              /* 7: the DNS type to ask. 25, 26: the place. Otherwise 0 */
     TALAVORN_PLACE = 0,
     TALAVORN_LOOKUPS = 1,           /* lookups begun, 0 to 10 */
     TALAVORN_VOIDS = 2,             /* void answers met, 0 to 3 */
-    TALAVORN_LENGTH = 3,            /* 3: length of the text. 7: length of the name. Otherwise 0 */
+    TALAVORN_LENGTH = 3,            /* 3: the text's length. 7: the name's length. Otherwise 0 */
     TALAVORN_VALUES = 4
 };
 
-/* Evaluates `domain` for a client: RFC 7208's check_host().
+/* Evaluates a domain for a client: check_host().
  *
- * client    4 or 16 octets; an IPv4-mapped IPv6 client counts as IPv4
- * domain    the domain to check, that of the sender or of HELO, as it was given: one trailing dot is dropped and A to Z are lowered; a malformed or
- *           single-label domain gives 0
- * sender    MAIL FROM's mailbox; with an empty one the caller gives postmaster@ and the HELO name. It splits at its last `@`
+ * client    4 or 16 octets. An IPv4-mapped IPv6 address counts as IPv4
+ * domain    the domain of MAIL FROM, as given: one trailing dot is dropped and A to Z are lowered.
+ *           A malformed or single-label one gives 0
+ * sender    MAIL FROM's mailbox, without angle brackets, split at its last `@`
  * helo      the HELO or EHLO name, may be empty
  * receiver  the name of the host that checks, may be empty; only macro r uses it
  * seconds   the time, in seconds since 1970; only macro t uses it
  * table     the answers so far
- * name      at least 253 bytes. text: at least 500 bytes
+ * name      at least 253 bytes
+ * text      at least 500 bytes
  *
- * Tests in this order, and returns the first that holds, with nothing written to name and text and counts of 0: 90 client not 4 or 16 octets; 20 sender;
- * 21 helo or receiver; 22 domain; 23 a buffer is too small; 24 table too long; then whichever of 25 and 26 has the earlier place, 25 if equal, with that
- * place. Otherwise returns
- * 0 to 6    the result, with both counts. Only for 3 text is written: the explanation, values[3] bytes (0 to 500) at its front
- * 7         a question that is needed has no entry in the table: values[0] is its kind, and the name to ask, values[3] bytes (1 to 253), is written at the
- *           front of name; counts are those so far. The caller asks the DNS, adds an entry for this kind and name, and calls again
- * All four of values are written by every call. */
+ * For an empty MAIL FROM, and to check HELO, domain is the HELO name, and sender is `postmaster@`
+ * and the HELO name. RFC 7208 recommends the HELO check (2.3); MAIL FROM is checked, too, unless
+ * HELO's result already decided (2.4).
+ *
+ * Tests in this order, and returns the first that holds, with counts of 0 and nothing written to
+ * name and text:
+ *     90  client isn't 4 or 16 octets
+ *     20  sender, 21 helo or receiver, 22 domain, 23 name or text buffer, 24 table
+ *     25 or 26, whichever has the earlier place in the table, 25 if equal; the place in values[0]
+ * Otherwise returns
+ *     0 to 6  the result, with both counts. For 3, and only then, text is written: the explanation
+ *             at its front, values[3] bytes, 0 to 500. The domain's owner wrote it: say so in the
+ *             reply (6.2)
+ *     7       a question is needed that has no entry: its kind, the DNS type to ask, is in
+ *             values[0], and its name is written at the front of name, values[3] bytes, 1 to 253.
+ *             The counts are those so far. Ask the DNS, add an entry for this kind and name, and
+ *             call again
+ * All of values is written by every call.
+ *
+ * A caller who begins with an empty table and adds what is wanted gets 7 at most 123 times:
+ *       1  the TXT question of the domain
+ *     110  ten lookups, 11 each: MX or PTR and 10 addresses; any other lookup asks once
+ *      11  macro p: PTR and 10 addresses, the same questions for each use
+ *       1  the TXT question of the explanation
+ * This is counted from the rules, not proved. */
 uint8_t talavorn_evaluate(
-    const uint8_t *client, size_t client_len,
-    const uint8_t *domain, size_t domain_len,
-    const uint8_t *sender, size_t sender_len,
-    const uint8_t *helo, size_t helo_len,
-    const uint8_t *receiver, size_t receiver_len,
+    const void *client, size_t client_len,
+    const void *domain, size_t domain_len,
+    const void *sender, size_t sender_len,
+    const void *helo, size_t helo_len,
+    const void *receiver, size_t receiver_len,
     uint64_t seconds,
-    const uint8_t *table, size_t table_len,
-    uint8_t *name, size_t name_len,
-    uint8_t *text, size_t text_len,
+    const void *table, size_t table_len,
+    void *name, size_t name_len,
+    void *text, size_t text_len,
     size_t values[4]);
+
+/* Appends an entry to a table.
+ *
+ * kind      TALAVORN_TYPE_A and so on
+ * status    TALAVORN_ANSWERED, TALAVORN_FAILED or TALAVORN_NO_SUCH_NAME
+ * name      the name that was asked; A to Z are lowered
+ * items     the items end to end, each led by its 2-byte length; taken as given
+ * table     a buffer of `room` bytes, of which the first *size are the table
+ *
+ * Tests in this order, and returns the first that holds, with nothing written to table and *size as
+ * it was:
+ *     24  *size is over `room`, or the table over 65,535 bytes
+ *     25 or 26, whichever has the earlier place in the table, 25 if equal; the place in *place
+ *     64  the table has an entry of this kind and name
+ *     65  the new entry breaks a rule of the layout, or is a 513th, or the new table would be over
+ *         65,535 bytes or over `room`
+ * Otherwise returns 0: the entry is written behind the table and *size is the new table's length.
+ * *place is written by every call: 0 but for 25 and 26. */
+uint8_t talavorn_append_entry(
+    uint16_t kind, uint8_t status,
+    const void *name, size_t name_len,
+    const void *items, size_t items_len,
+    void *table, size_t room, size_t *size,
+    size_t *place);
+
+/* Checks a table, as talavorn_evaluate does.
+ *
+ * Returns 0 for a table that is accepted, with the number of its entries in *place. Otherwise
+ *     24  over 65,535 bytes; *place is 0
+ *     25  an entry that is malformed or the 513th; *place is its place
+ *     26  a pair of kind and name that stands before; *place is its place
+ * Of 25 and 26 the one with the earlier place, 25 if equal. *place is written by every call. */
+uint8_t talavorn_check_table(const void *table, size_t table_len, size_t *place);
 
 /* Reads a whole record.
  *
- * Returns 0 for a record that RFC 7208's grammar makes, with *place just after `v=spf1`, where its terms are read from. Otherwise, in this order: 30 over
- * 4,096 bytes, *place 0; 31 no version section, *place 0; then whichever of 32, a term outside the grammar, and 33, a second redirect or exp, has the earlier
- * place, 32 if equal, with *place at that term's first byte. *place is written by every call. */
-uint8_t talavorn_read_record(const uint8_t *record, size_t record_len, size_t *place);
+ * Returns 0 for a record that RFC 7208's grammar makes, with *place just after `v=spf1`, where its
+ * terms are read from. Otherwise, in this order:
+ *     30  over 4,096 bytes; *place is 0
+ *     31  no version section; *place is 0
+ *     32  a term outside the grammar; *place is its first byte
+ *     33  a second redirect or exp; *place is its first byte
+ * Of 32 and 33 the one with the earlier place, 32 if equal. *place is written by every call. */
+uint8_t talavorn_read_record(const void *record, size_t record_len, size_t *place);
 
-/* What talavorn_read_term returns besides 30, 34 and 32, and where what it writes stands in `values`. */
+/* What talavorn_read_term returns besides 30, 34 and 32. */
 enum { TALAVORN_END = 0, TALAVORN_TERM = 1 };
+
+/* Where what it writes stands in `values`. */
 enum {
     TALAVORN_TERM_PLACE = 0,        /* the term's first byte */
     TALAVORN_TERM_NEXT = 1,         /* the next place, just after its last byte */
-    TALAVORN_TERM_KIND = 2,         /* below */
+    TALAVORN_TERM_WHICH = 2,        /* which term it is, below */
     TALAVORN_TERM_SIGN = 3,         /* `+` if unwritten, `-`, `?` or `~`; 0 for a modifier */
     TALAVORN_TERM_FROM = 4,         /* its argument is the part of the record from here */
     TALAVORN_TERM_TO = 5,           /* up to here; both are the same where there is none */
-    TALAVORN_TERM_FOUR = 6,         /* IPv4 prefix length of a, mx and ip4, 32 if unwritten; 0 for any other term */
-    TALAVORN_TERM_SIX = 7,          /* IPv6 prefix length of a, mx and ip6, 128 if unwritten; 0 for any other term */
+    TALAVORN_TERM_FOUR = 6,         /* IPv4 prefix length of a, mx, ip4, 32 if unwritten; else 0 */
+    TALAVORN_TERM_SIX = 7,          /* IPv6 prefix length of a, mx, ip6, 128 if unwritten; else 0 */
     TALAVORN_TERM_VALUES = 8
 };
+
+/* Which term it is. */
 enum {
-    TALAVORN_ALL = 1,
-    TALAVORN_INCLUDE = 2,
-    TALAVORN_A = 3,
-    TALAVORN_MX = 4,
-    TALAVORN_PTR = 5,
-    TALAVORN_IP4 = 6,
-    TALAVORN_IP6 = 7,
-    TALAVORN_EXISTS = 8,
-    TALAVORN_REDIRECT = 9,
-    TALAVORN_EXP = 10,
-    TALAVORN_UNKNOWN = 11           /* any other modifier; its name is the part of the record from values[0] up to the `=` at values[4] - 1 */
+    TALAVORN_TERM_ALL = 1,
+    TALAVORN_TERM_INCLUDE = 2,
+    TALAVORN_TERM_A = 3,
+    TALAVORN_TERM_MX = 4,
+    TALAVORN_TERM_PTR = 5,
+    TALAVORN_TERM_IP4 = 6,
+    TALAVORN_TERM_IP6 = 7,
+    TALAVORN_TERM_EXISTS = 8,
+    TALAVORN_TERM_REDIRECT = 9,
+    TALAVORN_TERM_EXP = 10,
+    TALAVORN_TERM_UNKNOWN = 11      /* any other modifier; its name is the part of the record from
+                                       values[0] up to the `=` at values[4] - 1 */
 };
 
-/* Reads one term of a record from a place on: first the place that talavorn_read_record gave, then each term's next place.
+/* Reads one term of a record from a place on: first the place that talavorn_read_record gave, then
+ * each term's next place.
  *
- * Tests 30, the record is over 4,096 bytes, with values[0] 0; then 34, `place` is beyond its length, with values[0] that place. Then skips spaces and
- * returns 0 at the end, with all of values 0; 32 for a term outside the grammar, with values[0] its first byte's place; or 1 for a term, with all of
- * values. After 30, 34 and 32 the other values are 0.
- * The argument is a domain-spec, a network without its length, or a modifier's value. For ip4 and ip6 the network's address is written at the front of
- * network, 4 or 16 octets; otherwise network isn't written. values is written whole by every call. */
-uint8_t talavorn_read_term(const uint8_t *record, size_t record_len, size_t place, size_t values[8], uint8_t network[16]);
+ * Tests in this order:
+ *     30  the record is over 4,096 bytes; values[0] is 0
+ *     34  `place` is beyond the record's length; values[0] is that place
+ * Then skips spaces and returns
+ *     0   at the end; all of values is 0
+ *     32  for a term outside the grammar; values[0] is its first byte's place
+ *     1   for a term, with all of values
+ * After 30, 34 and 32 the other values are 0. The argument is a domain-spec, a network without its
+ * length, or a modifier's value. For ip4 and ip6 the network's address is written at the front of
+ * network, 4 or 16 octets; otherwise network isn't written. All of values is written by every call.
+ */
+uint8_t talavorn_read_term(
+    const void *record, size_t record_len, size_t place, size_t values[8], uint8_t network[16]);
 
 /* Expands a macro string.
  *
- * form      0: text is a domain-spec. 1: text is an explanation (macros, literals and spaces; letters c, r and t are allowed)
- * domain    the value of macro d, as given. p: the value of macro p, as given
+ * form      0: text is a domain-spec. 1: text is an explanation: macros, literals and spaces, with
+ *           the letters c, r and t allowed
+ * domain    the value of macro d, as given
+ * p         the value of macro p, as given
  * client, sender, helo, receiver, seconds  as for talavorn_evaluate
  *
- * Tests in this order, and returns the first that holds, with nothing written to out and *size 0: 91 form is neither 0 nor 1; 90 client not 4 or 16 octets;
- * 20 sender; 21 helo or receiver; 22 domain or p over 255 bytes; 40 text outside the grammar of its form; 41 the expansion doesn't fit out. Otherwise
- * returns 0: the expansion is written at the front of out, *size bytes. *size is written by every call. */
+ * Tests in this order, and returns the first that holds, with *size 0 and nothing written to out:
+ *     91  form is neither 0 nor 1
+ *     90  client isn't 4 or 16 octets
+ *     20  sender, 21 helo or receiver, 22 domain or p over 255 bytes
+ *     40  text is outside the grammar of its form
+ *     41  the expansion doesn't fit out
+ * Otherwise returns 0: the expansion is written at the front of out, *size bytes. *size is written
+ * by every call. */
 uint8_t talavorn_expand(
     uint8_t form,
-    const uint8_t *text, size_t text_len,
-    const uint8_t *client, size_t client_len,
-    const uint8_t *domain, size_t domain_len,
-    const uint8_t *sender, size_t sender_len,
-    const uint8_t *helo, size_t helo_len,
-    const uint8_t *receiver, size_t receiver_len,
-    const uint8_t *p, size_t p_len,
+    const void *text, size_t text_len,
+    const void *client, size_t client_len,
+    const void *domain, size_t domain_len,
+    const void *sender, size_t sender_len,
+    const void *helo, size_t helo_len,
+    const void *receiver, size_t receiver_len,
+    const void *p, size_t p_len,
     uint64_t seconds,
-    uint8_t *out, size_t out_len,
+    void *out, size_t out_len,
     size_t *size);
 
-/* Whether a client matches a network.
+/* Whether a client matches a network: 1 if both are of one family, bits is at most its width, 32 or
+ * 128, and the first `bits` bits of both are the same; otherwise 0; 90 if one of them isn't 4 or 16
+ * octets.
  *
- * Returns 90 if client or network isn't 4 or 16 octets; 1 if both are of one family, bits is at most its width, 32 or 128, and the first `bits` bits of both
- * are the same; otherwise 0. An IPv4-mapped address is an IPv6 address here. */
-uint8_t talavorn_matches(const uint8_t *client, size_t client_len, const uint8_t *network, size_t network_len, size_t bits);
+ * Addresses are compared as they are given: an IPv4-mapped IPv6 address ::ffff:a.b.c.d is IPv6
+ * here, whereas talavorn_evaluate takes such a client as IPv4. A dual-stack caller who wants the
+ * same gives the last 4 of its 16 octets. */
+uint8_t talavorn_matches(
+    const void *client, size_t client_len, const void *network, size_t network_len, size_t bits);
 
-/* Checks an answer table, as talavorn_evaluate does.
+/* Reads an address as it is written in ip4 and ip6 terms: four decimal numbers of 0 to 255 without
+ * leading zeros, joined by dots, or the forms of RFC 4291 section 2.2.
  *
- * Returns 0 for a table that is accepted, with the number of its entries in *place; 24 over 65,535 bytes, with *place 0; or whichever of 25, an entry that is
- * malformed or the 513th, and 26, a pair of kind and name that stands before, has the earlier place, 25 if equal, with that entry's place in *place. *place
- * is written by every call. */
-uint8_t talavorn_check_table(const uint8_t *table, size_t table_len, size_t *place);
+ * Returns 4 or 16, with as many octets at the front of octets; or 0 for any other text, with
+ * nothing written. */
+uint8_t talavorn_read_address(const void *text, size_t text_len, uint8_t octets[16]);
 
-/* Reads an address as it is written in ip4 and ip6 terms: four decimal numbers of 0 to 255 without leading zeros, joined by dots, or the forms of RFC 4291
- * section 2.2.
+/* ---- 6  The wrapper --------------------------------------------------------------------------
  *
- * Returns 4 or 16, with as many octets at the front of octets; or 0 for any other text, with nothing written. */
-uint8_t talavorn_read_address(const uint8_t *text, size_t text_len, uint8_t octets[16]);
+ * One check, from an empty table:
+ *
+ *     struct talavorn_answer a;
+ *     while ((a = talavorn_check(&mail, table, size)).number == TALAVORN_WANTING) {
+ *         struct talavorn_items items = talavorn_items_in(buffer, sizeof buffer);
+ *         unsigned rcode = ask(a.name, a.kind, &items);
+ *         if (talavorn_add(&a, rcode, &items, table, sizeof table, &size) != 0) {
+ *             a.number = TALAVORN_TEMPERROR;
+ *             break;
+ *         }
+ *     }
+ *     if (20 <= a.number)
+ *         refused(a.number);
+ *
+ * where `ask` asks the DNS, calls talavorn_item_a and so on for each record, and returns the RCODE;
+ * and `refused` does what section 4 says. */
+
+/* Bytes to be read. */
+struct talavorn_view {
+    const void *at;
+    size_t len;
+};
+
+/* A string with a final 0, or NULL for no bytes. */
+static inline struct talavorn_view talavorn_text(const char *s)
+{
+    struct talavorn_view v;
+    v.at = s;
+    v.len = s ? strlen(s) : 0;
+    return v;
+}
+
+/* So many bytes, as `talavorn_bytes(&peer.sin_addr, 4)`. */
+static inline struct talavorn_view talavorn_bytes(const void *at, size_t len)
+{
+    struct talavorn_view v;
+    v.at = at;
+    v.len = len;
+    return v;
+}
+
+/* What is checked: talavorn_evaluate's arguments. */
+struct talavorn_mail {
+    struct talavorn_view client, domain, sender, helo, receiver;
+    uint64_t seconds;
+};
+
+/* What is answered. */
+struct talavorn_answer {
+    uint8_t number;                 /* what talavorn_evaluate returned */
+    uint16_t kind;                  /* 7: the DNS type to ask; otherwise 0 */
+    size_t place;                   /* 25, 26: the place in the table; otherwise 0 */
+    unsigned lookups, voids;
+    size_t name_len, text_len;      /* 7: the name's length. 3: the text's length. Otherwise 0 */
+    char name[254], text[501];      /* with a final 0, too */
+};
+
+/* talavorn_evaluate over these two. */
+static inline struct talavorn_answer talavorn_check(
+    const struct talavorn_mail *mail, const void *table, size_t table_len)
+{
+    struct talavorn_answer a;
+    size_t values[TALAVORN_VALUES];
+    memset(&a, 0, sizeof a);
+    a.number = talavorn_evaluate(
+        mail->client.at, mail->client.len, mail->domain.at, mail->domain.len,
+        mail->sender.at, mail->sender.len, mail->helo.at, mail->helo.len,
+        mail->receiver.at, mail->receiver.len, mail->seconds, table, table_len,
+        a.name, sizeof a.name - 1, a.text, sizeof a.text - 1, values);
+    a.lookups = (unsigned)values[TALAVORN_LOOKUPS];
+    a.voids = (unsigned)values[TALAVORN_VOIDS];
+    if (a.number == TALAVORN_WANTING) {
+        a.kind = (uint16_t)values[TALAVORN_KIND];
+        a.name_len = values[TALAVORN_LENGTH];
+    } else {
+        a.place = values[TALAVORN_PLACE];
+        a.text_len = values[TALAVORN_LENGTH];
+    }
+    return a;
+}
+
+/* A result's word: RFC 7208's for 0 to 6, "wanting" for 7, "refused" for any other number. */
+static inline const char *talavorn_result_name(unsigned number)
+{
+    static const char *const names[] = { "none",     "neutral",   "pass",      "fail",
+                                         "softfail", "temperror", "permerror", "wanting" };
+    return number < sizeof names / sizeof *names ? names[number] : "refused";
+}
+
+/* The items of one answer, made one after the other in lent memory. */
+struct talavorn_items {
+    uint8_t *bytes;
+    size_t room, len;
+    unsigned names;                 /* host names of PTR records met, up to ten */
+    int unfit;                      /* an item couldn't go in: none is taken any more */
+};
+
+/* No items yet, in a buffer. A table has room for 65,535 bytes in all. */
+static inline struct talavorn_items talavorn_items_in(void *buffer, size_t room)
+{
+    struct talavorn_items items;
+    items.bytes = (uint8_t *)buffer;
+    items.room = room;
+    items.len = 0;
+    items.names = 0;
+    items.unfit = 0;
+    return items;
+}
+
+/* An item of two parts, as they are. One that has no room or is over 65,535 bytes makes the items
+ * unfit: neither it nor any later one is written, and talavorn_add enters the answer as failed. So
+ * nothing needs to be tested after this function and those below. */
+static inline void talavorn_item(
+    struct talavorn_items *items, const void *front, size_t front_len, const void *rest,
+    size_t rest_len)
+{
+    uint8_t *at;
+    size_t left = items->room - items->len, n = front_len + rest_len;
+    if (65535 < front_len || 65535 < rest_len || 65535 < n || left < 2 || left - 2 < n)
+        items->unfit = 1;
+    if (items->unfit)
+        return;
+    at = items->bytes + items->len;
+    at[0] = (uint8_t)(n % 256);
+    at[1] = (uint8_t)(n / 256);
+    if (front_len)
+        memcpy(at + 2, front, front_len);
+    if (rest_len)
+        memcpy(at + 2 + front_len, rest, rest_len);
+    items->len += 2 + n;
+}
+
+/* The 4 octets of an A record. */
+static inline void talavorn_item_a(struct talavorn_items *items, const void *octets)
+{
+    talavorn_item(items, octets, 4, NULL, 0);
+}
+
+/* The 16 octets of an AAAA record. */
+static inline void talavorn_item_aaaa(struct talavorn_items *items, const void *octets)
+{
+    talavorn_item(items, octets, 16, NULL, 0);
+}
+
+/* A byte, lowered if it is one of A to Z. */
+static inline uint8_t talavorn_lower(uint8_t b)
+{
+    return 'A' <= b && b <= 'Z' ? (uint8_t)(b + 32) : b;
+}
+
+/* A host name without its trailing dot if, once lowered, it can stand in the table; otherwise no
+ * bytes. */
+static inline struct talavorn_view talavorn_host(struct talavorn_view host)
+{
+    const uint8_t *at = (const uint8_t *)host.at;
+    size_t i, label = 0, len = host.len;
+    if (len && at[len - 1] == '.')
+        len--;
+    for (i = 0; i < len; i++) {
+        if (at[i] == '.' ? label == 0 : at[i] < 33 || 126 < at[i] || label == 63)
+            break;
+        label = at[i] == '.' ? 0 : label + 1;
+    }
+    return talavorn_bytes(host.at, i == len && label && len <= 253 ? len : 0);
+}
+
+/* An item of some bytes and a host name that talavorn_host gave, lowered. */
+static inline void talavorn_item_host(
+    struct talavorn_items *items, const void *front, size_t front_len, struct talavorn_view host)
+{
+    size_t i;
+    talavorn_item(items, front, front_len, host.at, host.len);
+    if (items->unfit)
+        return;
+    for (i = items->len - host.len; i < items->len; i++)
+        items->bytes[i] = talavorn_lower(items->bytes[i]);
+}
+
+/* The host name of a PTR record: one trailing dot is dropped and A to Z are lowered.
+ *
+ * A name that can't stand in the table is left out: it can't be validated. So is any after the
+ * first ten, which no check looks at. If every name was left out, talavorn_add enters the answer as
+ * failed, which is no names and no void answer either. */
+static inline void talavorn_item_ptr(struct talavorn_items *items, struct talavorn_view host)
+{
+    host = talavorn_host(host);
+    if (items->names < 10) {
+        items->names++;
+        if (host.len)
+            talavorn_item_host(items, NULL, 0, host);
+    }
+}
+
+/* The preference and the host name of an MX record: one trailing dot is dropped and A to Z are
+ * lowered.
+ *
+ * The root, "." or "", and a name that can't stand in the table give an item without a name: it
+ * counts as one of the ten that mx allows, and no address is asked for it. */
+static inline void talavorn_item_mx(
+    struct talavorn_items *items, uint16_t preference, struct talavorn_view host)
+{
+    uint8_t front[2];
+    front[0] = (uint8_t)(preference % 256);
+    front[1] = (uint8_t)(preference / 256);
+    talavorn_item_host(items, front, 2, talavorn_host(host));
+}
+
+/* The strings of one TXT record, joined with nothing between.
+ *
+ * A text over 4,096 bytes that doesn't begin with `v=spf1 `, in any letter case, goes in as an
+ * empty one: it is no record, and as an explanation it is dropped as too long. One that does begin
+ * so makes the items unfit. */
+static inline void talavorn_item_txt(struct talavorn_items *items, struct talavorn_view text)
+{
+    static const char version[] = "v=spf1 ";
+    const uint8_t *at = (const uint8_t *)text.at;
+    size_t i = 0;
+    if (4096 < text.len) {
+        while (i < 7 && talavorn_lower(at[i]) == version[i])
+            i++;
+        items->unfit |= i == 7;
+        text.len = 0;
+    }
+    talavorn_item(items, text.at, text.len, NULL, 0);
+}
+
+/* Adds the answer to the question that a check wanted to the table in the first *size bytes of a
+ * buffer.
+ *
+ * asked     an answer of talavorn_check with the number 7
+ * rcode     the reply's RCODE; TALAVORN_FAILED where there was no reply
+ * items     the reply's records, used for RCODE 0 only; NULL for none
+ *
+ * RCODE 0 goes in as answered with the items, 3 as no such name, any other one as failed. An answer
+ * goes in as failed, too, if its items are unfit or don't have the kind's layout, if every PTR name
+ * was left out, or if the table has no room for it.
+ * Returns 0, or talavorn_append_entry's number if nothing was added: 65 where the table is full, 64
+ * where the question has its entry already, 24 to 26 where the table isn't accepted. 64 can't
+ * happen to a question that a check over this table wanted, nor 24 to 26 to a table that was begun
+ * empty and only added to. */
+static inline uint8_t talavorn_add(
+    const struct talavorn_answer *asked, unsigned rcode, const struct talavorn_items *items,
+    void *table, size_t room, size_t *size)
+{
+    size_t place;
+    uint8_t number = TALAVORN_UNFIT_ENTRY;
+    if (rcode == TALAVORN_NO_SUCH_NAME || (rcode == TALAVORN_ANSWERED && !items))
+        number = talavorn_append_entry(
+            asked->kind, (uint8_t)rcode, asked->name, asked->name_len, NULL, 0,
+            table, room, size, &place);
+    else if (rcode == TALAVORN_ANSWERED && !items->unfit && (items->len || !items->names))
+        number = talavorn_append_entry(
+            asked->kind, TALAVORN_ANSWERED, asked->name, asked->name_len, items->bytes, items->len,
+            table, room, size, &place);
+    if (number == TALAVORN_UNFIT_ENTRY)
+        number = talavorn_append_entry(
+            asked->kind, TALAVORN_FAILED, asked->name, asked->name_len, NULL, 0,
+            table, room, size, &place);
+    return number;
+}
 
 #ifdef __cplusplus
 }
