@@ -20,7 +20,7 @@ HEADING = "# The openspf.org test suite for RFC 7208, release 2014.04; its licen
 # The lengths of the program's buffers.
 LINE, ZONE, ENTRY, TEXT = 1024, 8192, 512, 512
 
-# The cases that 01 decides otherwise than the suite, as they are printed after their names. docs/SUITE.md says more on each.
+# The cases that the house rules decide otherwise than the suite, as they are printed after their names. docs/SUITE.md says more on each.
 DIFFERS = {
     # "A name is 1 to 253 bytes, labels of 1 to 63 bytes joined by dots, each byte 33 to 126", and "A malformed target of a, mx, ptr or exists doesn't
     # match": the target has two spaces.
@@ -32,7 +32,7 @@ DIFFERS = {
     "invalid-hello-macro": "refused 21",
 }
 
-# The cases for which the suite allows several results: the one that 01 decides.
+# The cases for which the suite allows several results: the one that the house rules decide.
 CHOICES = {
     # "Of the texts with a version section: none gives none, several permerror".
     "multispf1": "permerror",
@@ -184,7 +184,7 @@ def expected(name, case):
     need(text == "DEFAULT" or result == "fail", "a text without a fail:", name)
     line = result if text == "DEFAULT" else result + " " + text
     if name in DIFFERS:
-        need(line != DIFFERS[name], "01 and the suite agree on", name)
+        need(line != DIFFERS[name], "the house rules and the suite agree on", name)
         line = DIFFERS[name]
     return name + " " + line
 

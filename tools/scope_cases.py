@@ -1,11 +1,11 @@
 #!/usr/bin/env python3
-"""The cases of the program scope_cases: those of 01's sections "Both sides of each line" and "Errors that look right", and the inputs of the list of
+"""The cases of the program scope_cases: those of the scope paper's sections "Both sides of each line" and "Errors that look right", and the inputs of the list of
 readings (Q1 to Q53).
 
     python3 tools/scope_cases.py
 
 writes crates/scope_cases/stdin, the cases, and crates/scope_cases/stdout, what the program must print. Each expected line stands beside its case; it was
-written by hand from 01 and the readings, and none was taken from what a program printed. The gate doesn't run this script.
+written by hand from the scope paper and the readings, and none was taken from what a program printed. The gate doesn't run this script.
 
 Unless said otherwise: client 192.0.2.129, domain example.com, sender user@example.com, HELO helo.example, receiver empty, t 7. The expected answer of a
 check is number, kind or place (`.` where absent), lookups, voids, and for 3 and 7 the text or name, which the program prints on a line of its own.
@@ -204,7 +204,7 @@ def explains(label, expected, text, **arguments):
     check(label, "3 . 0 0 " + expected if expected else "3 . 0 0", FAILS, TXT("e.example", text), **arguments)
 
 
-# 01, "Both sides of each line".
+# The scope paper, "Both sides of each line".
 
 
 def both_sides():
@@ -275,7 +275,7 @@ def both_sides():
     check("line-voids-3", "6 . 3 3", R("v=spf1 exists:a.b exists:a.b exists:a.b -all"), void)
 
 
-# 01, "Errors that look right".
+# The scope paper, "Errors that look right".
 
 
 def look_right():
@@ -1044,7 +1044,7 @@ def programs():
 
 
 def main():
-    heading("the cases of 01's sections `Both sides of each line` and `Errors that look right`, and of the readings")
+    heading("the cases of the scope paper's sections `Both sides of each line` and `Errors that look right`, and of the readings")
     for section in (both_sides, look_right, part_one, limits, names, grammar, tables, explanations, clients, values, terms, edges, programs):
         section()
     need(all(line.isascii() for line in given + printed), "a line is not ASCII")
