@@ -1,29 +1,33 @@
 // The relay: it begins with an empty table, fetches each answer that is missing from the zone, and asks again until the check is decided.
 use address::Address;
-use answer_entry::encoding;
+use answer_entry::AppendAnswer;
+use answer_entry::append_entry;
 use answer_table::Found;
 use evaluation::Answer;
 use evaluation::evaluate;
 use text::bytes::part;
 
-// Puts the zone's answer to a question at a place of a table; a name that the zone lacks doesn't exist.
-fn put_answer(zone: &[u8], kind: u16, name: &[u8], out: &mut [u8], at: usize) -> usize {
-    let found = answer_table::find(zone, kind, name);
+// The status of what the zone has for a question; a name that it lacks doesn't exist.
+fn status_of(found: Found) -> u8 {
     match found {
         Found::Entry {
             status,
             start: _,
             end: _,
-        } => encoding::put_entry(
-            out,
-            at,
-            kind,
-            status,
-            name,
-            answer_table::found_items(zone, found),
-        ),
-        Found::Missing => encoding::put_entry(out, at, kind, 3, name, b""),
+        } => status,
+        Found::Missing => 3,
     }
+}
+
+// Appends the zone's answer to a question to a table; answers the table's new size. One that is refused leaves the table, and the check undecided.
+fn append_answer(zone: &[u8], kind: u16, name: &[u8], table: &mut [u8], size: usize) -> usize {
+    let found = answer_table::find(zone, kind, name);
+    let items = answer_table::found_items(zone, found);
+    let AppendAnswer::Appended(end) = append_entry(kind, status_of(found), name, items, table, size)
+    else {
+        return size;
+    };
+    end
 }
 
 fn print(s: &[u8]) {
@@ -86,7 +90,7 @@ pub fn run(zone: &[u8], client: Address, domain: &[u8], sender: &[u8], helo: &[u
                 length: n,
                 counts: _,
             } => {
-                size = put_answer(zone, kind, part(&name, 0, n), &mut table, size);
+                size = append_answer(zone, kind, part(&name, 0, n), &mut table, size);
             }
             Answer::Refused(number) => return print_refused(number),
             Answer::RefusedAt { number, at: _ } => return print_refused(number),

@@ -56,11 +56,11 @@ slice-aggregate-part-3 c = search needs
 part-requires-3 : tie.Need-part-requires-3 Inv-loop μ-loop
 part-requires-3 c κs = search needs
 
-slice-aggregate-put-answer : tie.Need-slice-aggregate-put-answer Inv-loop μ-loop
-slice-aggregate-put-answer c = search needs
+slice-aggregate-append-answer : tie.Need-slice-aggregate-append-answer Inv-loop μ-loop
+slice-aggregate-append-answer c = search needs
 
-put-answer-requires : tie.Need-put-answer-requires Inv-loop μ-loop
-put-answer-requires c κs = search needs
+append-answer-requires : tie.Need-append-answer-requires Inv-loop μ-loop
+append-answer-requires c κs = search needs
 
 enum-known-number : tie.Need-enum-known-number Inv-loop μ-loop
 enum-known-number c = search needs
@@ -119,8 +119,8 @@ run-spec =
     enum-known-kind
     slice-aggregate-part-3
     part-requires-3
-    slice-aggregate-put-answer
-    put-answer-requires
+    slice-aggregate-append-answer
+    append-answer-requires
     enum-known-number
     print-refused-requires
     returns-2
