@@ -19,7 +19,7 @@ abbrev pub extended : List ℕ → (kind status : ℕ) (name items : List ℕ) �
 extended table kind status name items = table ++ entryBytes kind status name items
 
 -- the first bytes of a buffer are an accepted table, and these are its entries
-pub record Begins (buffer : List ℕ) (size : ℕ) (es : List Entry) : Type 0 where
+pub record HasTable (buffer : List ℕ) (size : ℕ) (es : List Entry) : Type 0 where
   pub inside : size ≤ length buffer
   pub short : size ≤ most-bytes
   pub encoded : Encoded (take size buffer) es
@@ -37,11 +37,11 @@ pub data Appends (kind status : ℕ) (name items buffer : List ℕ) (size : ℕ)
   no-table : {n : ℕ} {p : Place} → size ≤ length buffer → TableAnswers (take size buffer) (table-refused n p)
       → Appends kind status name items buffer size (refused n p) buffer
   -- 64: the kind and name pair is in the table
-  in-table : {es : List Entry} → Begins buffer size es → holds kind name es ≡ true → Appends kind status name items buffer size (refused 64 nowhere) buffer
+  in-table : {es : List Entry} → HasTable buffer size es → holds kind name es ≡ true → Appends kind status name items buffer size (refused 64 nowhere) buffer
   -- 65: the new table is refused or exceeds the buffer
-  unfit : {es : List Entry} → Begins buffer size es → holds kind name es ≡ false → ((n : ℕ) → Extends buffer size kind status name items n → ⊥)
+  unfit : {es : List Entry} → HasTable buffer size es → holds kind name es ≡ false → ((n : ℕ) → Extends buffer size kind status name items n → ⊥)
       → Appends kind status name items buffer size (refused 65 nowhere) buffer
   -- the entry's bytes follow the table's, and all other bytes are kept
-  added : {es : List Entry} → Begins buffer size es → Extends buffer size kind status name items (suc (length es))
+  added : {es : List Entry} → HasTable buffer size es → Extends buffer size kind status name items (suc (length es))
       → Appends kind status name items buffer size (appended (length (extended (take size buffer) kind status name items)))
       (extended (take size buffer) kind status name items ++ drop (length (extended (take size buffer) kind status name items)) buffer)

@@ -7,7 +7,7 @@ use Rattle.text.specs.Bytes.{within, isUpper, isNotUpper, isVisible, lower}
 use Rattle.text.specs.Lists.{same, all, grow, split}
 use Rattle.text.specs.Texts.{bytes}
 use Rattle.domain.specs.Names.{labels, isLabel, isName, isTableName}
-use Rattle.answer_table.specs.Layout.{isKind, isStatus, isMailExchange, isItem, body}
+use Rattle.answer_table.specs.Layout.{kind-txt, kind-spf, status-answered, status-no-such-name, isKind, isStatus, isMailExchange, isItem, body}
 use Rattle.answer_table.specs.Reader.{number, firstItem, otherItems, itemsFitFrom, itemsFit, headerOf, nameOf, itemBytes, isEntry, isWell, findAfter, findFrom, findAt, isFound, stepAfter, stepAt, checkAfter, checkFrom, checkTable}
 use Rattle.answer_table.specs.declared.TableAnswer.the-variants.{Accepted, Malformed, Repeated}
 use Rattle.answer_entry.specs.Encoding.{twoBytes, entryBytes}
@@ -22,20 +22,20 @@ name = map lower (bytes "Example.COM")
 
 -- a table of that entry
 abbrev one : List ℕ
-one = extended [] 16 0 name policy
+one = extended [] kind-txt status-answered name policy
 
 pub record Cases : Type 0 where
   -- 28 bytes follow the length; kind 16, status 0, a name of 11 bytes in lower case, the item
   pub text-entry : one ≡ 28 ∷ 0 ∷ 16 ∷ 0 ∷ 0 ∷ 11 ∷ (bytes "example.com" ++ (11 ∷ 0 ∷ bytes "v=spf1 -all"))
   -- 9 bytes follow the length; no items
-  pub no-such-name : entryBytes 99 3 (bytes "a.b.c") [] ≡ 9 ∷ 0 ∷ 99 ∷ 0 ∷ 3 ∷ 5 ∷ bytes "a.b.c"
+  pub no-such-name : entryBytes kind-spf status-no-such-name (bytes "a.b.c") [] ≡ 9 ∷ 0 ∷ 99 ∷ 0 ∷ 3 ∷ 5 ∷ bytes "a.b.c"
   -- 300 is 44 and 1 times 256
-  pub long-entry : entryBytes 16 0 (bytes "a.b") (replicate 293 7) ≡ 44 ∷ 1 ∷ 16 ∷ 0 ∷ 0 ∷ 3 ∷ (bytes "a.b" ++ replicate 293 7)
+  pub long-entry : entryBytes kind-txt status-answered (bytes "a.b") (replicate 293 7) ≡ 44 ∷ 1 ∷ 16 ∷ 0 ∷ 0 ∷ 3 ∷ (bytes "a.b" ++ replicate 293 7)
   -- accepted, and one more of another kind; the same pair again and a name as given aren't
   pub accepted-one : checkTable one ≡ Accepted 1
-  pub accepted-two : checkTable (extended one 99 0 name policy) ≡ Accepted 2
-  pub same-pair : checkTable (extended one 16 3 name []) ≡ Repeated 30
-  pub upper-case : checkTable (extended one 16 3 (bytes "Example.COM") []) ≡ Malformed 30
+  pub accepted-two : checkTable (extended one kind-spf status-answered name policy) ≡ Accepted 2
+  pub same-pair : checkTable (extended one kind-txt status-no-such-name name []) ≡ Repeated 30
+  pub upper-case : checkTable (extended one kind-txt status-no-such-name (bytes "Example.COM") []) ≡ Malformed 30
 
 pub cases : Cases
 unfolding within isUpper isNotUpper isVisible lower same all grow split labels isLabel isName isTableName isKind isStatus isMailExchange isItem body number firstItem otherItems itemsFitFrom itemsFit headerOf nameOf itemBytes isEntry isWell findAfter findFrom findAt isFound stepAfter stepAt checkAfter checkFrom checkTable twoBytes entryBytes

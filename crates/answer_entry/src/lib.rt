@@ -4,11 +4,17 @@ ghost use mathlib.Core.Path.{_≡_};
 ghost use mathlib.Core.List.{map};
 ghost use lib.ListN.{length};
 ghost use Rattle.text.specs.Bytes.{lower};
+ghost use Rattle.domain.specs.Names.{most-name};
+ghost use Rattle.answer_table.specs.Answers.{most-bytes};
 ghost use Rattle.answer_entry.specs.Appending.{Appends};
 ghost use Rattle.answer_entry.specs.Numbers.{outcomeOf};
 ghost use Rattle.answer_entry.specs.Fitting.{Checked, isFit};
 use answer_table::Found;
+use answer_table::MOST_BYTES;
+use answer_table::MOST_ENTRIES;
 use answer_table::TableAnswer;
+use answer_table::entries::HEADER_SIZE;
+use domain::MOST_NAME;
 use text::writing;
 
 pub mod encoding;
@@ -39,20 +45,20 @@ fn is_fit(
     count: usize,
     room: usize,
 ) -> bool
-    requires { ⌜ (size ≤ 65535) × (length (now name) ≤ 253) ⌝ }
+    requires { ⌜ (size ≤ most-bytes) × (length (now name) ≤ most-name) ⌝ }
     ensures { λ r. ⌜ r ≡ isFit kind status (now (name .entry)) (now (items .entry)) size count room ⌝ }
 {
-    if 65535 < items.len() {
+    if MOST_BYTES < items.len() {
         return false;
     }
-    let end = size + 6 + name.len() + items.len();
-    if 65535 < end {
+    let end = size + HEADER_SIZE + name.len() + items.len();
+    if MOST_BYTES < end {
         return false;
     }
     if room < end {
         return false;
     }
-    if count < 512 {
+    if count < MOST_ENTRIES {
         return answer_table::entries::is_entry(kind, status, name, items);
     }
     false
@@ -68,7 +74,7 @@ fn append_lowered(
     size: usize,
     count: usize,
 ) -> AppendAnswer
-    requires { ⌜ Checked (now table) size count × (length (now name) ≤ 253) ⌝ }
+    requires { ⌜ Checked (now table) size count × (length (now name) ≤ most-name) ⌝ }
     ensures { λ r. ⌜ Appends kind status (now (name .entry)) (now (items .entry)) (now (table .entry)) size (outcomeOf r) (now (table .exit)) ⌝ }
 {
     let Found::Missing = answer_table::find(&table[..size], kind, name) else {
@@ -94,10 +100,10 @@ fn append_checked(
     requires { ⌜ Checked (now table) size count ⌝ }
     ensures { λ r. ⌜ Appends kind status (map lower (now (name .entry))) (now (items .entry)) (now (table .entry)) size (outcomeOf r) (now (table .exit)) ⌝ }
 {
-    if 253 < name.len() {
+    if MOST_NAME < name.len() {
         return AppendAnswer::Unfit;
     }
-    let mut lowered = [0u8; 253];
+    let mut lowered = [0u8; MOST_NAME];
     let n = writing::put_lowered(name, &mut lowered, 0);
     append_lowered(kind, status, &lowered[..n], items, table, size, count)
 }

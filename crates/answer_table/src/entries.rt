@@ -9,6 +9,9 @@ use crate::items;
 use text::bytes;
 use text::words;
 
+// What stands before an entry's name: its length, kind, status and name length.
+pub const HEADER_SIZE: usize = 6;
+
 // The header of an entry: kind, status, length of the name, size of the whole entry; or that none stands there.
 pub enum Header {
     Whole {
@@ -24,7 +27,7 @@ pub enum Header {
 pub fn read_header(s: &[u8]) -> Header
     ensures { λ r. ⌜ r ≡ headerOf (now (s .entry)) ⌝ }
 {
-    if s.len() < 6 {
+    if s.len() < HEADER_SIZE {
         return Header::Broken;
     }
     let size = 2 + items::number(s) as usize;
@@ -32,7 +35,7 @@ pub fn read_header(s: &[u8]) -> Header
         return Header::Broken;
     }
     let n = s[5];
-    if size < 6 + n as usize {
+    if size < HEADER_SIZE + n as usize {
         return Header::Broken;
     }
     Header::Whole {
@@ -82,7 +85,7 @@ fn is_status(status: u8) -> bool
 pub fn name_of(s: &[u8], n: u8) -> &[u8]
     ensures { λ r. ⌜ now r ≡ nameOf (now (s .entry)) n ⌝ }
 {
-    bytes::part(s, 6, 6 + n as usize)
+    bytes::part(s, HEADER_SIZE, HEADER_SIZE + n as usize)
 }
 
 // Whether the entry at the front, of kind k and with a name of n bytes, is of a kind and a name.
@@ -134,5 +137,5 @@ pub fn is_well(s: &[u8], h: Header) -> bool
 fn item_bytes(s: &[u8], n: u8, size: usize) -> &[u8]
     ensures { λ r. ⌜ now r ≡ itemBytes (now (s .entry)) n size ⌝ }
 {
-    bytes::part(s, 6 + n as usize, size)
+    bytes::part(s, HEADER_SIZE + n as usize, size)
 }

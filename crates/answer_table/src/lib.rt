@@ -7,6 +7,7 @@ ghost use Rattle.answer_table.specs.Answers.{TableAnswers};
 ghost use Rattle.answer_table.specs.Lookup.{lookup, Finds};
 ghost use Rattle.answer_table.specs.Marks.{Covered, CoveredAfter};
 ghost use Rattle.answer_table.specs.Reader.{entriesOf, findAt, foundItems, stepAt, checkTable};
+use entries::HEADER_SIZE;
 use entries::Header;
 
 pub mod entries;
@@ -42,6 +43,12 @@ pub enum Step {
     Repeated,
 }
 
+// A longer table is refused with 24.
+pub const MOST_BYTES: usize = 65535;
+
+// One entry more is refused with 25.
+pub const MOST_ENTRIES: usize = 512;
+
 // The bytes of a table that is searched for each pair; in a larger one pairs are marked.
 const SMALL: usize = 512;
 
@@ -65,7 +72,7 @@ pub fn find(table: &[u8], kind: u16, name: &[u8]) -> Found
         if entries::is_pair(rest, k, n, kind, name) {
             return Found::Entry {
                 status,
-                start: at + 6 + n as usize,
+                start: at + HEADER_SIZE + n as usize,
                 end: at + size,
             };
         }
@@ -133,7 +140,7 @@ fn check_entries(table: &[u8], marks: &mut [u64]) -> TableAnswer
     let mut at = 0;
     let mut count = 0;
     while at < table.len() {
-        if count == 512 {
+        if count == MOST_ENTRIES {
             return TableAnswer::Malformed(at);
         }
         match step_at(table, at, marks) {
@@ -157,7 +164,7 @@ pub fn check_table(table: &[u8]) -> TableAnswer
     ensures { λ r. ⌜ r ≡ checkTable (now (table .entry)) ⌝ }
     ensures { λ r. ⌜ TableAnswers (now (table .entry)) (reported r) ⌝ }
 {
-    if 65535 < table.len() {
+    if MOST_BYTES < table.len() {
         return TableAnswer::TooLong;
     }
     if SMALL < table.len() {

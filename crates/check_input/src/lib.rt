@@ -3,6 +3,7 @@ ghost use Prim.Native.Nat.{_≤_};
 ghost use lib.ListN.{length};
 ghost use Rattle.check_input.specs.Input.{checkedLines, checkedInput, SaysInput};
 ghost use Rattle.check_input.specs.Lines.{linesOf, answered, Stands};
+use domain::MOST_NAME;
 use evaluation::Answer;
 use evaluation::evaluate;
 use networks::Network;
@@ -66,7 +67,7 @@ pub fn answer_input(input: &[u8], out: &mut [u8]) -> usize
     requires { ⌜ 600 ≤ length (now out) ⌝ }
     ensures { λ r. ⌜ Stands (linesOf (answered (now (input .entry)))) (now (out .entry)) (now (out .exit)) r ⌝ }
 {
-    let mut name = [0u8; 253];
+    let mut name = [0u8; MOST_NAME];
     let mut text = [0u8; 500];
     let answer = check_input(input, &mut name, &mut text);
     lines::put_answer(answer, &name, &text, out, 0)

@@ -14,9 +14,13 @@ labels s = split isDot s
 unfoldable pub isLabel : List ℕ → Bool
 isLabel l = within 1 63 (length l) && all isVisible l
 
+-- the longest name: "1 to 253 bytes"
+abbrev pub most-name : ℕ
+most-name = 253
+
 -- "A name is 1 to 253 bytes, labels of 1 to 63 bytes joined by dots, each byte 33 to 126"
 unfoldable pub isName : List ℕ → Bool
-isName s = within 1 253 (length s) && all isLabel (labels s)
+isName s = within 1 most-name (length s) && all isLabel (labels s)
 
 -- "in the table no A to Z"
 unfoldable pub isTableName : List ℕ → Bool

@@ -11,6 +11,9 @@ use text::bytes::Class;
 use text::words;
 use text::writing;
 
+// The bytes of the longest name.
+pub const MOST_NAME: usize = 253;
+
 // What a text names: a name that was written, with its length, or nothing.
 pub enum Name {
     Written(usize),
@@ -44,7 +47,7 @@ pub fn is_name(s: &[u8]) -> bool
     if s.len() == 0 {
         return false;
     }
-    if 253 < s.len() {
+    if MOST_NAME < s.len() {
         return false;
     }
     labels_fit(s)
@@ -57,7 +60,7 @@ pub fn is_table_name(s: &[u8]) -> bool
     if s.len() == 0 {
         return false;
     }
-    if 253 < s.len() {
+    if MOST_NAME < s.len() {
         return false;
     }
     let mut at = 0;
@@ -159,7 +162,7 @@ fn shorten_from(s: &[u8], at: usize) -> usize
     requires { ⌜ at ≤ length (now s) ⌝ }
     ensures { λ r. ⌜ (r ≤ length (now (s .entry))) × (drop r (now (s .entry)) ≡ shortened (drop at (now (s .entry)))) ⌝ }
 {
-    if s.len() - at <= 253 {
+    if s.len() - at <= MOST_NAME {
         return at;
     }
     let dot = bytes::run_end(s, at, Class::NotDot);

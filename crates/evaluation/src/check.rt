@@ -13,6 +13,7 @@ ghost use Rattle.rules.specs.Outcomes.{mailOf, spanOf, SaysStep, SaysCheck};
 ghost use Rattle.evaluation.specs.Checks.{endedOf, wantingOf, signOf, signedOf, redirectedOf, includedNow, includedOf};
 ghost use Rattle.text.specs.Texts.{bytes};
 use address::Address;
+use domain::MOST_NAME;
 use mechanisms::Tried;
 use record_lookup::modifiers;
 use record_lookup::modifiers::Modifier;
@@ -433,7 +434,7 @@ fn begin_check(
         lookups: used + 1,
         voids: counts.voids,
     };
-    let mut to = [0u8; 253];
+    let mut to = [0u8; MOST_NAME];
     match target_name::make_target(
         client,
         sender,

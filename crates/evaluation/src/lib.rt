@@ -13,6 +13,7 @@ ghost use Rattle.evaluation.specs.Evaluating.{refusalOf, evaluated};
 ghost use Rattle.evaluation.specs.Answers.{lent, handed, Evaluates};
 use address::Address;
 use answer_table::TableAnswer;
+use domain::MOST_NAME;
 use domain::Name;
 use macros::values;
 use rules::Checked;
@@ -70,7 +71,7 @@ fn refusal(
     if values::is_sender(sender) {
         if are_hosts(helo, receiver) {
             if values::is_short(domain) {
-                if 253 <= name {
+                if MOST_NAME <= name {
                     if 500 <= text {
                         return 0;
                     }
@@ -103,7 +104,7 @@ fn check_given(
         lookups: 0,
         voids: 0,
     };
-    let mut to = [0u8; 253];
+    let mut to = [0u8; MOST_NAME];
     match domain::read_name(domain, &mut to) {
         Name::Malformed => check::ended(0, none),
         Name::Written(n) => check::check_domain(

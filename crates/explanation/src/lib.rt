@@ -13,6 +13,7 @@ ghost use Rattle.explanation.specs.Stages.{Shows, printed, withP, fetche
 use address::Address;
 use answer_table::Found;
 use answer_table::items;
+use domain::MOST_NAME;
 use macros::Expanded;
 use macros::Form;
 use record_lookup::modifiers;
@@ -242,7 +243,7 @@ fn fetch(
     requires { ⌜ length (now sender) ≤ 320 ⌝ }
     ensures { λ r. ⌜ SaysText counts (run (tableIn (now (table .entry))) (fetched (mailOf client (now (sender .entry)) (now (helo .entry)) (now (receiver .entry)) seconds) (now (domain .entry)) (now (spec .entry)) counts)) r (now (text .entry)) (now (text .exit)) (now (out .entry)) (now (out .exit)) ⌝ }
 {
-    let mut target = [0u8; 253];
+    let mut target = [0u8; MOST_NAME];
     match target_name::make_target(
         client,
         sender,

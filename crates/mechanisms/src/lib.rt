@@ -10,6 +10,7 @@ ghost use Rattle.rules.specs.Mechanisms.{countedStep};
 ghost use Rattle.rules.specs.Outcomes.{mailOf, SaysStep};
 ghost use Rattle.mechanisms.specs.Terms.{asker, lengthOf, specIf, TriedIs};
 use address::Address;
+use domain::MOST_NAME;
 use records::Term;
 use rules::Counts;
 use rules::Ending;
@@ -83,7 +84,7 @@ fn counted_step(
         lookups: used + 1,
         voids: counts.voids,
     };
-    let mut to = [0u8; 253];
+    let mut to = [0u8; MOST_NAME];
     match target_name::make_target_or(
         client,
         sender,

@@ -22,9 +22,9 @@ use Rattle.answer_table.proofs.Laws.Entries.{distinct-before, pair-is}
 use Rattle.answer_table.proofs.Laws.Finding.{found-iff}
 use Rattle.answer_table.proofs.Laws.Checks.{table-answers-is}
 use Rattle.answer_entry.specs.Encoding.{entryBytes}
-use Rattle.answer_entry.specs.Appending.{Outcome, appended, refused, extended, Begins, Appends, beyond, no-table, in-table, unfit, added}
+use Rattle.answer_entry.specs.Appending.{Outcome, appended, refused, extended, HasTable, Appends, beyond, no-table, in-table, unfit, added}
 use Rattle.answer_entry.specs.Fitting.{newSize, isFit}
-use Rattle.answer_entry.proofs.Laws.Fitting.{begins-accepted, given, new-length, fit-extends, extends-entry, extends-fit, extends-encoded, extends-new}
+use Rattle.answer_entry.proofs.Laws.Fitting.{has-table-accepted, given, new-length, fit-extends, extends-entry, extends-fit, extends-encoded, extends-new}
 
 -- the productions determine the answer: it is what these tests come to
 module _ (kind status : ℕ) (name items buffer : List ℕ) (size : ℕ) where
@@ -47,22 +47,22 @@ module _ (kind status : ℕ) (name items buffer : List ℕ) (size : ℕ) where
   tested-table : {a : Report} → size ≤ length buffer → TableAnswers (take size buffer) a → afterCheck a ≡ tested
   tested-table h t = simp (le-ltb (length buffer) size h, sym (table-answers-is t))
 
-  tested-begins : {es : List Entry} → Begins buffer size es
+  tested-has-table : {es : List Entry} → HasTable buffer size es
       → cond (holds kind name es) (refused 64 nowhere)
       (cond (isFit kind status name items size (length es) (length buffer)) (appended (newSize size name items)) (refused 65 nowhere)) ≡ tested
-  tested-begins b = rw (← (found-iff (b .encoded .entries) kind name)) (tested-table (b .inside) (begins-accepted b))
+  tested-has-table b = rw (← (found-iff (b .encoded .entries) kind name)) (tested-table (b .inside) (has-table-accepted b))
 
   appends-tested : {o : Outcome} {a : List ℕ} → Appends kind status name items buffer size o a → (o ≡ tested) × (a ≡ bufferAfter o)
   appends-tested (beyond h) = (simp (lt-ltb (length buffer) size h), refl)
   appends-tested (no-table h t) = (tested-table h t, refl)
-  appends-tested (in-table b h) = (rw h at (tested-begins b), refl)
+  appends-tested (in-table b h) = (rw h at (tested-has-table b), refl)
   appends-tested (unfit {es = es} b h u) =
       let f = test-fails (isFit kind status name items size (length es) (length buffer)) (λ y. u (suc (length es)) (fit-extends kind status name items b h y)) in
-      (rw (h, f) at (tested-begins b), refl)
+      (rw (h, f) at (tested-has-table b), refl)
   appends-tested (added {es = es} b x) =
       let h = extends-new kind status name items b (suc (length es)) x in
       let f = extends-fit kind status name items b (suc (length es)) x in
-      (rw (new-length kind status name items b) (rw (h, f) at (tested-begins b)), refl)
+      (rw (new-length kind status name items b) (rw (h, f) at (tested-has-table b)), refl)
 
   pub appends-one : {o o′ : Outcome} {a a′ : List ℕ} → Appends kind status name items buffer size o a → Appends kind status name items buffer size o′ a′
       → (o ≡ o′) × (a ≡ a′)

@@ -7,7 +7,7 @@ use native.Mathlib.Omega.{arith}
 use lib.ListN.{length, length-append}
 use Rattle.text.specs.Writing.{Wrote}
 use Rattle.text.proofs.Laws.Writing.{wrote-then}
-use Rattle.answer_table.specs.Layout.{Two, two, body}
+use Rattle.answer_table.specs.Layout.{Two, two, body, header-size}
 use Rattle.answer_entry.specs.Encoding.{twoBytes, entryBytes, lowBytes, headBytes, writtenBytes}
 
 -- two bytes tell their number
@@ -20,7 +20,7 @@ module _ (kind status : ℕ) (name items : List ℕ) where
   unfolding body twoBytes
   length-body = simp length-append (omega arith)
 
-  pub length-entry : length (entryBytes kind status name items) ≡ 6 + (length name + length items)
+  pub length-entry : length (entryBytes kind status name items) ≡ header-size + (length name + length items)
   unfolding entryBytes twoBytes
   length-entry = omega (arith, length-body)
 

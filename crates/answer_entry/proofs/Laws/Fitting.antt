@@ -14,29 +14,29 @@ use Rattle.text.proofs.Laws.Tests.{and-left, and-right, and-both, or-elim, true
 use Rattle.domain.specs.Names.{isTableName}
 use Rattle.answer_table.specs.Layout.{Entry, Encodes, entry, Entries, none, more, isKind, isStatus, isPair, holds}
 use Rattle.answer_table.specs.Numbers.{accepted, refused, byte}
-use Rattle.answer_table.specs.Answers.{most-entries, Encoded, NoEntry, TableAnswers, malformed, whole}
+use Rattle.answer_table.specs.Answers.{most-bytes, most-entries, Encoded, NoEntry, TableAnswers, malformed, whole}
 use Rattle.answer_table.specs.Reader.{itemsOf, isEntry}
 use Rattle.answer_table.proofs.Laws.Encoding.{entry-encoded, entry-none}
 use Rattle.answer_table.proofs.Laws.Entries.{entries-one, entries-snoc, distinct-snoc, distinct-before, pair-is}
 use Rattle.answer_table.proofs.Laws.Checks.{table-answers-is}
 use Rattle.answer_entry.specs.Encoding.{entryBytes}
-use Rattle.answer_entry.specs.Appending.{extended, Begins, Extends}
+use Rattle.answer_entry.specs.Appending.{extended, HasTable, Extends}
 use Rattle.answer_entry.specs.Fitting.{newSize, isFit}
 use Rattle.answer_entry.proofs.Laws.Encoding.{two-bytes, length-entry}
 
 -- an accepted table
-pub accepted-encoded : {t : List ℕ} {n : ℕ} → TableAnswers t (accepted n) → (es : List Entry) × Encoded t es × (length es ≡ n) × (length t ≤ 65535)
+pub accepted-encoded : {t : List ℕ} {n : ℕ} → TableAnswers t (accepted n) → (es : List Entry) × Encoded t es × (length es ≡ n) × (length t ≤ most-bytes)
 accepted-encoded (whole {es = es} short p) = (es, p, refl, short)
 
 -- and one at the front of a buffer
-pub begins : {buffer : List ℕ} {size count : ℕ} → size ≤ length buffer → TableAnswers (take size buffer) (accepted count)
-    → (es : List Entry) × Begins buffer size es × (length es ≡ count)
-begins {buffer} {size} h t =
+pub has-table : {buffer : List ℕ} {size count : ℕ} → size ≤ length buffer → TableAnswers (take size buffer) (accepted count)
+    → (es : List Entry) × HasTable buffer size es × (length es ≡ count)
+has-table {buffer} {size} h t =
     let a = accepted-encoded t in
     (a .0, record { inside = h; short = omega (arith, a .3, length-take-le size buffer h); encoded = a .1 }, a .2)
 
-pub begins-accepted : {buffer : List ℕ} {size : ℕ} {es : List Entry} → Begins buffer size es → TableAnswers (take size buffer) (accepted (length es))
-begins-accepted {buffer} {size} b = whole (omega (arith, b .short, length-take-le size buffer (b .inside))) (b .encoded)
+pub has-table-accepted : {buffer : List ℕ} {size : ℕ} {es : List Entry} → HasTable buffer size es → TableAnswers (take size buffer) (accepted (length es))
+has-table-accepted {buffer} {size} b = whole (omega (arith, b .short, length-take-le size buffer (b .inside))) (b .encoded)
 
 -- a pair of the table has a name as the table allows it
 pub held-name : {t : List ℕ} {es : List Entry} → Entries t es → (kind : ℕ) (name : List ℕ) → holds kind name es ≡ true → isTableName name ≡ true
@@ -67,7 +67,7 @@ module _ (kind status : ℕ) (name items : List ℕ) where
   unfolding entryBytes
   given-none h = entry-none status name items (two-bytes _) (two-bytes kind) h
 
-  module _ {buffer : List ℕ} {size : ℕ} {es : List Entry} (b : Begins buffer size es) where
+  module _ {buffer : List ℕ} {size : ℕ} {es : List Entry} (b : HasTable buffer size es) where
     pub new-length : length (extended (take size buffer) kind status name items) ≡ newSize size name items
     new-length =
         length-append (take size buffer) (entryBytes kind status name items)
@@ -79,17 +79,17 @@ module _ (kind status : ℕ) (name items : List ℕ) where
     unfolding isFit
     fit-extends h f =
         let n = newSize size name items in
-        let f₁ = and-right (leb n 65535) _ f in
+        let f₁ = and-right (leb n most-bytes) _ f in
         let f₂ = and-right (leb n (length buffer)) _ f₁ in
-        let short = leb-true n 65535 (and-left (leb n 65535) _ f) in
+        let short = leb-true n most-bytes (and-left (leb n most-bytes) _ f) in
         let room = leb-true n (length buffer) (and-left (leb n (length buffer)) _ f₁) in
-        let few = ltb-true (length es) 512 (and-left (ltb (length es) 512) _ f₂) in
+        let few = ltb-true (length es) most-entries (and-left (ltb (length es) most-entries) _ f₂) in
         let l : length (es ++ (given ∷ [])) ≡ suc (length es) = length-append es (given ∷ []) ∙ omega arith in
         record {
           accepts =
               subst (λ (k : ℕ). TableAnswers (extended (take size buffer) kind status name items) (accepted k)) l
               (whole (omega (arith, new-length, short)) (record {
-                entries = entries-snoc (b .encoded .entries) (given-encoded (and-right (ltb (length es) 512) _ f₂));
+                entries = entries-snoc (b .encoded .entries) (given-encoded (and-right (ltb (length es) most-entries) _ f₂));
                 few = omega (arith, few, l);
                 once = distinct-snoc es given (b .encoded .once) h;
               }));
@@ -115,10 +115,10 @@ module _ (kind status : ℕ) (name items : List ℕ) where
       unfolding isFit
       extends-fit =
           let m = newSize size name items in
-          let few = test-holds (ltb (length es) 512) (λ f. never (inl (omega (arith, ltb-false (length es) 512 f, b .encoded .few)))) in
-          and-both (leb m 65535) _ (le-leb m 65535 (omega (arith, new-length, accepted-encoded (x .accepts) .3)))
+          let few = test-holds (ltb (length es) most-entries) (λ f. never (inl (omega (arith, ltb-false (length es) most-entries f, b .encoded .few)))) in
+          and-both (leb m most-bytes) _ (le-leb m most-bytes (omega (arith, new-length, accepted-encoded (x .accepts) .3)))
           (and-both (leb m (length buffer)) _ (le-leb m (length buffer) (omega (arith, new-length, x .room)))
-          (and-both (ltb (length es) 512) _ few extends-entry))
+          (and-both (ltb (length es) most-entries) _ few extends-entry))
 
       -- the entries of the new table
       pub extends-encoded : Encoded (extended (take size buffer) kind status name items) (es ++ (given ∷ []))

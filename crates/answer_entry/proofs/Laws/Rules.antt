@@ -13,78 +13,78 @@ use Rattle.text.specs.Bytes.{lower}
 use Rattle.text.specs.Writing.{Wrote}
 use Rattle.text.proofs.Laws.Writing.{value-taken}
 use Rattle.text.proofs.Laws.Tests.{and-left, true-false, test-fails}
-use Rattle.domain.specs.Names.{isTableName}
+use Rattle.domain.specs.Names.{most-name, isTableName}
 use Rattle.domain.proofs.Laws.TableNames.{table-long}
-use Rattle.answer_table.specs.Layout.{Entry, holds}
+use Rattle.answer_table.specs.Layout.{Entry, holds, header-size}
 use Rattle.answer_table.specs.Numbers.{nowhere, byte, reported}
-use Rattle.answer_table.specs.Answers.{TableAnswers}
+use Rattle.answer_table.specs.Answers.{most-bytes, most-entries, TableAnswers}
 use Rattle.answer_table.specs.Reader.{isEntry, findAt, isFound}
 use Rattle.answer_table.specs.declared.Found.{Found}
 use Rattle.answer_table.specs.declared.TableAnswer.{TableAnswer}
 use Rattle.answer_table.proofs.Laws.Finding.{found-iff}
 use Rattle.answer_entry.specs.Encoding.{entryBytes, writtenBytes}
-use Rattle.answer_entry.specs.Appending.{Outcome, appended, refused, extended, Begins, Appends, beyond, no-table, in-table, unfit, added}
+use Rattle.answer_entry.specs.Appending.{Outcome, appended, refused, extended, HasTable, Appends, no-table, in-table, unfit, added}
 use Rattle.answer_entry.specs.Fitting.{Checked, newSize, isFit}
 use Rattle.answer_entry.proofs.Laws.Encoding.{length-entry, written-is}
-use Rattle.answer_entry.proofs.Laws.Fitting.{begins, held-name, new-length, fit-extends, entry-named, extends-entry, extends-fit}
+use Rattle.answer_entry.proofs.Laws.Fitting.{has-table, held-name, new-length, fit-extends, entry-named, extends-entry, extends-fit}
 
 -- `is_fit`
 module _ (kind status : ℕ) (name items : List ℕ) (size count room : ℕ) where
-  pub fit-items : 65535 < length items → false ≡ isFit kind status name items size count room
+  pub fit-items : most-bytes < length items → false ≡ isFit kind status name items size count room
   unfolding isFit
-  fit-items h = simp (lt-leb (newSize size name items) 65535 (omega arith))
+  fit-items h = simp (lt-leb (newSize size name items) most-bytes (omega arith))
 
-  pub fit-long : 65535 < size + 6 + length name + length items → false ≡ isFit kind status name items size count room
+  pub fit-long : most-bytes < size + header-size + length name + length items → false ≡ isFit kind status name items size count room
   unfolding isFit
-  fit-long h = simp (lt-leb (newSize size name items) 65535 (omega arith))
+  fit-long h = simp (lt-leb (newSize size name items) most-bytes (omega arith))
 
-  module _ (short : size + 6 + length name + length items ≤ 65535) where
-    pub fit-room : room < size + 6 + length name + length items → false ≡ isFit kind status name items size count room
+  module _ (short : size + header-size + length name + length items ≤ most-bytes) where
+    pub fit-room : room < size + header-size + length name + length items → false ≡ isFit kind status name items size count room
     unfolding isFit
-    fit-room h = simp (le-leb (newSize size name items) 65535 (omega arith), lt-leb (newSize size name items) room (omega arith))
+    fit-room h = simp (le-leb (newSize size name items) most-bytes (omega arith), lt-leb (newSize size name items) room (omega arith))
 
-    module _ (inside : size + 6 + length name + length items ≤ room) where
-      pub fit-full : 512 ≤ count → false ≡ isFit kind status name items size count room
+    module _ (inside : size + header-size + length name + length items ≤ room) where
+      pub fit-full : most-entries ≤ count → false ≡ isFit kind status name items size count room
       unfolding isFit
       fit-full h =
-          simp (le-leb (newSize size name items) 65535 (omega arith), le-leb (newSize size name items) room (omega arith), le-ltb count 512 h)
+          simp (le-leb (newSize size name items) most-bytes (omega arith), le-leb (newSize size name items) room (omega arith), le-ltb count most-entries h)
 
-      pub fit-entry : count < 512 → (r : Bool) → r ≡ isEntry kind status name items → r ≡ isFit kind status name items size count room
+      pub fit-entry : count < most-entries → (r : Bool) → r ≡ isEntry kind status name items → r ≡ isFit kind status name items size count room
       unfolding isFit
       fit-entry h r e =
-          e ∙ simp (le-leb (newSize size name items) 65535 (omega arith), le-leb (newSize size name items) room (omega arith), lt-ltb count 512 h)
+          e ∙ simp (le-leb (newSize size name items) most-bytes (omega arith), le-leb (newSize size name items) room (omega arith), lt-ltb count most-entries h)
 
 -- `append_lowered`
 module _ (kind status : ℕ) (name items buffer : List ℕ) (size count : ℕ) (c : Checked buffer size count) where
-  pub checked-short : size ≤ 65535
-  checked-short = begins (c .inside) (c .accepts) .1 .short
+  pub checked-short : size ≤ most-bytes
+  checked-short = has-table (c .inside) (c .accepts) .1 .short
 
   module _ (x : Found) (e : x ≡ findAt (take size buffer) kind name) where
-    held : {es : List Entry} → Begins buffer size es → holds kind name es ≡ isFound x
+    held : {es : List Entry} → HasTable buffer size es → holds kind name es ≡ isFound x
     held b = sym (found-iff (b .encoded .entries) kind name) ∙ ap isFound (sym e)
 
     pub lowered-found : (s a z : ℕ) → x ≡ Found.Entry s a z → Appends kind status name items buffer size (refused 64 nowhere) buffer
     unfolding isFound
     lowered-found s a z q =
-        let b = begins (c .inside) (c .accepts) in
+        let b = has-table (c .inside) (c .accepts) in
         in-table (b .1) (held (b .1) ∙ ap isFound q)
 
     module _ (q : x ≡ Found.Missing) (t : Bool) (f : t ≡ isFit kind status name items size count (length buffer)) where
       pub lowered-unfit : t ≡ false → Appends kind status name items buffer size (refused 65 nowhere) buffer
       unfolding isFound
       lowered-unfit n =
-          let b = begins (c .inside) (c .accepts) in
+          let b = has-table (c .inside) (c .accepts) in
           let g : isFit kind status name items size (length (b .0)) (length buffer) ≡ false = rw (b .2) (sym f ∙ n) in
           unfit (b .1) (held (b .1) ∙ ap isFound q) (λ k y. true-false _ (extends-fit kind status name items (b .1) k y) g)
 
-      pub lowered-added : t ≡ true → kind < 2 ^ 16 → length name ≤ 253 → (after : List ℕ) (end : ℕ)
+      pub lowered-added : t ≡ true → kind < 2 ^ 16 → length name ≤ most-name → (after : List ℕ) (end : ℕ)
           → Wrote (writtenBytes kind status name items) buffer size after end → Appends kind status name items buffer size (appended end) after
       unfolding isFound isFit
       lowered-added y k l after end w =
-          let b = begins (c .inside) (c .accepts) in
+          let b = has-table (c .inside) (c .accepts) in
           let new = extended (take size buffer) kind status name items in
           let g : isFit kind status name items size (length (b .0)) (length buffer) ≡ true = rw (b .2) (sym f ∙ y) in
-          let short = leb-true (newSize size name items) 65535 (and-left (leb (newSize size name items) 65535) _ g) in
+          let short = leb-true (newSize size name items) most-bytes (and-left (leb (newSize size name items) most-bytes) _ g) in
           let x = fit-extends kind status name items (b .1) (held (b .1) ∙ ap isFound q) g in
           let m = new-length kind status name items (b .1) in
           let n = length-entry kind status name items in
@@ -98,7 +98,7 @@ module _ (kind status : ℕ) (name items buffer : List ℕ) (size count : ℕ) (
           (subst (λ (j : ℕ). Appends kind status name items buffer size (appended j) (new ++ drop (length new) buffer)) (sym p) (added (b .1) x))
 
 -- `append_checked`
-module _ (name : List ℕ) (h : length name ≤ 253) (z : List ℕ) (s : length z ≡ 253) where
+module _ (name : List ℕ) (h : length name ≤ most-name) (z : List ℕ) (s : length z ≡ most-name) where
   pub lowered-room : length (map lower name) ≤ length z
   lowered-room = omega (arith, length-map name lower)
 
@@ -106,7 +106,7 @@ module _ (name : List ℕ) (h : length name ≤ 253) (z : List ℕ) (s : length 
     lowered-is : take n v ≡ map lower name
     lowered-is = value-taken (map lower name) z v n w lowered-room
 
-    pub lowered-length : length (take n v) ≤ 253
+    pub lowered-length : length (take n v) ≤ most-name
     lowered-length = omega (arith, ap length lowered-is, length-map name lower)
 
     pub lowered-through : (kind status : ℕ) (items buffer : List ℕ) (size : ℕ) (o : Outcome) (after : List ℕ)
@@ -115,17 +115,14 @@ module _ (name : List ℕ) (h : length name ≤ 253) (z : List ℕ) (s : length 
         subst (λ (u : List ℕ). Appends kind status u items buffer size o after) lowered-is a
 
 module _ (kind status : ℕ) (name items buffer : List ℕ) (size : ℕ) where
-  pub checked-long : (count : ℕ) → Checked buffer size count → 253 < length name → Appends kind status (map lower name) items buffer size (refused 65 nowhere) buffer
+  pub checked-long : (count : ℕ) → Checked buffer size count → most-name < length name → Appends kind status (map lower name) items buffer size (refused 65 nowhere) buffer
   checked-long count c h =
-      let b = begins (c .inside) (c .accepts) in
+      let b = has-table (c .inside) (c .accepts) in
       let n : isTableName (map lower name) ≡ false = sym (table-long (map lower name) (omega (arith, length-map name lower))) in
       unfit (b .1) (test-fails _ (λ y. true-false _ (held-name (b .1 .encoded .entries) kind (map lower name) y) n))
       (λ k x. true-false _ (entry-named kind status (map lower name) items (extends-entry kind status (map lower name) items (b .1) k x)) n)
 
   -- `append_entry`
-  pub append-beyond : length buffer < size → Appends kind status name items buffer size (refused 24 nowhere) buffer
-  append-beyond h = beyond h
-
   module _ (h : size ≤ length buffer) (x : TableAnswer) (t : TableAnswers (take size buffer) (reported x)) where
     pub append-checks : (count : ℕ) → x ≡ TableAnswer.Accepted count → Checked buffer size count
     append-checks count e = record { inside = h; accepts = rw e at t }

@@ -1,13 +1,14 @@
 -- `append_entry` meets its contract. From the rules.
 use native.Mathlib.Omega.{arith}
 use lib.ListN.{length-take}
-use Rattle.answer_entry.proofs.Laws.Rules.{append-beyond, append-checks, append-too-long, append-malformed, append-repeated}
+use Rattle.answer_entry.specs.Appending.{beyond}
+use Rattle.answer_entry.proofs.Laws.Rules.{append-checks, append-too-long, append-malformed, append-repeated}
 use borrow.Author.Needs.{needs}
 use Rattle.answer_entry.proofs.append_entry.Statement.{statement}
 use Rattle.answer_entry.proofs.append_entry.Tie as tie
 
 returns : tie.Need-returns
-returns c = search append-beyond
+returns c = search beyond
 
 slice-reshare-prefix-check-table : tie.Need-slice-reshare-prefix-check-table
 slice-reshare-prefix-check-table c = search needs
