@@ -19,6 +19,8 @@ static void expect(int holds, const char *what)
 }
 
 static const uint8_t client[4] = { 192, 0, 2, 129 }, network[4] = { 192, 0, 2, 0 };
+static const uint8_t client6[16] = { 0x20, 0x01, 0x1d, 0xb8, [15] = 1 }; /* 2001:1db8::1 */
+static const uint8_t network6[16] = { 0x20, 0x01, 0x0d, 0xb8, [15] = 1 }; /* 2001:db8::1 */
 static const uint8_t mapped[16] = { 0, 0, 0, 0, 0, 0, 0, 0, 0, 0, 255, 255, 192, 0, 2, 129 };
 
 static void records(void)
@@ -87,6 +89,10 @@ static void matches(void)
     expect(talavorn_matches(client, 4, network, 4, 25) == 0, "/25");
     expect(talavorn_matches(client, 4, network, 4, 0) == 1, "/0");
     expect(talavorn_matches(client, 4, client, 4, 33) == 0, "/33");
+    expect(talavorn_matches(client6, 16, network6, 16, 19) == 1, "/19");
+    expect(talavorn_matches(client6, 16, network6, 16, 20) == 0, "/20");
+    expect(talavorn_matches(client6, 16, network6, 16, 128) == 0, "/128");
+    expect(talavorn_matches(client6, 16, client6, 16, 128) == 1, "its own /128");
     expect(talavorn_matches(client, 3, network, 4, 0) == TALAVORN_BAD_ADDRESS, "three octets");
     expect(talavorn_matches(mapped, 16, network, 4, 24) == 0, "a mapped address");
     expect(talavorn_matches(mapped + 12, 4, network, 4, 24) == 1, "its last four octets");

@@ -336,7 +336,8 @@ uint8_t talavorn_expand(
 
 /* Whether a client matches a network: 1 if both are of one family, bits is at most its width, 32 or
  * 128, and the first `bits` bits of both are the same; otherwise 0; 90 if one of them isn't 4 or 16
- * octets.
+ * octets. In bytes: the first bits / 8 are equal, and if bits % 8 are left over, so are these
+ * high-order bits of the next byte.
  *
  * Addresses are compared as they are given: an IPv4-mapped IPv6 address ::ffff:a.b.c.d is IPv6
  * here, whereas talavorn_evaluate takes such a client as IPv4. A dual-stack caller who wants the

@@ -1,12 +1,15 @@
 // Addresses and prefix lengths.
-ghost use Prim.Native.Nat.{_≤_, _<_, _^_};
+ghost use Prim.Native.Nat.{_*_, _≤_, _<_, _^_};
 ghost use mathlib.Core.Path.{_≡_};
 ghost use mathlib.Core.Bool.{true};
 ghost use mathlib.Core.List.{_++_};
 ghost use mathlib.Core.Logic.{_↔_};
-ghost use lib.ListN.{length};
+ghost use lib.ListN.{length, take};
+ghost use lib.Dec.{leb, eqb};
+ghost use Rattle.text.specs.Lists.{same};
 ghost use Rattle.address.specs.Octets.{octetsOf, octets, valueOf, fromOctets, clientOctets, asClient};
-ghost use Rattle.address.specs.Matching.{agree, matchesAt, Matches};
+ghost use Rattle.address.specs.Matching.{agree, matchesAt, Matches, highBits};
+use text::words;
 
 // An address of either family, by its number; an IPv6 address in two halves, high-order first.
 pub enum Address {
@@ -117,36 +120,54 @@ pub fn as_client(a: Address) -> Address
     }
 }
 
-// Whether the first `length` bits of a and b agree. Whole octets are compared first; the one that is partly compared is shifted by 1 to 7.
-fn agrees(a: &[u8], b: &[u8], length: usize) -> bool
-    ensures { λ r. ⌜ r ≡ agree (now (a .entry)) (now (b .entry)) length ⌝ }
+// Whether n bits are at most the width of s.
+fn is_within_width(s: &[u8], n: usize) -> bool
+    ensures { λ r. ⌜ r ≡ leb n (8 * length (now (s .entry))) ⌝ }
 {
-    let whole = length / 8;
-    let part = length % 8;
-    if a.len() < whole {
+    if n % 8 == 0 {
+        return n / 8 <= s.len();
+    }
+    n / 8 < s.len()
+}
+
+// Whether the first `count` bytes of a and b are the same.
+fn same_whole_bytes(a: &[u8], b: &[u8], count: usize) -> bool
+    requires { ⌜ count ≤ length (now a) ⌝ }
+    requires { ⌜ count ≤ length (now b) ⌝ }
+    ensures { λ r. ⌜ r ≡ same (take count (now (a .entry))) (take count (now (b .entry))) ⌝ }
+{
+    words::equal(&a[..count], &b[..count])
+}
+
+// Whether the `count` high-order bits of x and y are the same. The other 1 to 7 bits are shifted out.
+fn same_high_bits(x: u8, y: u8, count: usize) -> bool
+    requires { ⌜ 1 ≤ count ⌝ }
+    requires { ⌜ count ≤ 7 ⌝ }
+    ensures { λ r. ⌜ r ≡ eqb (highBits count x) (highBits count y) ⌝ }
+{
+    let others = 8 - count;
+    (x >> others) == (y >> others)
+}
+
+// Whether the first n bits of a and b agree: n is at most the width, its whole bytes are the same, and so are any bits left over in the next byte. 19 bits are 2 whole bytes and the 3 high-order bits of the third.
+fn agrees(a: &[u8], b: &[u8], n: usize) -> bool
+    ensures { λ r. ⌜ r ≡ agree (now (a .entry)) (now (b .entry)) n ⌝ }
+{
+    if !is_within_width(a, n) {
         return false;
     }
-    if b.len() < whole {
+    if !is_within_width(b, n) {
         return false;
     }
-    let mut i = 0;
-    while i < whole {
-        if a[i] != b[i] {
-            return false;
-        }
-        i += 1;
+    let whole = n / 8;
+    if !same_whole_bytes(a, b, whole) {
+        return false;
     }
-    if part == 0 {
+    let left_over = n % 8;
+    if left_over == 0 {
         return true;
     }
-    if a.len() == whole {
-        return false;
-    }
-    if b.len() == whole {
-        return false;
-    }
-    let unused = 8 - part;
-    (a[whole] >> unused) == (b[whole] >> unused)
+    same_high_bits(a[whole], b[whole], left_over)
 }
 
 // Whether a client matches a network at a prefix length.

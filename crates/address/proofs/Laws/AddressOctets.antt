@@ -3,7 +3,7 @@ use Prim.Native.Nat.{ℕ, _-_, _^_, _<_}
 use mathlib.Core.Path.{_≡_, ap, subst, _∙_}
 use mathlib.Core.List.{List, _++_}
 use native.Mathlib.Omega.{arith}
-use lib.ListN.{length, getD, take, drop, length-append, length-take, length-drop, take-append-drop}
+use lib.ListN.{length, take, drop, length-append, length-take, length-drop, take-append-drop}
 use lib.Dec.{eqb}
 use borrow.Author.Tests.{eqb-true}
 use Rattle.text.proofs.Laws.Tests.{cond-elim}
@@ -13,7 +13,7 @@ use Rattle.address.specs.declared.Address.the-variants.{IPv4, IPv6}
 use Rattle.address.specs.declared.FromOctets.{FromOctets}
 use Rattle.address.specs.declared.FromOctets.the-variants.{Is, NoAddress}
 use Rattle.address.specs.Octets.{octetsOf, octets, valueOf, fromOctets}
-use Rattle.address.proofs.Laws.OctetValues.{length-octetsOf, octets-value, octets-injective, octets-first, bytes-take, bytes-drop}
+use Rattle.address.proofs.Laws.OctetValues.{Bytes, length-octetsOf, octets-value, octets-injective, octets-first, bytes-take, bytes-drop, bytes-append, bytes-octets}
 
 -- the numbers of an address as its types hold them
 abbrev pub InRange : Address → Type 0
@@ -28,12 +28,17 @@ pub length-sixteen : (high low : ℕ) → length (octets (IPv6 high low)) ≡ 16
 unfolding octets
 length-sixteen high low = simp (length-append, length-octetsOf)
 
+pub bytes-address : (a : Address) → Bytes (octets a)
+unfolding octets
+bytes-address (IPv4 v) = bytes-octets 4 v
+bytes-address (IPv6 high low) = bytes-append (octetsOf 8 high) (octetsOf 8 low) (bytes-octets 8 high) (bytes-octets 8 low)
+
 -- what octets are the address of
 abbrev OctetsOf : List ℕ → FromOctets → Type 0
 OctetsOf s (Is a) = octets a ≡ s
 OctetsOf s NoAddress = Unit {0}
 
-module _ (s : List ℕ) (h : (i : ℕ) → getD s i 0 < 256) where
+module _ (s : List ℕ) (h : Bytes s) where
   from-four : length s ≡ 4 → octetsOf 4 (valueOf s) ≡ s
   unfolding valueOf
   from-four e = rw e at (octets-value 0 s h)

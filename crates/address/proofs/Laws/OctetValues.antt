@@ -9,6 +9,10 @@ use lib.ListN.{length, getD, take, drop, length-append}
 use lib.Seq.{getD-drop, take-suc, take-all, take-at, drop-at}
 use Rattle.address.specs.Octets.{octetsOf, valueFrom, valueOf}
 
+-- octets are below 256
+abbrev pub Bytes : List ℕ → Type 0
+Bytes s = (i : ℕ) → getD s i 0 < 256
+
 pub length-octetsOf : (n v : ℕ) → length (octetsOf n v) ≡ n
 unfolding octetsOf
 length-octetsOf zero v = refl
@@ -42,7 +46,7 @@ value-octets (suc n) v h =
     ∙ rw (value-octets n (v / 256) (div-lt-iff-lt-mul (omega arith) .1 (rw pow-suc at h))) (omega arith)
 
 -- the value without the octets that follow
-pub value-div : (v : ℕ) (s : List ℕ) → ((i : ℕ) → getD s i 0 < 256) → valueFrom v s / 256 ^ length s ≡ v
+pub value-div : (v : ℕ) (s : List ℕ) → Bytes s → valueFrom v s / 256 ^ length s ≡ v
 unfolding valueFrom
 value-div v [] h = rw (pow-zero) (div-one v)
 value-div v (o ∷ s) h =
@@ -50,7 +54,7 @@ value-div v (o ∷ s) h =
     rw (pow-suc, ← (div-div-eq-div-mul (valueFrom (256 * v + o) s) (256 ^ length s) 256), value-div (256 * v + o) s (λ i. h (suc i))) (omega arith)
 
 -- octets are those of the number that they write
-pub octets-value : (v : ℕ) (s : List ℕ) → ((i : ℕ) → getD s i 0 < 256) → octetsOf (length s) (valueFrom v s) ≡ s
+pub octets-value : (v : ℕ) (s : List ℕ) → Bytes s → octetsOf (length s) (valueFrom v s) ≡ s
 unfolding octetsOf valueFrom
 octets-value v [] h = refl
 octets-value v (o ∷ s) h =
@@ -62,14 +66,29 @@ octets-value v (o ∷ s) h =
     (rw (one-add n) at (octets-split 1 n w)) ∙ rest
 
 -- octets of a part are octets
-pub bytes-take : (n : ℕ) (s : List ℕ) → ((i : ℕ) → getD s i 0 < 256) → (i : ℕ) → getD (take n s) i 0 < 256
+pub bytes-take : (n : ℕ) (s : List ℕ) → Bytes s → Bytes (take n s)
 bytes-take zero s h i = omega arith
 bytes-take (suc n) [] h i = omega arith
 bytes-take (suc n) (x ∷ s) h zero = h 0
 bytes-take (suc n) (x ∷ s) h (suc i) = bytes-take n s (λ j. h (suc j)) i
 
-pub bytes-drop : (n : ℕ) (s : List ℕ) → ((i : ℕ) → getD s i 0 < 256) → (i : ℕ) → getD (drop n s) i 0 < 256
+pub bytes-drop : (n : ℕ) (s : List ℕ) → Bytes s → Bytes (drop n s)
 bytes-drop n s h i = rw (getD-drop n s i 0) (h (n + i))
+
+pub bytes-append : (s t : List ℕ) → Bytes s → Bytes t → Bytes (s ++ t)
+bytes-append [] t hs ht i = ht i
+bytes-append (x ∷ s) t hs ht zero = hs 0
+bytes-append (x ∷ s) t hs ht (suc i) = bytes-append s t (λ j. hs (suc j)) ht i
+
+-- the octets of a number are octets
+pub bytes-octets : (n v : ℕ) → Bytes (octetsOf n v)
+unfolding octetsOf
+bytes-octets zero v i = omega arith
+bytes-octets (suc n) v i = bytes-append (octetsOf n (v / 256)) (v % 256 ∷ []) (bytes-octets n (v / 256)) last i
+  where
+    last : Bytes (v % 256 ∷ [])
+    last zero = omega arith
+    last (suc i) = omega arith
 
 -- two numbers in range with the same octets are the same
 pub octets-injective : (n v w : ℕ) → v < 256 ^ n → w < 256 ^ n → octetsOf n v ≡ octetsOf n w → v ≡ w

@@ -1,119 +1,64 @@
--- `agrees` meets its contract, from the laws of agreement. The loop: the octets compared so far were the same, and the rest decides.
-use Prim.Native.Nat.{_-_, _/_}
-use native.Mathlib.Omega.{arith}
+-- `agrees` meets its contract, from the rules of comparing; they cite the law that the prefix rule as taught decides.
 use borrow.Author.Needs.{needs}
-use Rattle.address.proofs.Laws.Agreement.{Compared, compared-none, compared-more, compared-differs, compared-whole, compared-part, agree-over-first, agree-over-second}
+use Rattle.address.proofs.Laws.Comparing.{whole-inside, next-inside, agree-over-first, agree-over-second, agree-differs, agree-whole, agree-left-over}
 use Rattle.address.proofs.agrees.Statement.{statement}
 use Rattle.address.proofs.agrees.Tie as tie
 
-abbrev Inv-loop : tie.InvT-loop
-Inv-loop a b n whole part i₀ i = Compared a b n i
+is-within-width-requires : tie.Need-is-within-width-requires
+is-within-width-requires c κs = search needs
 
-abbrev μ-loop : tie.MeasureT-loop
-μ-loop a b n whole part i₀ i = whole - i
+returns : tie.Need-returns
+returns c = search agree-over-first
 
-returns : tie.Need-returns Inv-loop μ-loop
-returns c = agree-over-first _ _ _ (omega arith)
+is-within-width-requires-2 : tie.Need-is-within-width-requires-2
+is-within-width-requires-2 c κs = search needs
 
-returns-2 : tie.Need-returns-2 Inv-loop μ-loop
-returns-2 c = agree-over-second _ _ _ (omega arith)
+returns-2 : tie.Need-returns-2
+returns-2 c = search agree-over-second
 
-loop-holds : tie.Need-loop-holds Inv-loop μ-loop
-loop-holds c = search compared-none
+same-whole-bytes-requires : tie.Need-same-whole-bytes-requires
+same-whole-bytes-requires c κs =
+    let args = c .before .before .before .before .before .before .args in (
+      whole-inside (args .a .now) _ _ (c .before .before .before .is-within-width .ensures) (c .before .before .if1 .left),
+      whole-inside (args .b .now) _ _ (c .before .is-within-width2 .ensures) (c .if2 .left),
+    )
 
-shared-slice-read-if3 : tie.Need-shared-slice-read-if3 Inv-loop μ-loop
-shared-slice-read-if3 c = search needs
+returns-3 : tie.Need-returns-3
+returns-3 c = search agree-differs
 
-shared-slice-read-if3-2 : tie.Need-shared-slice-read-if3-2 Inv-loop μ-loop
-shared-slice-read-if3-2 c = search needs
+returns-4 : tie.Need-returns-4
+returns-4 c = search agree-whole
 
-returns-3 : tie.Need-returns-3 Inv-loop μ-loop
-returns-3 c =
-    let i = c .before .before .before .before .loop .i in
-    compared-differs _ _ _ i
-    (c .before .before .before .before .loop .inv)
-    (c .before .before .before .loop-test .taken)
-    (c .before .before .before .before .before .before .if1 .left)
-    (c .before .before .before .before .before .if2 .left)
-    (omega (arith, c .before .before .shared-slice-known .given i))
-    (omega (arith, c .before .shared-slice-known2 .given i))
-    (c .if3 .taken)
+shared-slice-read-same-high-bits : tie.Need-shared-slice-read-same-high-bits
+shared-slice-read-same-high-bits c =
+    let e = c .before .before .before .before in
+    let args = e .before .before .before .before .before .before .args in
+    next-inside (args .a .now) _ _ (e .before .before .before .is-within-width .ensures) (e .before .before .if1 .left) (c .before .if4 .left)
 
-add-i : tie.Need-add-i Inv-loop μ-loop
-add-i c = search needs
+shared-slice-read-same-high-bits-2 : tie.Need-shared-slice-read-same-high-bits-2
+shared-slice-read-same-high-bits-2 c =
+    let e = c .before .before .before .before .before in
+    let args = e .before .before .before .before .before .before .args in
+    next-inside (args .b .now) _ _ (e .before .is-within-width2 .ensures) (e .if2 .left) (c .before .before .if4 .left)
 
-loop-less : tie.Need-loop-less Inv-loop μ-loop
-loop-less c = omega arith
+same-high-bits-requires : tie.Need-same-high-bits-requires
+same-high-bits-requires c κs = search needs
 
-loop-again : tie.Need-loop-again Inv-loop μ-loop
-loop-again c = search compared-more
-
-returns-4 : tie.Need-returns-4 Inv-loop μ-loop
-returns-4 c = search compared-whole
-
-returns-5 : tie.Need-returns-5 Inv-loop μ-loop
-returns-5 c = agree-over-first _ _ _ (omega arith)
-
-returns-6 : tie.Need-returns-6 Inv-loop μ-loop
-returns-6 c = agree-over-second _ _ _ (omega arith)
-
-sub-unused : tie.Need-sub-unused Inv-loop μ-loop
-sub-unused c = omega arith
-
-shared-slice-read-result : tie.Need-shared-slice-read-result Inv-loop μ-loop
-shared-slice-read-result c = search needs
-
-cast-result : tie.Need-cast-result Inv-loop μ-loop
-cast-result c = omega arith
-
-shr-result : tie.Need-shr-result Inv-loop μ-loop
-shr-result c = omega arith
-
-shared-slice-read-result-2 : tie.Need-shared-slice-read-result-2 Inv-loop μ-loop
-shared-slice-read-result-2 c = search needs
-
-cast-result-2 : tie.Need-cast-result-2 Inv-loop μ-loop
-cast-result-2 c = omega arith
-
-shr-result-2 : tie.Need-shr-result-2 Inv-loop μ-loop
-shr-result-2 c = omega arith
-
-returns-7 : tie.Need-returns-7 Inv-loop μ-loop
-returns-7 c =
-    let i = c .before .before .before .before .before .before .before .before .before .args .length / 8 in
-    compared-part _ _ _ _
-    (c .before .before .before .before .before .before .loop .inv)
-    (c .before .before .before .before .before .loop-test .left)
-    (c .before .before .before .before .before .before .before .before .if1 .left)
-    (c .before .before .before .if5 .left)
-    (c .before .before .before .before .before .before .before .if2 .left)
-    (c .before .before .if6 .left)
-    (omega (arith, c .before .shared-slice-known3 .given i))
-    (omega (arith, c .shared-slice-known4 .given i))
+returns-5 : tie.Need-returns-5
+returns-5 c = search agree-left-over
 
 pub agrees-spec : {M : Type 1} → statement M
 agrees-spec =
     tie.close
     (tie.spec
-    Inv-loop
-    μ-loop
+    is-within-width-requires
     returns
+    is-within-width-requires-2
     returns-2
-    loop-holds
-    shared-slice-read-if3
-    shared-slice-read-if3-2
+    same-whole-bytes-requires
     returns-3
-    add-i
-    loop-less
-    loop-again
     returns-4
-    returns-5
-    returns-6
-    sub-unused
-    shared-slice-read-result
-    cast-result
-    shr-result
-    shared-slice-read-result-2
-    cast-result-2
-    shr-result-2
-    returns-7)
+    shared-slice-read-same-high-bits
+    shared-slice-read-same-high-bits-2
+    same-high-bits-requires
+    returns-5)
