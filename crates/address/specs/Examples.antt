@@ -1,6 +1,6 @@
 -- Addresses that match at some lengths and not at others: 192.0.2.129 and 192.0.2.0, 2001:1db8::1 and 2001:db8::1.
-use mathlib.Core.Path.{_≡_, refl, ap}
 use Prim.Native.Nat.{ℕ}
+use mathlib.Core.Path.{_≡_, refl, ap}
 use mathlib.Core.List.{List, [], _∷_, _++_}
 use mathlib.Core.Bool.{true, false}
 use native.Mathlib.Omega.{arith}

@@ -50,7 +50,8 @@ module _ (a b : List ℕ) (n : ℕ) where
   pub agree-over-second : (w : Bool) → w ≡ leb n (8 * length b) → not w ≡ true → false ≡ agree a b n
   agree-over-second = over (length b) (λ t. omega (arith, agree-iff a b n .0 t .within-second, length-bits b))
 
-  -- both are wide enough, and what u says of the whole bytes and t of the bits left over decides
+  -- both are wide enough, and what u says of the whole bytes and t of the bits left over decides; that bytes fit into 8 bits is what a
+  -- function knows of a slice that it reads
   module _ (v w : Bool) (ev : v ≡ leb n (8 * length a)) (ew : w ≡ leb n (8 * length b)) (hv : not v ≡ false) (hw : not w ≡ false)
       (ha : (i : ℕ) → Fits w8 (getD a i 0)) (hb : (i : ℕ) → Fits w8 (getD b i 0)) (u : Bool) (eu : u ≡ same (take (n / 8) a) (take (n / 8) b)) where
     taught : (agree a b n ≡ true) ↔ MatchesByBytes n a b n
