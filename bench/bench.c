@@ -1,4 +1,4 @@
-/* Times evaluations through talavorn.h; where libspf2 was there to build with, the same questions through libspf2 over its in-memory zone.
+/* Times evaluations, and readings of records, through talavorn.h; where libspf2 was there to build with, the same questions through libspf2 over its in-memory zone.
  *
  * bench                      one round: every case once; a line each, with the case's word and the microseconds of one evaluation, ours and libspf2's
  * bench CASE TIMES           one case by its number, so often, and nothing else: for a profiler
@@ -111,10 +111,30 @@ static void make_refused(struct table *t, int unused)
     add_text(t, "example.com", "v=spf1 ip4:192.0.2.0/24 a mx include:b.example -al");
 }
 
+/* The reference record with a bad prefix length. */
+static void make_bad_length(struct table *t, int unused)
+{
+    (void)unused;
+    add_text(t, "example.com", "v=spf1 ip4:192.0.2.0/33 a mx include:b.example -all");
+}
+
+/* A term of so many bytes, macros and then literals, whose three quarters begin a term: of the places tried, the one to read most in. */
+static void make_bad_term(struct table *t, int size)
+{
+    static char record[4128];
+    size_t at = (size_t)sprintf(record, "v=spf1 mx:"), end = 7 + (size_t)size;
+    while (at < end / 4 * 3)
+        at += (size_t)sprintf(record + at, "%%{d}");
+    at += (size_t)sprintf(record + at, "%%y");
+    memset(record + at, 'y', end - at);
+    add_text(t, "example.com", record);
+}
+
 static struct table table, zone;
 
 static int evaluate(int i);
 static int play(int i);
+static int read_record(int i);
 static int ask_libspf2(int i);
 
 static const struct {
@@ -124,7 +144,7 @@ static const struct {
     uint8_t client[4];
     uint8_t number;
     int libspf2;        /* whether libspf2 is asked too */
-    int (*call)(int);   /* one evaluation, or all rounds from an empty table */
+    int (*call)(int);   /* one evaluation, all rounds from an empty table, or one reading of the record */
 } cases[] = {
     { "first", "first match: pass", make_reference, 0, { 192, 0, 2, 1 }, TALAVORN_PASS, 1, evaluate },
     { "include", "include match: pass", make_reference, 0, { 203, 0, 113, 1 }, TALAVORN_PASS, 1, evaluate },
@@ -142,6 +162,10 @@ static const struct {
     { "play-first", "first match, from an empty table", make_reference, 0, { 192, 0, 2, 1 }, TALAVORN_PASS, 0, play },
     { "play-fail", "final -all, from an empty table", make_reference, 0, { 10, 0, 0, 1 }, TALAVORN_FAIL, 0, play },
     { "play-includes", "ten includes, from an empty table", make_includes, 10, { 10, 0, 0, 1 }, TALAVORN_FAIL, 0, play },
+    { "read-reference", "reference record read: accepted", make_reference, 0, { 0 }, 0, 0, read_record },
+    { "read-refused", "refused record read: 32", make_refused, 0, { 0 }, TALAVORN_BAD_TERM, 0, read_record },
+    { "read-length", "length of 33 read: 32", make_bad_length, 0, { 0 }, TALAVORN_BAD_TERM, 0, read_record },
+    { "read-term", "bad term of 4,000 bytes read: 32", make_bad_term, 4000, { 0 }, TALAVORN_BAD_TERM, 0, read_record },
 };
 enum { CASES = sizeof cases / sizeof *cases };
 
@@ -165,6 +189,15 @@ static int play(int i)
         if (!copy_entry(&table, &zone, values[0], name, values[3]))
             return -1;
     return number;
+}
+
+/* Reads the record in the table's first entry: its text stands behind the header, the name and its own length. */
+static int read_record(int i)
+{
+    const uint8_t *text = table.bytes + 6 + table.bytes[5];
+    size_t place;
+    (void)i;
+    return talavorn_read_record(text + 2, text[0] + 256u * text[1], &place);
 }
 
 static int ask_libspf2(int i)

@@ -30,8 +30,17 @@ static void records(void)
     expect(talavorn_read_record(TEXT("v=spf10 -all"), &place) == TALAVORN_NO_VERSION && place == 0,
            "another version");
     expect(talavorn_read_record(TEXT("v=spf1 ip4:192.0.2.0/33"), &place) == TALAVORN_BAD_TERM
-               && place == 7,
+               && place == 22,
            "a length of 33");
+    expect(talavorn_read_record(TEXT("v=spf1 ip6:2001:db8::/129 -all"), &place) == TALAVORN_BAD_TERM
+               && place == 24,
+           "a length of 129");
+    expect(talavorn_read_record(TEXT("v=spf1 include: -all"), &place) == TALAVORN_BAD_TERM
+               && place == 15,
+           "a domain-spec that is missing");
+    expect(talavorn_read_record(TEXT("v=spf1 exp=a.b exp=foo"), &place) == TALAVORN_BAD_TERM
+               && place == 22,
+           "a second exp that is outside the grammar");
     expect(talavorn_read_record(TEXT("v=spf1 redirect=a.example exp=b.example redirect=c.example"),
                                 &place) == TALAVORN_REPEATED_TERM
                && place == 40,
@@ -60,6 +69,10 @@ static void terms(void)
     expect(talavorn_read_term(TEXT(record), 49, values, octets) == TALAVORN_BEYOND_RECORD
                && values[0] == 49,
            "a place beyond the record");
+    expect(talavorn_read_term(TEXT("v=spf1 -ip4:192.0.2.0/33"), 8, values, octets)
+                   == TALAVORN_BAD_TERM
+               && values[0] == 23,
+           "a term outside the grammar, read from within");
 }
 
 static void expansions(void)

@@ -251,9 +251,11 @@ uint8_t talavorn_check_table(const void *table, size_t table_len, size_t *place)
  * terms are read from. Otherwise, in this order:
  *     30  over 4,096 bytes; *place is 0
  *     31  no version section; *place is 0
- *     32  a term outside the grammar; *place is its first byte
+ *     32  a term outside the grammar; *place is just after the longest beginning of the term with
+ *         which some term of the grammar begins: 22 in `v=spf1 ip4:192.0.2.0/33`, where the second
+ *         3 stands. It is the term's end where only something is missing, as in `include:`
  *     33  a second redirect or exp; *place is its first byte
- * Of 32 and 33 the one with the earlier place, 32 if equal. *place is written by every call. */
+ * Of 32 and 33 the one whose term begins earlier, 32 if equal. *place is written by every call. */
 uint8_t talavorn_read_record(const void *record, size_t record_len, size_t *place);
 
 /* What talavorn_read_term returns besides 30, 34 and 32. */
@@ -296,7 +298,7 @@ enum {
  *     34  `place` is beyond the record's length; values[0] is that place
  * Then skips spaces and returns
  *     0   at the end; all of values is 0
- *     32  for a term outside the grammar; values[0] is its first byte's place
+ *     32  for a term outside the grammar; values[0] is the place, as for talavorn_read_record
  *     1   for a term, with all of values
  * After 30, 34 and 32 the other values are 0. The argument is a domain-spec, a network without its
  * length, or a modifier's value. For ip4 and ip6 the network's address is written at the front of

@@ -1,11 +1,11 @@
 #!/usr/bin/env python3
 """The cases of the program scope_cases: those of the scope paper's sections "Both sides of each line" and "Errors that look right", and the inputs of the list of
-readings (Q1 to Q53).
+readings (Q1 to Q53); and the inputs of the readings of the change requests, by their numbers (W-201: A1 to A12).
 
     python3 tools/scope_cases.py
 
 writes crates/scope_cases/stdin, the cases, and crates/scope_cases/stdout, what the program must print. Each expected line stands beside its case; it was
-written by hand from the scope paper and the readings, and none was taken from what a program printed. The gate doesn't run this script.
+written by hand from the scope paper, the change requests and the readings, and none was taken from what a program printed. The gate doesn't run this script.
 
 Unless said otherwise: client 192.0.2.129, domain example.com, sender user@example.com, HELO helo.example, receiver empty, t 7. The expected answer of a
 check is number, kind or place (`.` where absent), lookups, voids, and for 3 and 7 the text or name, which the program prints on a line of its own.
@@ -186,9 +186,10 @@ def in_grammar(label, *texts):
 
 
 def outside(label, *texts):
-    """Records whose only term is outside the grammar: 32 at the term's first byte."""
+    """Records whose only term is outside the grammar: 32, and `|` in the text marks its place."""
     for number, text in enumerate(texts, 1):
-        record(f"{label}-out-{number}", "refused 32 at 7", "v=spf1 " + text)
+        need(text.count("|") == 1, label, "needs one mark in", text)
+        record(f"{label}-out-{number}", f"refused 32 at {7 + text.index('|')}", "v=spf1 " + text.replace("|", ""))
 
 
 # The name of the PTR question of 192.0.2.129.
@@ -215,29 +216,29 @@ def both_sides():
     record("line-version-10", "refused 31 at 0", "v=spf10 -all")
     check("line-version-10-check", "0 . 0 0", R("v=spf10 -all"))
     record("line-ip4-32", "accepted 6", "v=spf1 ip4:192.0.2.0/32")
-    record("line-ip4-33", "refused 32 at 7", "v=spf1 ip4:192.0.2.0/33")
-    record("line-ip4-032", "refused 32 at 7", "v=spf1 ip4:192.0.2.0/032")
+    record("line-ip4-33", "refused 32 at 22", "v=spf1 ip4:192.0.2.0/33")
+    record("line-ip4-032", "refused 32 at 22", "v=spf1 ip4:192.0.2.0/032")
     check("line-ip4-32-same", "2 . 0 0", R("v=spf1 ip4:192.0.2.129/32 -all"))
     check("line-ip4-32-next", "3 . 0 0", R("v=spf1 ip4:192.0.2.128/32 -all"))
     check("line-ip4-33-check", "6 . 0 0", R("v=spf1 ip4:192.0.2.129/33 -all"))
     record("line-ip6-128", "accepted 6", "v=spf1 ip6:2001:db8::/128")
-    record("line-ip6-129", "refused 32 at 7", "v=spf1 ip6:2001:db8::/129")
+    record("line-ip6-129", "refused 32 at 24", "v=spf1 ip6:2001:db8::/129")
     check("line-ip6-128-same", "2 . 0 0", R("v=spf1 ip6:2001:db8::/128 -all"), client="2001:db8::")
     check("line-ip6-128-next", "3 . 0 0", R("v=spf1 ip6:2001:db8::/128 -all"), client="2001:db8::1")
     record("line-modifier-ip4", "accepted 6", "v=spf1 ip4=192.0.2.1")
     term("line-modifier-ip4-term", "7 20 ip4 . =192.0.2.1 . .", "v=spf1 ip4=192.0.2.1", 6)
     check("line-modifier-ip4-ignored", "3 . 0 0", R("v=spf1 ip4=192.0.2.129 -all"))
-    record("line-modifier-sign", "refused 32 at 7", "v=spf1 -x=y")
+    record("line-modifier-sign", "refused 32 at 8", "v=spf1 -x=y")
     record("line-redirect-twice", "refused 33 at 40", "v=spf1 redirect=a.example exp=b.example redirect=c.example")
     check("line-redirect-twice-check", "6 . 0 0", R("v=spf1 redirect=a.example exp=b.example redirect=c.example"))
-    record("line-top-label-1", "refused 32 at 7", "v=spf1 a:example.1")
+    record("line-top-label-1", "refused 32 at 18", "v=spf1 a:example.1")
     record("line-top-label-1-1", "accepted 6", "v=spf1 a:example.1-1")
     check("line-top-label-1-1-check", "7 1 1 0 example.1-1", R("v=spf1 a:example.1-1 -all"))
-    record("line-digits-0", "refused 32 at 7", "v=spf1 exists:%{d0}.example")
+    record("line-digits-0", "refused 32 at 18", "v=spf1 exists:%{d0}.example")
     record("line-digits-02", "accepted 6", "v=spf1 exists:%{d02}.example")
     check("line-digits-02-check", "7 1 1 0 example.com.example", R("v=spf1 exists:%{d02}.example -all"))
     record("line-ip6-seven-groups", "accepted 6", "v=spf1 ip6:1:2:3:4:5:6:7::")
-    record("line-ip6-eight-groups", "refused 32 at 7", "v=spf1 ip6:1:2:3:4:5:6:7:8::")
+    record("line-ip6-eight-groups", "refused 32 at 26", "v=spf1 ip6:1:2:3:4:5:6:7:8::")
 
     heading("both sides of each line: macros of source document 001")
     strong = {"sender": "strong-bad@email.example.com", "domain": "email.example.com"}
@@ -327,7 +328,7 @@ def look_right():
     check("right-redirect-failed", "5 . 1 0", redirects, failed("TXT", "r.example"))
 
     heading("errors that look right: a match found before a later bad term was read")
-    record("right-bad-term", "refused 32 at 12", "v=spf1 +all moo")
+    record("right-bad-term", "refused 32 at 15", "v=spf1 +all moo")
     check("right-bad-term-check", "6 . 0 0", R("v=spf1 +all moo"))
     check("right-bad-term-ip4", "6 . 0 0", R("v=spf1 ip4:192.0.2.129 ip4:192.0.2.0/33"))
     check("right-bad-term-redirects", "6 . 0 0", R("v=spf1 +all redirect=a.b redirect=c.d"))
@@ -635,7 +636,7 @@ def names():
 def grammar():
     heading("Q31: how a domain-spec ends")
     in_grammar("Q31", "exists:a.%%", "a:%_", "a:.com", "a:a..b", "a:a.b.", "exists:%-", "a:%{d}")
-    outside("Q31", "a:%%_", "a:%{d}.", "a:%{d}com", "a:a.b..", "a:example.com:8080", "a:com")
+    outside("Q31", "a:%%_|", "a:%{d}.|", "a:%{d}com|", "a:a.b..|", "a:example.com:8080|", "a:com|")
     check("Q31-percent", "7 1 1 0 a.%", R("v=spf1 exists:a.%% -all"))
     check("Q31-space", "3 . 1 0", R("v=spf1 a:%_ -all"))
     check("Q31-20", "7 1 1 0 %20", R("v=spf1 a:%- -all"))
@@ -645,7 +646,7 @@ def grammar():
     heading("Q32: slashes")
     term("Q32-within", "7 15 a + :a/24.c 32 128", "v=spf1 a:a/24.c", 6)
     term("Q32-within-and-length", "7 18 a + :x.y/1.z 8 128", "v=spf1 a:x.y/1.z/8", 6)
-    outside("Q32", "a:a.b/", "a/24/64")
+    outside("Q32", "a:a.b/|", "a/24/|64")
     check("Q32-asks", "7 1 1 0 a/24.c", R("v=spf1 a:a/24.c -all"))
     check("Q32-length-8", "2 . 1 0", R("v=spf1 a:x.y/1.z/8 -all"), A("x.y/1.z", "192.255.255.255"))
 
@@ -665,23 +666,23 @@ def grammar():
 
     heading("Q34: unknown modifiers")
     in_grammar("Q34", "x=", "a-b_c.9=y", "redirect.=x", "exp-=x", "x=%{c}%{r}%{t}", "X=%{C}")
-    outside("Q34", "=x", "1x=y", "REDIRECT=x", "x=%{d0}", "exp=%{c}", "redirect=%{r}", "exists:%{t}.x", "Exp=", "x=a%", "x!=y", "exp=%{t}", "redirect=%{c}")
+    outside("Q34", "|=x", "|1x=y", "REDIRECT=x|", "x=%{d0|}", "exp=%{|c}", "redirect=%{|r}", "exists:%{|t}.x", "Exp=|", "x=a%|", "x|!=y", "exp=%{|t}", "redirect=%{|c}")
     expand("Q34-public", "refused 40", "%{c}")
     expand("Q34-public-explanation", "ok 192.0.2.129", "%{c}", form="explanation")
     check("Q34-ignored", "3 . 0 0", R("v=spf1 redirect.=r.example exp-=e.example x= -all"))
 
     heading("Q35: 33 against 32 at one place")
-    record("Q35-32", "refused 32 at 15", "v=spf1 exp=a.b exp=foo")
+    record("Q35-32", "refused 32 at 22", "v=spf1 exp=a.b exp=foo")
     record("Q35-33", "refused 33 at 15", "v=spf1 exp=a.b exp=c.d")
     record("Q35-33-first", "refused 33 at 15", "v=spf1 exp=a.b exp=c.d moo")
-    record("Q35-32-first", "refused 32 at 7", "v=spf1 moo exp=a.b exp=c.d")
+    record("Q35-32-first", "refused 32 at 10", "v=spf1 moo exp=a.b exp=c.d")
 
     heading("Q36: reading one term")
     text = "v=spf1 -all  mx//64"
     term("Q36-first", "7 11 all - . . .", text, 6)
     term("Q36-at-its-place", "7 11 all - . . .", text, 7)
     term("Q36-in-term", "8 11 all + . . .", text, 8)
-    term("Q36-in-name", "refused 32 at 9", text, 9)
+    term("Q36-in-name", "refused 32 at 11", text, 9)
     term("Q36-spaces", "13 19 mx + . 32 64", text, 11)
     term("Q36-version", "0 6 v . =spf1 . .", text, 0)
     term("Q36-end", "end", text, 19)
@@ -807,7 +808,7 @@ def clients():
 
     heading("Q40: ip6 texts")
     in_grammar("Q40", "ip6:0db8::", "ip6:ABCD::EF", "ip6:1:2:3:4:5:6:7::", "ip6:::1:2:3:4:5:6:7", "ip6:1:2:3:4:5::1.2.3.4", "ip6:::", "ip6:::1.2.3.4")
-    outside("Q40", "ip6:00db8::", "ip6:1:2:3:4:5:6::1.2.3.4", "ip6:::1.2.3.04", "ip6:1.2.3.4", "ip6:fe80::1%eth0", "ip6:[::1]", "ip6:1::2::3")
+    outside("Q40", "ip6:00db|8::", "ip6:1:2:3:4:5:6::1|.2.3.4", "ip6:::1.2.3.0|4", "ip6:1|.2.3.4", "ip6:fe80::1|%eth0", "ip6:|[::1]", "ip6:1::2:|:3")
     term("Q40-letters", "7 19 ip6 + :ABCD::EF . 128", "v=spf1 ip6:ABCD::EF", 6)
     term("Q40-host-bits", "7 25 ip4 + :192.0.2.129 24 .", "v=spf1 ip4:192.0.2.129/24", 6)
     unreadable = ("[::1]", "fe80::1%eth0", "192.0.2", "192.0.2.0129", "", "192.0.2.129/32", "1:2:3:4:5:6:7:8::")
@@ -917,7 +918,7 @@ def edges():
     lent("Q48-t-24", "input", t="x", zeros=65536)
 
     heading("Q49: only byte 10 ends a line")
-    record("Q49-record", "refused 32 at 7", "v=spf1 a\r")
+    record("Q49-record", "refused 32 at 8", "v=spf1 a\r")
     record("Q49-newline", "refused 31 at 0", "v=spf1\n")
     check("Q49-client", "input", R("v=spf1 -all"), client="192.0.2.129\r")
     check("Q49-domain", "0 . 0 0", R("v=spf1 -all"), domain="example.com\r")
@@ -1014,7 +1015,7 @@ def programs():
     listing("printer-no-newline", "v=spf1 A//64", "7 a + . 32 64")
     unlisted("printer-newline-first", "refused 31 at 0", "\nv=spf1")
     unlisted("printer-cr", "refused 31 at 0", "v=spf1\r\n")
-    unlisted("printer-cr-term", "refused 32 at 7", "v=spf1 -all\r\n")
+    unlisted("printer-cr-term", "refused 32 at 11", "v=spf1 -all\r\n")
     spaces = "v=spf1" + " " * 4090
     listing("printer-4096", spaces)
     listing("printer-4096-newline", spaces + "\n")
@@ -1043,9 +1044,50 @@ def programs():
     unlisted("printer-second-exp", "refused 33 at 21", "v=spf1 exp=a.example exp=b.example\n")
 
 
+# The readings of the change requests.
+
+
+def places():
+    heading("W-201 A1, A2: a whole run that begins a term; `/` and digits are literals of a domain-spec")
+    outside("W201-A1", "a:b.c/33|", "a/3|3", "mx:b.c/24/64|", "mx:b.c/24/64| -all", "mx/24/|64")
+    outside("W201-A2", "ip4:192.0.2|", "include:|", "include:| -all", "foo|", "foo| -all", "a:example.1|")
+
+    heading("W-201 A3: the grammar of one term, whatever stood before it and however long the record is")
+    record("W201-A3-redirect", "refused 32 at 29", "v=spf1 redirect=a.b redirect=")
+    record("W201-A3-4096", "refused 32 at 4096", "v=spf1 x=" + "y" * 4078 + " include:")
+
+    heading("W-201 A4 to A6: names, of unknown modifiers too; after a sign only mechanisms'")
+    outside("W201-A4", "alll|", "ip5|:1.2.3.4", "redirect|:a.b")
+    outside("W201-A5", "-|foo=bar", "-ip|5:1.2.3.4", "-ex|p=a.b", "-ip4|=1.2.3.4", "-|-all", "-all|l", "-|redirect=a.b")
+    outside("W201-A6", "redirect=%{|c}", "redirect|")
+    in_grammar("W201-A6", "x=%{c}")
+
+    heading("W-201 A7: digits of value 0 begin `01`")
+    outside("W201-A7", "exists:%{d0|}.x")
+
+    heading("W-201 A8: 32 and 33 by the term's first byte")
+    record("W201-A8-32", "refused 32 at 22", "v=spf1 exp=a.b exp=foo")
+    record("W201-A8-33", "refused 33 at 15", "v=spf1 exp=a.b exp=c.d x=%")
+
+    heading("W-201 A9: reading a term from within")
+    term("W201-A9-name", "refused 32 at 23", "v=spf1 -ip4:192.0.2.0/33", 8)
+    term("W201-A9-in-name", "refused 32 at 11", "v=spf1 -ip4:192.0.2.0/33", 9)
+    term("W201-A9-version", "refused 32 at 7", "v=spf1%", 0)
+
+    heading("W-201 A10: bytes that can't stand there")
+    outside("W201-A10", "|=x", "|%{d}", "a|\tmx", "|\t")
+    record("W201-A10-127", "refused 32 at 9", b"v=spf1 x=\x7f")
+    record("W201-A10-128", "refused 32 at 10", b"v=spf1 a:b\x80.c")
+
+    heading("W-201 A11: the printer has the place, an evaluation none, and 31 stays")
+    unlisted("W201-A11-printer", "refused 32 at 22", "v=spf1 ip4:192.0.2.0/33\n")
+    check("W201-A11-check", "6 . 0 0", R("v=spf1 ip4:192.0.2.0/33"))
+    record("W201-A11-31", "refused 31 at 0", "v=spf1% ip4:192.0.2.0/33")
+
+
 def main():
     heading("the cases of the scope paper's sections `Both sides of each line` and `Errors that look right`, and of the readings")
-    for section in (both_sides, look_right, part_one, limits, names, grammar, tables, explanations, clients, values, terms, edges, programs):
+    for section in (both_sides, look_right, part_one, limits, names, grammar, tables, explanations, clients, values, terms, edges, programs, places):
         section()
     need(all(line.isascii() for line in given + printed), "a line is not ASCII")
     (CRATE / "stdin").write_text("\n".join(given) + "\n", encoding="ascii")

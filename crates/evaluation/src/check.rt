@@ -235,7 +235,7 @@ fn try_terms(
             at: place,
             next,
             term,
-        } = records::read_term(s, at)
+        } = records::next_term(s, at)
         else {
             return no_match(
                 client,

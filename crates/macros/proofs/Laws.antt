@@ -12,6 +12,8 @@ pub mod Endings
 pub mod Soundness
 -- Completeness: what the grammar produces is accepted, with these pieces.
 pub mod Completeness
+-- Beginnings: whatever a macro-string or a domain-spec begins with is one, once one of a few ends is put after it.
+pub mod Beginnings
 -- Pieces: the piece at the front of a text, and the pieces of a text step by step.
 pub mod Pieces
 -- Labels: the last label of a text, and top labels.

@@ -28,3 +28,5 @@ pub mod Ip6
 pub mod Addresses
 -- Plain: the bytes of networks and prefix lengths.
 pub mod Plain
+-- Beginnings: what networks and prefix lengths begin with.
+pub mod Beginnings

@@ -9,7 +9,8 @@ ghost use Rattle.text.specs.Writing.{Wrote};
 ghost use Rattle.address_text.specs.Digits.{inDecimal};
 ghost use Rattle.records.specs.Readings.{absent, present, Placed};
 ghost use Rattle.records.specs.Numbers.{recordReport, termReport, saidOf, networkSaid};
-ghost use Rattle.records.specs.Reader.{readRecord, Reads};
+ghost use Rattle.records.specs.Reader.{Reads};
+ghost use Rattle.records.specs.Beginnings.{pointedRecord};
 ghost use Rattle.record_listing.specs.Lines.{signText, lengthText, lead, argumentText, columns, saidLine, lineOf, linesOf, refusalLine, Listed, room, withoutNewline, readingLine, termLine, columnOf, given};
 use address::Address;
 use records::RecordAnswer;
@@ -247,7 +248,7 @@ fn put_terms(s: &[u8], start: usize, out: &mut [u8], from: usize) -> usize
             at: place,
             next: end,
             term,
-        } = records::read_term(s, i)
+        } = records::next_term(s, i)
         else {
             return next;
         };
@@ -322,7 +323,7 @@ fn put_place(place: usize, out: &mut [u8], at: usize) -> usize
 
 // What the record reader answers: `accepted` and the place after the version, or a refusal.
 pub fn put_reading(s: &[u8], out: &mut [u8]) -> usize
-    ensures { λ r. ⌜ Wrote (readingLine (recordReport (readRecord (now (s .entry))))) (now (out .entry)) 0 (now (out .exit)) r ⌝ }
+    ensures { λ r. ⌜ Wrote (readingLine (recordReport (pointedRecord (now (s .entry))))) (now (out .entry)) 0 (now (out .exit)) r ⌝ }
 {
     match records::read_record(s) {
         RecordAnswer::Accepted(next) => {

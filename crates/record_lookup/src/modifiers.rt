@@ -41,7 +41,7 @@ pub fn find_redirect(s: &[u8], at: usize) -> Modifier
             at: start,
             next,
             term,
-        } = records::read_term(s, i)
+        } = records::next_term(s, i)
         else {
             return Modifier::Absent;
         };
@@ -69,7 +69,7 @@ pub fn find_explanation(s: &[u8], at: usize) -> Modifier
             at: start,
             next,
             term,
-        } = records::read_term(s, i)
+        } = records::next_term(s, i)
         else {
             return Modifier::Absent;
         };

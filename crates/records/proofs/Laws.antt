@@ -12,6 +12,12 @@ pub mod Mechanisms
 pub mod Modifiers
 -- Tokens: one term: what the reader takes a run of non-spaces for, against the productions.
 pub mod Tokens
+-- Endings: the ends of the models.
+pub mod Endings
+-- Beginnings: whatever a term begins with is one once an end of a model is put after it.
+pub mod Beginnings
+-- Longest: the longest beginning of a run with which some term begins.
+pub mod Longest
 -- NextRuns: spaces and then a run of non-spaces, from a place on.
 pub mod NextRuns
 -- Terms: reading one term, against the productions.
@@ -34,6 +40,8 @@ pub mod Reading
 pub mod Fronts
 -- Checking: the ways out of the functions on the whole record.
 pub mod Checking
+-- Pointing: the ways out of the functions that find where 32 points.
+pub mod Pointing
 -- Openings: the ways out of the functions that read a record for a client.
 pub mod Openings
 -- OneOpening: a record has one opening for a client.

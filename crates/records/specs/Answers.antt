@@ -4,7 +4,7 @@ use mathlib.Core.Path.{_≡_}
 use mathlib.Core.Logic.{_⊎_}
 use mathlib.Core.List.{List, [], _∷_, _++_}
 use mathlib.Core.Bool.{true}
-use lib.ListN.{length, drop}
+use lib.ListN.{length, take, drop}
 use Rattle.text.specs.Bytes.{at, part, isSpace, isNotSpace}
 use Rattle.text.specs.Lists.{all}
 use Rattle.text.specs.Texts.{bytes}
@@ -33,6 +33,16 @@ pub record Run (w rest : List ℕ) : Type 0 where
 abbrev pub NoTerm : List ℕ → Type 0
 NoTerm w = (x : Said) → TermText w x → ⊥
 
+-- some grammatical term, of any length, begins with p
+abbrev pub Begun : List ℕ → Type 0
+Begun p = (rest : List ℕ) × ((x : Said) × TermText (p ++ rest) x)
+
+-- the first n bytes of w are its longest beginning with which some grammatical term begins
+pub record Longest (w : List ℕ) (n : ℕ) : Type 0 where
+  pub inside : n ≤ length w
+  pub begins : Begun (take n w)
+  pub most : (m : ℕ) → m ≤ length w → Begun (take m w) → m ≤ n
+
 -- "Version is `v=spf1` in either letter case, then a space or the end."
 pub record Version (s v rest : List ℕ) : Type 0 where
   pub whole : s ≡ v ++ rest
@@ -52,23 +62,26 @@ pub record Front (s : List ℕ) (ts : List Placed) (w : List ℕ) (place : ℕ) 
   pub run : Run w rest
   pub place-is : place ≡ length v + (length front + length (bytes " " ++ gap))
 
--- reading a record: "30, 31, then the earlier of 32 and 33 (32 if equal)"; 32's place is the first byte of the first term outside the grammar, 33's
--- that of the second redirect or exp
+-- reading a record: "30, 31, then the earlier of 32 and 33 (32 if equal)", by the term's first byte: that of the first term outside the grammar or of
+-- the second redirect or exp. W-201 amends 32's place, which is "just after the longest beginning of the term with which some grammatical term begins";
+-- 33's stays the first byte.
 pub data RecordAnswers (s : List ℕ) : RecordReport → Type 0 where
   too-long : most-bytes < length s → RecordAnswers s (refused 30 0)
   no-version : length s ≤ most-bytes → ((v rest : List ℕ) → Version s v rest → ⊥) → RecordAnswers s (refused 31 0)
-  outside : {ts : List Placed} {w : List ℕ} {p : ℕ} → length s ≤ most-bytes → Front s ts w p → Once ts → NoTerm w → RecordAnswers s (refused 32 p)
+  outside : {ts : List Placed} {w : List ℕ} {p n : ℕ} → length s ≤ most-bytes → Front s ts w p → Once ts → NoTerm w → Longest w n
+      → RecordAnswers s (refused 32 (p + n))
   repeated : {ts : List Placed} {w : List ℕ} {p : ℕ} {x : Said} → length s ≤ most-bytes → Front s ts w p → Once ts → TermText w x
       → (Once (ts ++ (record { place = p; said = x } ∷ [])) → ⊥) → RecordAnswers s (refused 33 p)
   produced : {v rest : List ℕ} {ts : List Placed} → length s ≤ most-bytes → Version s v rest → Record s ts → RecordAnswers s (accepted (length v))
 
--- reading one term: "30, 34, then 32"; "skips spaces and answers the end, refusal 32, or the term with the next place, just after its last byte"
+-- reading one term: "30, 34, then 32"; "skips spaces and answers the end, refusal 32, or the term with the next place, just after its last byte". 32's
+-- place is as W-201 amends it.
 pub data TermAnswers (s : List ℕ) (i : ℕ) : TermReport → Type 0 where
   too-long : most-bytes < length s → TermAnswers s i (refused 30 0)
   beyond : length s ≤ most-bytes → length s < i → TermAnswers s i (refused 34 i)
   only-spaces : length s ≤ most-bytes → i ≤ length s → all isSpace (drop i s) ≡ true → TermAnswers s i end
-  outside : (u w rest : List ℕ) → length s ≤ most-bytes → i ≤ length s → drop i s ≡ u ++ (w ++ rest) → all isSpace u ≡ true → Run w rest → NoTerm w
-      → TermAnswers s i (refused 32 (i + length u))
+  outside : (u w rest : List ℕ) {n : ℕ} → length s ≤ most-bytes → i ≤ length s → drop i s ≡ u ++ (w ++ rest) → all isSpace u ≡ true → Run w rest
+      → NoTerm w → Longest w n → TermAnswers s i (refused 32 (i + length u + n))
   produced : (u w rest : List ℕ) {x : Said} → length s ≤ most-bytes → i ≤ length s → drop i s ≡ u ++ (w ++ rest) → all isSpace u ≡ true → Run w rest
       → TermText w x → TermAnswers s i (term (i + (length u + length w)) (record { place = i + length u; said = x }))
 

@@ -9,6 +9,8 @@ pub mod Numbers
 pub mod Answers
 -- Reader: records as the code reads them; the laws tie it to the productions.
 pub mod Reader
+-- Beginnings: the longest beginning of a term as the code finds it, and the law that ties it to the productions.
+pub mod Beginnings
 -- Opening: a record read for a client: what its leading terms say without a lookup.
 pub mod Opening
 -- Claim: what reading a record and then its terms promise together.

@@ -55,7 +55,7 @@ pub record Opened (client : Address) (s : List ℕ) (i : ℕ) (o : Opening) : Ty
   pub checks : (f : ℕ) → length s < f + i → answerOf o ≡ checkFrom f s i false false
   pub leads : Leads client s i o
 
--- what reading a record for a client answers: the record's answer, and its leading terms are as the opening says
+-- what reading a record for a client answers: the record's answer, with 32 at the term's first byte, and its leading terms are as the opening says
 pub record OpeningOf (client : Address) (s : List ℕ) (o : Opening) : Type 0 where
   pub answer : answerOf o ≡ readRecord s
   pub leads : Leads client s after-version o

@@ -1,4 +1,5 @@
--- Records as the code reads them. The laws say that this is what the productions make.
+-- Records as the code reads them. The laws say that this is what the productions make. 32 has here the place of the term's first byte; Beginnings has
+-- the place that W-201 wants of it.
 use mathlib.Core.Path.{_≡_}
 use Prim.Native.Nat.{ℕ, zero, suc, _+_}
 use mathlib.Core.List.{List, [], _∷_}

@@ -1,11 +1,11 @@
 // Records and their terms.
 ghost use mathlib.Core.Path.{_≡_};
-ghost use Prim.Native.Nat.{_+_, _≤_};
+ghost use Prim.Native.Nat.{_+_, _≤_, _<_};
 ghost use lib.ListN.{length};
 ghost use Rattle.text.specs.Bytes.{part};
-ghost use Rattle.records.specs.Answers.{ReadsRecord, ReadsTerm, ReadsArgument};
-ghost use Rattle.records.specs.Reader.{hasVersion, termFrom, readTerm, readRecord};
-ghost use Rattle.records.specs.Opening.{answerOf};
+ghost use Rattle.records.specs.Answers.{most-bytes, ReadsRecord, ReadsTerm, ReadsArgument};
+ghost use Rattle.records.specs.Reader.{hasVersion, termFrom, readTerm};
+ghost use Rattle.records.specs.Beginnings.{pointed, pointedTerm, pointedRecord};
 use address::Address;
 use opening::Opening;
 use terms::read_token;
@@ -13,6 +13,7 @@ use text::bytes;
 use text::bytes::Class;
 use text::words;
 
+pub mod beginnings;
 pub mod opening;
 pub mod terms;
 
@@ -112,10 +113,9 @@ fn term_from(s: &[u8], at: usize) -> TermAnswer
     TermAnswer::Is { at, next, term }
 }
 
-// Reads one term from a place on: 30, 34, the end, 32, or the term with the next place.
-pub fn read_term(s: &[u8], at: usize) -> TermAnswer
+// Reads one term from a place on as read_term does, but 32 has the place of the term's first byte, which costs nothing to find.
+pub fn next_term(s: &[u8], at: usize) -> TermAnswer
     ensures { λ r. ⌜ r ≡ readTerm (now (s .entry)) at ⌝ }
-    ensures { λ r. ⌜ ReadsTerm (now (s .entry)) at r ⌝ }
 {
     if MOST_BYTES < s.len() {
         return TermAnswer::Refused { number: 30, at: 0 };
@@ -124,6 +124,34 @@ pub fn read_term(s: &[u8], at: usize) -> TermAnswer
         return TermAnswer::Refused { number: 34, at };
     }
     term_from(s, bytes::run_end(s, at, Class::Space))
+}
+
+// The place of a refusal that was found at a place: 32's is just after the longest beginning of the term there with which some term begins.
+fn point(s: &[u8], number: u8, at: usize) -> usize
+    requires { ⌜ (30 < number → length (now s) ≤ most-bytes) ⌝ }
+    ensures { λ r. ⌜ r ≡ pointed (now (s .entry)) number at ⌝ }
+{
+    if number == 32 {
+        let end = bytes::run_end(s, at, Class::NotSpace);
+        return at + beginnings::longest_beginning(bytes::part(s, at, end));
+    }
+    at
+}
+
+// Reads one term from a place on: 30, 34, the end, 32 with the place just after the longest beginning with which some term begins, or the term with
+// the next place.
+pub fn read_term(s: &[u8], at: usize) -> TermAnswer
+    ensures { λ r. ⌜ r ≡ pointedTerm (now (s .entry)) at ⌝ }
+    ensures { λ r. ⌜ ReadsTerm (now (s .entry)) at r ⌝ }
+{
+    let answer = next_term(s, at);
+    let TermAnswer::Refused { number, at: place } = answer else {
+        return answer;
+    };
+    TermAnswer::Refused {
+        number,
+        at: point(s, number, place),
+    }
 }
 
 // The value of an unknown modifier whose name ends at a place.
@@ -186,22 +214,18 @@ pub fn has_version(s: &[u8]) -> bool
     false
 }
 
-// The answer of a record that was read for a client.
-fn answer_of(opening: Opening) -> RecordAnswer
-    ensures { λ r. ⌜ r ≡ answerOf opening ⌝ }
-{
-    match opening {
-        Opening::Matched { sign: _ } => RecordAnswer::Accepted(AFTER_VERSION),
-        Opening::Open { at: _ } => RecordAnswer::Accepted(AFTER_VERSION),
-        Opening::Refused { number, at } => RecordAnswer::Refused { number, at },
-    }
-}
-
-// Reads a record: 30, 31, then the earlier of 32 and 33 with its place, or accepted with the place just after the version. The answer is the same
-// for every client.
+// Reads a record: 30, 31, then 32 or 33, whichever term begins first, with its place, or accepted with the place just after the version. The answer
+// is the same for every client.
 pub fn read_record(s: &[u8]) -> RecordAnswer
-    ensures { λ r. ⌜ r ≡ readRecord (now (s .entry)) ⌝ }
+    ensures { λ r. ⌜ r ≡ pointedRecord (now (s .entry)) ⌝ }
     ensures { λ r. ⌜ ReadsRecord (now (s .entry)) r ⌝ }
 {
-    answer_of(opening::open_record(s, Address::IPv4(0)))
+    match opening::open_record(s, Address::IPv4(0)) {
+        Opening::Matched { sign: _ } => RecordAnswer::Accepted(AFTER_VERSION),
+        Opening::Open { at: _ } => RecordAnswer::Accepted(AFTER_VERSION),
+        Opening::Refused { number, at } => RecordAnswer::Refused {
+            number,
+            at: point(s, number, at),
+        },
+    }
 }

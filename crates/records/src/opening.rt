@@ -10,7 +10,7 @@ use crate::MOST_BYTES;
 use crate::Term;
 use crate::TermAnswer;
 use crate::has_version;
-use crate::read_term;
+use crate::next_term;
 use address::Address;
 
 // What a term says of a client without a lookup: that it matches, with its sign; that it doesn't; or nothing.
@@ -156,7 +156,7 @@ fn check_terms(s: &[u8], first: usize, client: Address) -> Opening
     let mut explanation = false;
     let mut opening = Opening::Open { at: first };
     while at <= s.len() {
-        let answer = read_term(s, at);
+        let answer = next_term(s, at);
         let TermAnswer::Is {
             at: place,
             next,
@@ -182,7 +182,7 @@ fn check_terms(s: &[u8], first: usize, client: Address) -> Opening
     opening
 }
 
-// Reads a record for a client: refused as read_record has it, or accepted.
+// Reads a record for a client: refused as read_record has it, with 32 at the term's first byte, or accepted.
 pub fn open_record(s: &[u8], client: Address) -> Opening
     ensures { λ r. ⌜ OpeningOf client (now (s .entry)) r ⌝ }
 {

@@ -23,7 +23,7 @@ use Rattle.macros.specs.Answers.{Expands}
 use Rattle.records.specs.Readings.{argumentBytes}
 use Rattle.records.specs.Numbers.{recordReport, saidOf, termReport}
 use Rattle.records.specs.Answers.{RecordAnswers, TermAnswers}
-use Rattle.records.specs.Reader.{readRecord, readTerm}
+use Rattle.records.specs.Beginnings.{pointedTerm, pointedRecord}
 use Rattle.records.specs.declared.TermAnswer.{TermAnswer}
 use Rattle.evaluation.specs.Numbers.{Outcome, refused, answerOf, nameAfter, textAfter}
 use Rattle.evaluation.specs.Answers.{lent, Answers}
@@ -53,8 +53,8 @@ pub record EvaluateAnswers (client : FromOctets) (domain sender helo receiver : 
 
 -- reading a record
 pub record RecordSays (s numbers : List ℕ) : Type 0 where
-  pub answer : numbers ≡ recordNumbers (recordReport (readRecord s))
-  pub produced : RecordAnswers s (recordReport (readRecord s))
+  pub answer : numbers ≡ recordNumbers (recordReport (pointedRecord s))
+  pub produced : RecordAnswers s (recordReport (pointedRecord s))
 
 -- the argument of a term that was read is the part of the record between the two places that are handed back
 abbrev pub ArgumentStands : List ℕ → TermAnswer → Type 0
@@ -65,10 +65,10 @@ ArgumentStands s (TermAnswer.Is at next t) =
 
 -- reading one term
 pub record TermSays (s : List ℕ) (place : ℕ) (numbers octets octets′ : List ℕ) : Type 0 where
-  pub answer : numbers ≡ termNumbers (readTerm s place)
-  pub network : octets′ ≡ overwritten (termOctets (readTerm s place)) octets
-  pub argument : ArgumentStands s (readTerm s place)
-  pub produced : TermAnswers s place (termReport s (readTerm s place))
+  pub answer : numbers ≡ termNumbers (pointedTerm s place)
+  pub network : octets′ ≡ overwritten (termOctets (pointedTerm s place)) octets
+  pub argument : ArgumentStands s (pointedTerm s place)
+  pub produced : TermAnswers s place (termReport s (pointedTerm s place))
 
 -- an expansion: a form that is none and then octets that are no client's are refused before all else
 abbrev pub expandFor : FormAnswer → FromOctets → (Form → Address → Expansion) → Expansion

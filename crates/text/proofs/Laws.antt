@@ -10,6 +10,8 @@ pub mod Sets
 pub mod Words
 -- Parts: tests of every element, the last element, and the right-most elements.
 pub mod Parts
+-- Fronts: the fronts of a list, and what completes one.
+pub mod Fronts
 -- Spans: a word that stands in a list from a place up to another.
 pub mod Spans
 -- Runs: longest runs of a class.

@@ -8,7 +8,7 @@ use mathlib.Core.List.{List, [], _∷_, _++_, append-nil, append-assoc}
 use mathlib.Core.Bool.{Bool, true, false, _&&_, and-comm}
 use native.Mathlib.Omega.{arith}
 use native.Mathlib.Nat.{add-suc, suc-add, zero-add}
-use lib.ListN.{length, take, drop, length-append, length-take, take-append-drop, drop-of-length-le}
+use lib.ListN.{length, take, length-append, length-take, drop-of-length-le}
 use lib.Seq.{take-all, take-nil, split-at, take-append-add, drop-append-add}
 use lib.Dec.{leb, ltb, eqb}
 use borrow.Author.Tests.{leb-true, lt-ltb, le-ltb, eqb-true, not-false}
@@ -20,7 +20,8 @@ use Rattle.text.specs.declared.decimal.Number.{Number}
 use Rattle.text.specs.declared.decimal.Number.the-variants.{Value, Refused}
 use Rattle.text.proofs.Laws.Classes.{within-range}
 use Rattle.text.proofs.Laws.Orders.{le-or-lt}
-use Rattle.text.proofs.Laws.Parts.{all-front, all-rest, all-first}
+use Rattle.text.proofs.Laws.Parts.{all-rest, all-first}
+use Rattle.text.proofs.Laws.Fronts.{all-take}
 use Rattle.text.proofs.Laws.Runs.{run-all, run-stops, run-cons}
 use Rattle.text.proofs.Laws.Tests.{and-left, cond-elim, test-fails}
 use Rattle.address.specs.declared.Address.{Address}
@@ -183,7 +184,7 @@ agree (more {f = f} {fs = fs} c cs) x y = ⊎-elim
 
 -- the fronts that are kept
 take-cuts : (n : ℕ) → Cuts (take n)
-take-cuts n = record { nothing = take-nil n; unended = λ s h. all-front (isNot 10) (take n s) (drop n s) (rw (take-append-drop n s) h) }
+take-cuts n = record { nothing = take-nil n; unended = λ s h. all-take (isNot 10) n s h }
 
 zeros-open : (s : List ℕ) → all (isNot 10) s ≡ true → all (isNot 10) (withoutZeros s) ≡ true
 unfolding withoutZeros

@@ -12,14 +12,14 @@ use Rattle.records.specs.Readings.{Placed}
 use Rattle.records.specs.Grammar.{Record}
 use Rattle.records.specs.Numbers.{RecordReport, accepted, refused, recordReport}
 use Rattle.records.specs.Answers.{RecordAnswers}
-use Rattle.records.proofs.Laws.Records.{record-complete, one-reading, record-answers-is}
+use Rattle.records.proofs.Laws.Records.{record-accepted, one-reading, record-answers-is}
 use Rattle.record_listing.specs.Lines.{listingOf, refusalLine, Prints, refuses, lists, withoutNewline}
 
 -- a record that is refused has no reading
 module _ (s : List ℕ) (number place : ℕ) (a : RecordAnswers s (refused number place)) where
   no-reading : (ts : List Placed) → length s ≤ 4096 → Record s ts → ⊥
   no-reading ts h d =
-      let e : refused number place ≡ accepted 6 = record-answers-is s (refused number place) a ∙ ap recordReport (record-complete d h .accepted) in
+      let e : refused number place ≡ accepted 6 = record-answers-is s (refused number place) a ∙ ap recordReport (record-accepted d h) in
       let z : _≡_ {A = ℕ} 0 1 = cc in omega arith
 
 pub prints-one : {s xs ys : List ℕ} → Prints s xs → Prints s ys → xs ≡ ys

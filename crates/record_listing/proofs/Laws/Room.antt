@@ -8,13 +8,13 @@ use lib.ListN.{length, length-append, length-take, length-drop, length-map}
 use Rattle.text.specs.Bytes.{part}
 use Rattle.address_text.proofs.Laws.Lengths.{length-decimal}
 use Rattle.address.specs.declared.Address.the-variants.{IPv4, IPv6}
+use Rattle.text.proofs.Laws.Spans.{part-length}
 use Rattle.records.specs.Readings.{Optional, absent, present, Said, Placed, bytesOr}
-use Rattle.records.specs.Numbers.{optional, saidOf, TermReport, term, termReport}
-use Rattle.records.specs.Answers.{TermAnswers}
+use Rattle.records.specs.Numbers.{optional, saidOf, term, termReport}
 use Rattle.records.specs.Reader.{readTerm, Reads, stop, step}
 use Rattle.records.specs.declared.Term.{Term}
 use Rattle.records.specs.declared.TermAnswer.{TermAnswer}
-use Rattle.records.proofs.Laws.Terms.{term-answers}
+use Rattle.records.proofs.Laws.Terms.{Found, found}
 use Rattle.records.proofs.Laws.Records.{record-complete}
 use Rattle.records.proofs.Laws.Checking.{optional-bytes}
 use Rattle.record_listing.specs.Lines.{signText, lengthText, argumentText, columns, saidLine, lineOf, linesOf, listingOf, refusalLine, Prints, refuses, lists, room}
@@ -46,9 +46,6 @@ unfolding lineOf
 line-length t = simp length-append (omega (arith, length-decimal (t .place), said-length (t .said)))
 
 -- name and argument stand in the term
-part-length : (w : List ℕ) (from to : ℕ) → length (part w from to) ≤ length w
-part-length w from to = rw (length-take, length-drop) (omega arith)
-
 optional-length : (w : List ℕ) (from to : ℕ) → length (bytesOr (optional w from to)) ≤ length w
 optional-length w from to = rw (optional-bytes w from to) (part-length w from to)
 
@@ -72,17 +69,14 @@ record Further (s : List ℕ) (i : ℕ) (t : Placed) (next : ℕ) : Type 0 where
   some : t .place < next
   inside : next ≤ length s
 
-further : (s : List ℕ) (i : ℕ) {x : TermReport} {t : Placed} {next : ℕ} → TermAnswers s i x → x ≡ term next t → Further s i t next
-further s i (TermAnswers.too-long l) g = absurd (let z : _≡_ {A = ℕ} 0 1 = cc in omega arith)
-further s i (TermAnswers.beyond l k) g = absurd (let z : _≡_ {A = ℕ} 0 1 = cc in omega arith)
-further s i (TermAnswers.only-spaces l k m) g = absurd (let z : _≡_ {A = ℕ} 0 1 = cc in omega arith)
-further s i (TermAnswers.outside u w rest l k d m n f) g = absurd (let z : _≡_ {A = ℕ} 0 1 = cc in omega arith)
-further s i {t = t} {next = next} (TermAnswers.produced u w rest {x = x} l k d m n f) g =
-    let j : i + (length u + length w) ≡ next = cc in
-    let y : record { place = i + length u; said = x } ≡ t = cc in
-    let p : i + length u ≡ t .place = ap (λ (z : Placed). z .place) y in
-    let c = simp length-append at (ap length d) in
-    record { from = omega arith; some = omega (arith, n .some); inside = omega (arith, c, length-drop i s) }
+further : {s : List ℕ} {i : ℕ} {t : Placed} {next : ℕ} → Found s i next t → Further s i t next
+further {s} {i} f =
+    let c = simp length-append at (ap length (f .split)) in
+    record {
+      from = omega (arith, f .place-is);
+      some = omega (arith, f .place-is, f .next-is, f .run .some);
+      inside = omega (arith, c, f .next-is, f .run .some, length-drop i s);
+    }
 
 step-length : (s : List ℕ) (i : ℕ) (t : Placed) (next : ℕ) → termReport s (readTerm s i) ≡ term next t → Further s i t next
     → length (lineOf t) ≤ 78 * (next - i)
@@ -104,7 +98,7 @@ lines-length : {s : List ℕ} {i : ℕ} {ts : List Placed} → Reads s i ts → 
 unfolding linesOf
 lines-length (stop e) = omega arith
 lines-length {s} {i} (step {next = next} {t = t} e r) =
-    let f = further s i (term-answers s i) e in
+    let f = further (found s i next t e) in
     rw length-append (omega (arith, f .from, f .some, f .inside, step-length s i t next e f, lines-length r))
 
 refusal-length : (number place : ℕ) → length (refusalLine number place) ≤ 60

@@ -3,7 +3,6 @@
 use Prim.Native.Nat.{ℕ, _-_, _^_, _≤_, _<_}
 use mathlib.Core.Path.{_≡_, refl, sym, ap, subst, _∙_}
 use mathlib.Core.List.{List, [], _∷_, _++_, append-nil, append-assoc}
-use mathlib.Core.Logic.{⊎-elim}
 use native.Mathlib.Omega.{arith}
 use lib.ListN.{length, getD}
 use lib.Dec.{ltb}
@@ -13,19 +12,19 @@ use denote.Enum.Declared.{tagOf, declared}
 use Rattle.text.specs.Bytes.{at, part}
 use Rattle.text.specs.Texts.{bytes}
 use Rattle.text.specs.Writing.{Wrote}
-use Rattle.text.proofs.Laws.Orders.{le-or-lt}
 use Rattle.text.proofs.Laws.Tests.{cond-elim}
 use Rattle.text.proofs.Laws.Writing.{wrote-none, wrote-then, wrote-over, wrote-length, length-wrote}
 use Rattle.address_text.specs.Digits.{inDecimal}
 use Rattle.records.specs.Readings.{Said, Placed}
 use Rattle.records.specs.Numbers.{accepted, refused, recordReport, TermReport, term, termReport, saidOf}
 use Rattle.records.specs.Answers.{RecordAnswers}
-use Rattle.records.specs.Reader.{readRecord, readTerm, Reads, stop, step}
+use Rattle.records.specs.Reader.{readTerm, Reads, stop, step}
+use Rattle.records.specs.Beginnings.{pointedRecord}
 use Rattle.records.specs.declared.Term.{Term}
 use Rattle.records.specs.declared.TermAnswer.{TermAnswer}
 use Rattle.records.specs.declared.RecordAnswer.{RecordAnswer}
 use Rattle.records.proofs.TermAnswer as answer-type
-use Rattle.records.proofs.Laws.Records.{record-complete, record-sound, record-answers, read-record-long}
+use Rattle.records.proofs.Laws.Records.{record-complete, record-answers, accepting}
 use Rattle.record_listing.proofs.Laws.Room.{prints-length}
 use Rattle.record_listing.specs.Lines.{saidLine, lineOf, linesOf, listingOf, refusalLine, Prints, lists, refuses, Listed, room, withoutNewline, readingLine, termLine}
 
@@ -146,9 +145,9 @@ module _ (out : List ℕ) (at : ℕ) (o₁ : List ℕ) (n₁ : ℕ) (o₂ : List
         (wrote-then out at _ _ o₃ o₄ n₃ n₄ (wrote-then out at _ _ o₂ o₃ n₂ n₃ (wrote-then out at _ _ o₁ o₂ n₁ n₂ u v) w) x) y
 
     -- `put_reading` of a record that is accepted, and `put_term_answer` of a term
-    pub accepted-written : (s : List ℕ) (x : RecordAnswer) → x ≡ readRecord s → (next : ℕ) → x ≡ RecordAnswer.Accepted next
+    pub accepted-written : (s : List ℕ) (x : RecordAnswer) → x ≡ pointedRecord s → (next : ℕ) → x ≡ RecordAnswer.Accepted next
         → Wrote (bytes "accepted ") out at o₁ n₁
-        → Wrote (inDecimal next) o₁ n₁ o₂ n₂ → Wrote (10 ∷ []) o₂ n₂ o₃ n₃ → Wrote (readingLine (recordReport (readRecord s))) out at o₃ n₃
+        → Wrote (inDecimal next) o₁ n₁ o₂ n₂ → Wrote (10 ∷ []) o₂ n₂ o₃ n₃ → Wrote (readingLine (recordReport (pointedRecord s))) out at o₃ n₃
     unfolding readingLine
     accepted-written s x p next q u v w = rw (← p, q) (wrote-then out at _ _ o₂ o₃ n₂ n₃ (wrote-then out at _ _ o₁ o₂ n₁ n₂ u v) w)
 
@@ -163,9 +162,9 @@ module _ (out : List ℕ) (at : ℕ) (o₁ : List ℕ) (n₁ : ℕ) (o₂ : List
 
 -- what is written in one piece
 module _ (s out : List ℕ) (at : ℕ) (o : List ℕ) (r : ℕ) where
-  pub refused-written : (x : RecordAnswer) → x ≡ readRecord s → (number place : ℕ) → x ≡ RecordAnswer.Refused number place
+  pub refused-written : (x : RecordAnswer) → x ≡ pointedRecord s → (number place : ℕ) → x ≡ RecordAnswer.Refused number place
       → Wrote (refusalLine number place) out at o r
-      → Wrote (readingLine (recordReport (readRecord s))) out at o r
+      → Wrote (readingLine (recordReport (pointedRecord s))) out at o r
   unfolding readingLine
   refused-written x p number place q w = rw (← p, q) w
 
@@ -185,26 +184,18 @@ stands s out o xs n h p w =
     let l = prints-length p in
     record { text = xs; prints = p; size = wrote-length xs out o n w (omega arith); buffer = wrote-over xs out o n w }
 
-module _ (s out : List ℕ) (fits : room ≤ length out) (x : RecordAnswer) (p : x ≡ readRecord s) (o₂ : List ℕ) (n₂ : ℕ) where
+module _ (s out : List ℕ) (fits : room ≤ length out) (x : RecordAnswer) (p : x ≡ pointedRecord s) (o₂ : List ℕ) (n₂ : ℕ) where
   pub refusal-listed : (number place : ℕ) → x ≡ RecordAnswer.Refused number place → Wrote (refusalLine number place) out 0 o₂ n₂ → Listed s out o₂ n₂
   refusal-listed number place q w =
       stands s out o₂ (refusalLine number place) n₂ fits (refuses (subst (RecordAnswers s) (ap recordReport (sym p ∙ q)) (record-answers s))) w
-
-  accepted-short : (next : ℕ) → x ≡ RecordAnswer.Accepted next → length s ≤ 4096
-  accepted-short next q = ⊎-elim
-      (λ (h : length s ≤ 4096). h)
-      (λ (h : 4096 < length s). let e = read-record-long s h in let z : _≡_ {A = ℕ} 0 1 = cc in absurd (omega arith))
-      (le-or-lt (length s) 4096)
 
   pub terms-listed : (next : ℕ) → x ≡ RecordAnswer.Accepted next → (o₁ : List ℕ) (n₁ : ℕ) → Wrote (bytes "at term sign arg four six\n") out 0 o₁ n₁
       → ((ts : List Placed) → Reads s next ts → Wrote (linesOf ts) o₁ n₁ o₂ n₂) → Listed s out o₂ n₂
   unfolding listingOf
   terms-listed next q o₁ n₁ u f =
-      let h = accepted-short next q in
-      let d = record-sound s next (sym p ∙ q) in
-      let c = record-complete (d .1) h in
-      let e : 6 ≡ next = cc (c .accepted) in
-      stands s out o₂ (listingOf (d .0)) n₂ fits (lists h (d .1)) (wrote-then out 0 _ _ o₁ o₂ n₁ n₂ u (f (d .0) (subst (λ (j : ℕ). Reads s j (d .0)) e (c .walk))))
+      let a = accepting s next (subst (RecordAnswers s) (ap recordReport (sym p ∙ q)) (record-answers s)) in
+      let r = subst (λ (j : ℕ). Reads s j (a .terms)) (sym (a .first)) (record-complete (a .reading) (a .short) .walk) in
+      stands s out o₂ (listingOf (a .terms)) n₂ fits (lists (a .short) (a .reading)) (wrote-then out 0 _ _ o₁ o₂ n₁ n₂ u (f (a .terms) r))
 
 -- `without_newline` and `list_input`
 module _ (s : List ℕ) where

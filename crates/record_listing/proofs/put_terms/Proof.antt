@@ -16,8 +16,8 @@ abbrev μ-loop : tie.MeasureT-loop
 loop-holds : tie.Need-loop-holds Inv-loop μ-loop
 loop-holds c = search walking-start
 
-read-term-requires : tie.Need-read-term-requires Inv-loop μ-loop
-read-term-requires c κs = search needs
+next-term-requires : tie.Need-next-term-requires Inv-loop μ-loop
+next-term-requires c κs = search needs
 
 enum-known-place : tie.Need-enum-known-place Inv-loop μ-loop
 enum-known-place c = search needs
@@ -50,7 +50,7 @@ put-terms-spec =
     Inv-loop
     μ-loop
     loop-holds
-    read-term-requires
+    next-term-requires
     enum-known-place
     same-length
     returns

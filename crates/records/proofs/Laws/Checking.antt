@@ -1,7 +1,7 @@
 -- The ways out of the functions that read a record, each with a rule whose premises are what the code knows there, and that a term's next
 -- place lies further on. From the definitions of Reader, the laws of runs, and what Terms and Records say of the answers.
 use Prim.Native.Nat.{ℕ, zero, suc, _+_, _-_, _≤_, _<_}
-use mathlib.Core.Path.{_≡_, refl, sym, ap, subst, _∙_}
+use mathlib.Core.Path.{_≡_, refl, sym, ap, _∙_}
 use mathlib.Core.List.{List, [], _∷_}
 use mathlib.Core.Bool.{Bool, true, false, _&&_, _||_}
 use native.Mathlib.Omega.{arith}
@@ -20,18 +20,18 @@ use Rattle.text.specs.Runs.{isIn, runEnd}
 use Rattle.text.specs.declared.bytes.Class.the-variants.{Space, NotSpace}
 use Rattle.text.proofs.Laws.Tests.{cond-elim}
 use Rattle.text.proofs.Laws.Spans.{part-past}
-use Rattle.records.specs.Readings.{Optional, absent, present, Placed, bytesOr, argumentBytes}
+use Rattle.records.specs.Readings.{Optional, absent, present, bytesOr, argumentBytes}
 use Rattle.records.specs.declared.Term.{Term}
 use Rattle.records.specs.declared.Token.{Token}
 use Rattle.records.specs.declared.TermAnswer.{TermAnswer}
 use Rattle.records.specs.declared.RecordAnswer.{RecordAnswer}
-use Rattle.records.specs.Numbers.{optional, networkSaid, saidOf, TermReport, term, termReport}
-use Rattle.records.specs.Answers.{most-bytes, TermAnswers, ReadsRecord, ReadsTerm, ReadsArgument}
+use Rattle.records.specs.Numbers.{optional, networkSaid, saidOf, termReport}
+use Rattle.records.specs.Answers.{most-bytes, ReadsArgument}
 use Rattle.records.specs.Reader.{tokenOf, tokenAnswer, termFrom, readTerm, isRedirect, isExplanation, checkAfter, checkFrom, hasVersion, readRecord, after-version}
 use Rattle.records.proofs.Term as term-type
-use Rattle.records.proofs.Laws.Terms.{read-long, read-past, term-answers}
+use Rattle.records.proofs.Laws.Terms.{read-long, read-past, found}
 use Rattle.records.proofs.Laws.Walks.{check-twice, check-on}
-use Rattle.records.proofs.Laws.Records.{read-record-long, read-record-other, read-record-terms, record-answers}
+use Rattle.records.proofs.Laws.Records.{read-record-long, read-record-other, read-record-terms}
 use Rattle.records.proofs.Laws.Versions.{version-of, version-inside}
 
 -- `term_from`
@@ -52,11 +52,8 @@ module _ (s : List ℕ) (p : ℕ) (some : p ≡ length s → ⊥) (e : ℕ) (q :
   unfolding tokenAnswer
   from-term t f = sym (from ∙ ap (tokenAnswer p e) f)
 
--- `read_term`
+-- `next_term`
 module _ (s : List ℕ) (i : ℕ) where
-  pub term-answered : (r : TermAnswer) → r ≡ readTerm s i → (r ≡ readTerm s i) × ReadsTerm s i r
-  term-answered r e = (e, subst (ReadsTerm s i) (sym e) (term-answers s i))
-
   pub term-long : most-bytes < length s → TermAnswer.Refused 30 0 ≡ readTerm s i
   term-long h = sym (read-long s i h)
 
@@ -70,17 +67,10 @@ module _ (s : List ℕ) (i : ℕ) where
 
 -- the next place of a term lies further on and inside
 term-next : (s : List ℕ) (i : ℕ) (r : TermAnswer) → r ≡ readTerm s i → (p e : ℕ) (t : Term) → r ≡ TermAnswer.Is p e t → (i < e) × (e ≤ length s)
-term-next s i r q p e t h = by (term-answers s i) (ap (termReport s) (sym q ∙ h))
-  where
-    by : {x : TermReport} {y : Placed} → TermAnswers s i x → x ≡ term e y → (i < e) × (e ≤ length s)
-    by (TermAnswers.too-long l) g = absurd (let z : _≡_ {A = ℕ} 0 1 = cc in omega arith)
-    by (TermAnswers.beyond l k) g = absurd (let z : _≡_ {A = ℕ} 0 1 = cc in omega arith)
-    by (TermAnswers.only-spaces l k m) g = absurd (let z : _≡_ {A = ℕ} 0 1 = cc in omega arith)
-    by (TermAnswers.outside u w rest l k d m n f) g = absurd (let z : _≡_ {A = ℕ} 0 1 = cc in omega arith)
-    by (TermAnswers.produced u w rest l k d m n f) g =
-        let j : i + (length u + length w) ≡ e = cc in
-        let c = simp length-append at (ap length d) in
-        (omega (arith, n .some), omega (arith, c, length-drop i s))
+term-next s i r q p e t h =
+    let f = found s i e _ (ap (termReport s) (sym q ∙ h)) in
+    let c = simp length-append at (ap length (f .split)) in
+    (omega (arith, f .next-is, f .run .some), omega (arith, c, f .next-is, f .run .some, length-drop i s))
 
 -- so that what is left to read falls
 pub next-less : (s : List ℕ) (i : ℕ) (r : TermAnswer) → r ≡ readTerm s i → (p e : ℕ) (t : Term) → r ≡ TermAnswer.Is p e t
@@ -245,11 +235,8 @@ module _ (s : List ℕ) (i₀ i : ℕ) (r e : Bool) (w : Checking s i₀ i r e) 
           rest = λ y ih. w .rest y (check-next s i r e (w .inside) a p at n t q x g b hb r′ hr c hc e′ he h y ih);
         }
 
--- `read_record`
+-- `open_record`
 module _ (s : List ℕ) where
-  pub record-answered : (r : RecordAnswer) → r ≡ readRecord s → (r ≡ readRecord s) × ReadsRecord s r
-  record-answered r e = (e, subst (ReadsRecord s) (sym e) (record-answers s))
-
   pub record-long : most-bytes < length s → RecordAnswer.Refused 30 0 ≡ readRecord s
   record-long h = sym (read-record-long s h)
 

@@ -3,19 +3,21 @@
 use Prim.Native.Nat.{ℕ}
 use mathlib.Core.Path.{_≡_, refl, sym, ap, subst, _∙_}
 use mathlib.Core.List.{List, [], _∷_}
+use mathlib.Core.Logic.{_↔_}
 use native.Mathlib.Omega.{arith}
 use Rattle.text.specs.Bytes.{part}
 use Rattle.records.specs.Readings.{Placed, argumentBytes}
 use Rattle.records.specs.Grammar.{Record}
 use Rattle.records.specs.Numbers.{accepted, recordReport, saidOf, end, term, termReport}
 use Rattle.records.specs.Answers.{ReadsRecord}
-use Rattle.records.specs.Reader.{readRecord, readTerm, Reads, after-version}
+use Rattle.records.specs.Reader.{readTerm, Reads, after-version}
+use Rattle.records.specs.Beginnings.{pointedTerm, pointedRecord}
 use Rattle.records.specs.Claim.{Calls, Told, Walks, told, Claim}
 use Rattle.records.specs.declared.Term.{Term}
 use Rattle.records.specs.declared.TermAnswer.{TermAnswer}
 use Rattle.records.specs.declared.RecordAnswer.{RecordAnswer}
-use Rattle.records.proofs.Laws.Terms.{term-answers, term-answers-is}
-use Rattle.records.proofs.Laws.Records.{record-complete, reads-one, one-reading, record-answers, Accepting, accepting, record-answers-is}
+use Rattle.records.proofs.Laws.Terms.{term-answers, term-answers-is, point-kept, no-refusal}
+use Rattle.records.proofs.Laws.Records.{record-complete, record-accepted, reads-one, one-reading, record-answers, Accepting, accepting, record-answers-is}
 
 -- answers by what is reported of them
 accepted-of : (r : RecordAnswer) (n : ℕ) → recordReport r ≡ accepted n → r ≡ RecordAnswer.Accepted n
@@ -42,28 +44,34 @@ term-of s (TermAnswer.Is at e x) next t q =
     record { at = at; found = x; is = ap (λ (k : ℕ). TermAnswer.Is at k x) n; says = p ∙ ap (λ (k : ℕ). record { place = at; said = saidOf (part s at k) x }) n }
 
 module _ {s : List ℕ} (calls : Calls s) where
-  -- a term's report is the reader's
-  report-is : (i : ℕ) → termReport s (calls .term-answer i) ≡ termReport s (readTerm s i)
+  -- a term's report, and the end, are the reader's
+  report-is : (i : ℕ) → termReport s (calls .term-answer i) ≡ termReport s (pointedTerm s i)
   report-is i = term-answers-is s i _ (calls .terms-promised i)
+
+  end-is : (i : ℕ) → (termReport s (pointedTerm s i) ≡ end) ↔ (termReport s (readTerm s i) ≡ end)
+  end-is i = point-kept s (readTerm s i) end (λ number p e. let z : _≡_ {A = ℕ} 0 1 = cc in omega arith)
+
+  term-is : (i next : ℕ) (t : Placed) → (termReport s (pointedTerm s i) ≡ term next t) ↔ (termReport s (readTerm s i) ≡ term next t)
+  term-is i next t = point-kept s (readTerm s i) (term next t) (no-refusal next t)
 
   -- a walk of the calls is one of the reader, with the arguments
   walks-reads : {i : ℕ} {us : List Told} → Walks calls i us → (ts : List Placed) × (Reads s i ts × (us ≡ told ts))
-  walks-reads {i} (Walks.stop e) = ([], (Reads.stop (sym (report-is i) ∙ ap (termReport s) e), refl))
+  walks-reads {i} (Walks.stop e) = ([], (Reads.stop (end-is i .0 (sym (report-is i) ∙ ap (termReport s) e)), refl))
   walks-reads {i} (Walks.step {at = at} {next = next} {x = x} {ts = us} e w) =
       let t : Placed = record { place = at; said = saidOf (part s at next) x } in
       let r = walks-reads w in (
         t ∷ r .0,
         (
-          Reads.step (sym (report-is i) ∙ ap (termReport s) e) (r .1 .0),
+          Reads.step (term-is i next t .0 (sym (report-is i) ∙ ap (termReport s) e)) (r .1 .0),
           ap (λ (bytes : List ℕ). record { term = t; argument = bytes } ∷ us) (calls .arguments-promised at next x)
               ∙ ap (λ (vs : List Told). record { term = t; argument = argumentBytes (t .said) } ∷ vs) (r .1 .1),
         ),
       )
 
   reads-walks : {i : ℕ} {ts : List Placed} → Reads s i ts → Walks calls i (told ts)
-  reads-walks {i} (Reads.stop e) = Walks.stop (end-of s (calls .term-answer i) (report-is i ∙ e))
+  reads-walks {i} (Reads.stop e) = Walks.stop (end-of s (calls .term-answer i) (report-is i ∙ end-is i .1 e))
   reads-walks {i} (Reads.step {next = next} {t = t} {ts = ts} e r) =
-      let o = term-of s (calls .term-answer i) next t (report-is i ∙ e) in
+      let o = term-of s (calls .term-answer i) next t (report-is i ∙ term-is i next t .1 e) in
       let a = calls .arguments-promised (o .at) next (o .found) in
       subst (λ (u : Told). Walks calls i (u ∷ told ts))
       (ap (λ (bytes : List ℕ). record { term = record { place = o .at; said = saidOf (part s (o .at) next) (o .found) }; argument = bytes }) a
@@ -82,7 +90,7 @@ pub claim : (s : List ℕ) (calls : Calls s) → Claim s calls
 claim s calls = record {
   accepts = (
     (λ a. let p = accepted-by calls (a .0) (a .1) in (p .short, (p .terms, p .reading))),
-    (λ d. (after-version, accepted-of (calls .record-answer) after-version (record-answers-is s _ (calls .record-promised) ∙ ap recordReport (record-complete (d .1 .1) (d .0) .accepted)))),
+    (λ d. (after-version, accepted-of (calls .record-answer) after-version (record-answers-is s _ (calls .record-promised) ∙ ap recordReport (record-accepted (d .1 .1) (d .0))))),
   );
   one = λ h ts us d e. one-reading h d e;
   walks = λ first a ts d us.
@@ -95,9 +103,9 @@ claim s calls = record {
 -- there are such answers: the reader's
 pub calls-of : (s : List ℕ) → Calls s
 calls-of s = record {
-  record-answer = readRecord s;
+  record-answer = pointedRecord s;
   record-promised = record-answers s;
-  term-answer = readTerm s;
+  term-answer = pointedTerm s;
   terms-promised = term-answers s;
   argument-answer = λ at next x. argumentBytes (saidOf (part s at next) x);
   arguments-promised = λ at next x. refl;

@@ -18,7 +18,7 @@ use Rattle.records.specs.declared.RecordAnswer.{RecordAnswer}
 use Rattle.records.specs.declared.opening.Unaided.{Unaided}
 use Rattle.records.specs.declared.opening.Opening.{Opening}
 use Rattle.records.specs.Answers.{most-bytes}
-use Rattle.records.specs.Reader.{readTerm, isRedirect, isExplanation, checkAfter, hasVersion, readRecord, after-version}
+use Rattle.records.specs.Reader.{readTerm, isRedirect, isExplanation, checkAfter, hasVersion, after-version}
 use Rattle.records.proofs.TermAnswer as answer-type
 use Rattle.records.specs.Opening.{unaided, Passing, Leads, Opened, OpeningOf, answerOf, ledBy, ledOn}
 use Rattle.records.proofs.opening.Opening as opening-type
@@ -183,7 +183,3 @@ module _ (client : Address) (s : List ℕ) where
 
     pub open-checked : x ≡ true → (r : Opening) → Opened client s after-version r → OpeningOf client s r
     open-checked h r g = record { answer = record-checked s short x p h (answerOf r) (g .checks); leads = g .leads }
-
--- `read_record`
-pub read-by : (client : Address) (s : List ℕ) (o : Opening) → OpeningOf client s o → (r : RecordAnswer) → r ≡ answerOf o → r ≡ readRecord s
-read-by client s o g r e = e ∙ g .answer

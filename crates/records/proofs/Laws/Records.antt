@@ -18,12 +18,14 @@ use Rattle.text.proofs.Laws.Parts.{all-append}
 use Rattle.text.proofs.Laws.Spans.{Span, span-rest}
 use Rattle.records.specs.Readings.{Said, Placed}
 use Rattle.records.specs.Grammar.{Literal, TermText, Terms, countOf, Once, Record, spf1}
-use Rattle.records.specs.Numbers.{RecordReport, recordReport, accepted}
+use Rattle.records.specs.Numbers.{RecordReport, recordReport, accepted, refused}
 use Rattle.records.specs.Answers.{most-bytes, NoTerm, Version, Front, RecordAnswers, too-long, no-version, outside, repeated, produced, ReadsRecord}
 use Rattle.records.specs.Reader.{tokenAnswer, readTerm, isRedirect, isExplanation, checkFrom, hasVersion, readRecord, Reads, stop, step, after-version}
+use Rattle.records.specs.Beginnings.{pointed, pointRecord, pointedRecord}
 use Rattle.records.specs.declared.TermAnswer.{TermAnswer}
 use Rattle.records.specs.declared.RecordAnswer.{RecordAnswer}
-use Rattle.records.proofs.Laws.Terms.{no-term-outside}
+use Rattle.records.proofs.Laws.Terms.{no-term-outside, points}
+use Rattle.records.proofs.Laws.Longest.{longest-found, longest-one}
 use Rattle.records.proofs.Laws.NextRuns.{NextRun, next-run, read-run, read-spaces}
 use Rattle.records.proofs.Laws.Counts.{count, count-none, count-more, count-append, count-false, Fits, count-small, flag-sum}
 use Rattle.records.proofs.Laws.Versions.{version-size, version-rest, has-version, version-of, version-inside}
@@ -81,6 +83,10 @@ record-complete (spf1 {v = v} {rest = rest} {ts = ts} l t o) h =
     let d = record-version v rest l t in
     terms-accepted d (subst (λ (n : ℕ). Terms n rest ts) (version-size d) t) o h
 
+pub record-accepted : {s : List ℕ} {ts : List Placed} → Record s ts → length s ≤ most-bytes → pointedRecord s ≡ RecordAnswer.Accepted after-version
+unfolding pointRecord
+record-accepted {s} d h = ap (pointRecord s) (record-complete d h .accepted)
+
 -- a walk that ends is one list of terms
 pub reads-one : {s : List ℕ} {i : ℕ} {ts us : List Placed} → Reads s i ts → Reads s i us → ts ≡ us
 reads-one (stop p) (stop q) = refl
@@ -95,71 +101,6 @@ reads-one {s} (step {next = a} {t = t} {ts = ts} p r) (step {next = b} {t = u} {
 -- one reading
 pub one-reading : {s : List ℕ} {ts us : List Placed} → length s ≤ most-bytes → Record s ts → Record s us → ts ≡ us
 one-reading h d e = reads-one (record-complete d h .walk) (record-complete e h .walk)
-
--- the answer for any record, refusals too
-module _ (s : List ℕ) (h : length s ≤ most-bytes) (d : Version s (take after-version s) (drop after-version s)) where
-  made : {ts : List Placed} → Terms after-version (drop after-version s) ts → Once ts → RecordAnswers s (accepted after-version)
-  made {ts} t o =
-      subst (λ (n : ℕ). RecordAnswers s (accepted n)) (version-size d)
-      (produced h d (subst (λ (y : List ℕ). Record y ts) (sym (d .whole))
-      (spf1 {v = take after-version s} (d .version) (subst (λ (n : ℕ). Terms n (drop after-version s) ts) (sym (version-size d)) t) o)))
-
-  front-of : {ts : List Placed} {w : List ℕ} {p : ℕ} → FrontFrom s after-version ts w p → Front s ts w p
-  front-of {ts} {w} {p} f = record {
-    v = take after-version s;
-    front = f .front;
-    gap = f .gap;
-    rest = f .rest;
-    version = subst (Version s (take after-version s)) (f .split) d;
-    terms = subst (λ (n : ℕ). Terms n (f .front) ts) (sym (version-size d)) (f .terms);
-    spaces = f .spaces;
-    run = f .is-run;
-    place-is = omega (arith, f .place-is, version-size d);
-  }
-
-  rest-record : {answer : RecordReport} → Rest s after-version (count false) (count false) answer → RecordAnswers s answer
-  rest-record (Rest.read {ts = ts} t c) = made t (fits-once ts c)
-  rest-record (Rest.stopped {ts = ts} f c q) = outside h (front-of f) (fits-once ts c) q
-  rest-record (Rest.twice {ts = ts} {p = p} {x = x} f c q n) =
-      repeated h (front-of f) (fits-once ts c) q (λ o. n (once-fits (ts ++ (record { place = p; said = x } ∷ [])) o))
-
-pub record-answers : (s : List ℕ) → ReadsRecord s (readRecord s)
-record-answers s = ⊎-elim
-    (λ (h : length s ≤ most-bytes). by h (hasVersion s) refl)
-    (λ (h : most-bytes < length s). subst (ReadsRecord s) (sym (read-record-long s h)) (too-long h))
-    (le-or-lt (length s) most-bytes)
-  where
-    by : length s ≤ most-bytes → (t : Bool) → hasVersion s ≡ t → ReadsRecord s (readRecord s)
-    by h true q =
-        let d = version-of s q in
-        subst (ReadsRecord s) (sym (read-record-terms s h q))
-        (rest-record s h d (rest-answers (suc (length s)) s after-version h (version-inside d) (d .ends) (omega arith) false false))
-    by h false q =
-        subst (ReadsRecord s) (sym (read-record-other s h q))
-        (no-version h (λ v rest d. let t = has-version d in let z : _≡_ {A = ℕ} 0 1 = cc in omega arith))
-
--- what an acceptance says of a text
-pub record Accepting (s : List ℕ) (n : ℕ) : Type 0 where
-  pub short : length s ≤ most-bytes
-  pub first : n ≡ after-version
-  pub terms : List Placed
-  pub reading : Record s terms
-
-pub accepting : (s : List ℕ) (n : ℕ) → RecordAnswers s (accepted n) → Accepting s n
-accepting s n a = by a refl
-  where
-    by : {r : RecordReport} → RecordAnswers s r → r ≡ accepted n → Accepting s n
-    by (too-long h) q = absurd (let z : _≡_ {A = ℕ} 0 1 = cc in omega arith)
-    by (no-version h v) q = absurd (let z : _≡_ {A = ℕ} 0 1 = cc in omega arith)
-    by (outside h f o i) q = absurd (let z : _≡_ {A = ℕ} 0 1 = cc in omega arith)
-    by (repeated h f o d m) q = absurd (let z : _≡_ {A = ℕ} 0 1 = cc in omega arith)
-    by (produced {v = v} {ts = ts} h d r) q =
-        let e : n ≡ length v = cc in
-        record { short = h; first = e ∙ version-size d; terms = ts; reading = r }
-
--- sound: what is accepted, the grammar produces
-pub record-sound : (s : List ℕ) (n : ℕ) → readRecord s ≡ RecordAnswer.Accepted n → (ts : List Placed) × Record s ts
-record-sound s n e = let a = accepting s n (subst (ReadsRecord s) e (record-answers s)) in (a .terms, a .reading)
 
 -- the front of a refused record as the loop walks over it, and the run at the place
 record FrontWalked (s : List ℕ) (ts : List Placed) (w : List ℕ) (p : ℕ) : Type 0 where
@@ -189,6 +130,88 @@ front-walked {s} {ts} {w} {p} f =
       next = subst (λ (k : ℕ). NextRun s (z .last) k (z .last + (length u + length w)) u w) q (next-run s (z .last) u w (f .rest) x m (f .run));
     }
 
+-- a report with 32's place at the byte
+abbrev pointReport : List ℕ → RecordReport → RecordReport
+pointReport s (accepted n) = accepted n
+pointReport s (refused number p) = refused number (pointed s number p)
+
+report-pointed : (s : List ℕ) (r : RecordAnswer) → recordReport (pointRecord s r) ≡ pointReport s (recordReport r)
+unfolding pointRecord
+report-pointed s (RecordAnswer.Accepted n) = refl
+report-pointed s (RecordAnswer.Refused number p) = refl
+
+-- the answer for any record, refusals too
+module _ (s : List ℕ) (h : length s ≤ most-bytes) (d : Version s (take after-version s) (drop after-version s)) where
+  made : {ts : List Placed} → Terms after-version (drop after-version s) ts → Once ts → RecordAnswers s (accepted after-version)
+  made {ts} t o =
+      subst (λ (n : ℕ). RecordAnswers s (accepted n)) (version-size d)
+      (produced h d (subst (λ (y : List ℕ). Record y ts) (sym (d .whole))
+      (spf1 {v = take after-version s} (d .version) (subst (λ (n : ℕ). Terms n (drop after-version s) ts) (sym (version-size d)) t) o)))
+
+  front-of : {ts : List Placed} {w : List ℕ} {p : ℕ} → FrontFrom s after-version ts w p → Front s ts w p
+  front-of {ts} {w} {p} f = record {
+    v = take after-version s;
+    front = f .front;
+    gap = f .gap;
+    rest = f .rest;
+    version = subst (Version s (take after-version s)) (f .split) d;
+    terms = subst (λ (n : ℕ). Terms n (f .front) ts) (sym (version-size d)) (f .terms);
+    spaces = f .spaces;
+    run = f .is-run;
+    place-is = omega (arith, f .place-is, version-size d);
+  }
+
+  rest-record : {answer : RecordReport} → Rest s after-version (count false) (count false) answer → RecordAnswers s (pointReport s answer)
+  unfolding pointed
+  rest-record (Rest.read {ts = ts} t c) = made t (fits-once ts c)
+  rest-record (Rest.stopped {ts = ts} {w = w} f c q) =
+      subst (λ (n : ℕ). RecordAnswers s (refused 32 n)) (sym (points (front-walked (front-of f) .next)))
+      (outside h (front-of f) (fits-once ts c) q (longest-found w))
+  rest-record (Rest.twice {ts = ts} {p = p} {x = x} f c q n) =
+      repeated h (front-of f) (fits-once ts c) q (λ o. n (once-fits (ts ++ (record { place = p; said = x } ∷ [])) o))
+
+pub record-answers : (s : List ℕ) → ReadsRecord s (pointedRecord s)
+unfolding pointRecord pointed
+record-answers s = ⊎-elim
+    (λ (h : length s ≤ most-bytes). by h (hasVersion s) refl)
+    (λ (h : most-bytes < length s). subst (λ (r : RecordAnswer). ReadsRecord s (pointRecord s r)) (sym (read-record-long s h)) (too-long h))
+    (le-or-lt (length s) most-bytes)
+  where
+    by : length s ≤ most-bytes → (t : Bool) → hasVersion s ≡ t → ReadsRecord s (pointedRecord s)
+    by h true q =
+        let d = version-of s q in
+        let r = checkFrom (suc (length s)) s after-version false false in
+        subst (λ (r : RecordAnswer). ReadsRecord s (pointRecord s r)) (sym (read-record-terms s h q))
+        (subst (RecordAnswers s) (sym (report-pointed s r))
+        (rest-record s h d (rest-answers (suc (length s)) s after-version h (version-inside d) (d .ends) (omega arith) false false)))
+    by h false q =
+        subst (λ (r : RecordAnswer). ReadsRecord s (pointRecord s r)) (sym (read-record-other s h q))
+        (no-version h (λ v rest d. let t = has-version d in let z : _≡_ {A = ℕ} 0 1 = cc in omega arith))
+
+-- what an acceptance says of a text
+pub record Accepting (s : List ℕ) (n : ℕ) : Type 0 where
+  pub short : length s ≤ most-bytes
+  pub first : n ≡ after-version
+  pub terms : List Placed
+  pub reading : Record s terms
+
+pub accepting : (s : List ℕ) (n : ℕ) → RecordAnswers s (accepted n) → Accepting s n
+accepting s n a = by a refl
+  where
+    by : {r : RecordReport} → RecordAnswers s r → r ≡ accepted n → Accepting s n
+    by (too-long h) q = absurd (let z : _≡_ {A = ℕ} 0 1 = cc in omega arith)
+    by (no-version h v) q = absurd (let z : _≡_ {A = ℕ} 0 1 = cc in omega arith)
+    by (outside h f o i l) q = absurd (let z : _≡_ {A = ℕ} 0 1 = cc in omega arith)
+    by (repeated h f o d m) q = absurd (let z : _≡_ {A = ℕ} 0 1 = cc in omega arith)
+    by (produced {v = v} {ts = ts} h d r) q =
+        let e : n ≡ length v = cc in
+        record { short = h; first = e ∙ version-size d; terms = ts; reading = r }
+
+-- sound: what is accepted, the grammar produces
+pub record-sound : (s : List ℕ) (n : ℕ) → readRecord s ≡ RecordAnswer.Accepted n → (ts : List Placed) × Record s ts
+unfolding pointRecord
+record-sound s n e = let a = accepting s n (subst (λ (r : RecordAnswer). ReadsRecord s (pointRecord s r)) e (record-answers s)) in (a .terms, a .reading)
+
 outside-is : {s : List ℕ} {ts : List Placed} {w : List ℕ} {p : ℕ} → length s ≤ most-bytes → Front s ts w p → Once ts → NoTerm w → readRecord s ≡ RecordAnswer.Refused 32 p
 unfolding tokenAnswer
 outside-is {s} {ts} {w} {p} h f o i =
@@ -217,11 +240,15 @@ repeated-is {s} {ts} {w} {p} {x} h f o d n =
     (λ c. n (once-more ts (record { place = p; said = x }) (z .flag) (z .mark) (isRedirect (t .found)) (isExplanation (t .found)) (z .redirects) (z .explanations) (t .redirect) (t .explanation) c)) in
     z .is ∙ check-twice (z .fuel) s (g .last) (z .flag) (z .mark) p (g .finish) (t .found) (t .read) e
 
--- for the reader: what the productions say of an answer determines it, so `RecordAnswers` is no weaker than the equation with `readRecord`
-pub record-answers-is : (s : List ℕ) (r : RecordReport) → RecordAnswers s r → r ≡ recordReport (readRecord s)
-record-answers-is s r (too-long h) = ap recordReport (sym (read-record-long s h))
+-- for the reader: what the productions say of an answer determines it, so `RecordAnswers` is no weaker than the equation with `pointedRecord`
+pub record-answers-is : (s : List ℕ) (r : RecordReport) → RecordAnswers s r → r ≡ recordReport (pointedRecord s)
+unfolding pointRecord pointed
+record-answers-is s r (too-long h) = ap (λ (x : RecordAnswer). recordReport (pointRecord s x)) (sym (read-record-long s h))
 record-answers-is s r (no-version h v) =
-    ap recordReport (sym (read-record-other s h (test-fails (hasVersion s) (λ q. v (take after-version s) (drop after-version s) (version-of s q)))))
-record-answers-is s r (outside h f o i) = ap recordReport (sym (outside-is h f o i))
-record-answers-is s r (repeated h f o d n) = ap recordReport (sym (repeated-is h f o d n))
-record-answers-is s r (produced h v d) = ap accepted (version-size v) ∙ ap recordReport (sym (record-complete d h .accepted))
+    ap (λ (x : RecordAnswer). recordReport (pointRecord s x))
+    (sym (read-record-other s h (test-fails (hasVersion s) (λ q. v (take after-version s) (drop after-version s) (version-of s q)))))
+record-answers-is s r (outside {w = w} {p = p} {n = n} h f o i l) =
+    let q : p + n ≡ pointed s 32 p = ap (λ (k : ℕ). p + k) (longest-one l (longest-found w)) ∙ sym (points (front-walked f .next)) in
+    ap (refused 32) q ∙ ap (λ (x : RecordAnswer). recordReport (pointRecord s x)) (sym (outside-is h f o i))
+record-answers-is s r (repeated h f o d n) = ap (λ (x : RecordAnswer). recordReport (pointRecord s x)) (sym (repeated-is h f o d n))
+record-answers-is s r (produced h v d) = ap accepted (version-size v) ∙ ap recordReport (sym (record-accepted d h))

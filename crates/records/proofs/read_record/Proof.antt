@@ -1,22 +1,46 @@
--- `records::read_record` meets its contract. From what reading the record for any client answers.
-use Rattle.records.proofs.Laws.Checking.{record-answered}
-use Rattle.records.proofs.Laws.Openings.{read-by}
+-- `records::read_record` meets its contract. From what reading the record for any client answers, and the laws of Pointing.
+use Rattle.records.proofs.Laws.Pointing.{record-answered, record-matched, record-open, record-short, record-pointed}
 use borrow.Author.Needs.{needs}
 use Rattle.records.proofs.read_record.Statement.{statement}
 use Rattle.records.proofs.read_record.Tie as tie
 use Rattle.records.proofs.read_record.Reads as reads
 use Rattle.records.proofs.read_record.Lts as lts
-use Rattle.records.proofs.answer_of.Reads as answer-of-reads
 use Rattle.records.proofs.opening.open_record.Reads as open-record-reads
+use Rattle.records.proofs.point.Reads as point-reads
 
 open-record-requires : tie.Need-open-record-requires
 open-record-requires c κs = search needs
 
-answer-of-requires : tie.Need-answer-of-requires
-answer-of-requires c κs = search needs
+enum-told : tie.Need-enum-told
+enum-told c = search needs
+
+enum-told-2 : tie.Need-enum-told-2
+enum-told-2 c = search needs
+
+enum-known-number : tie.Need-enum-known-number
+enum-known-number c = search needs
+
+point-requires : tie.Need-point-requires
+point-requires c κs = search record-short
 
 returns : tie.Need-returns
-returns c = record-answered _ _ (search read-by)
+returns c = record-answered _ _ (search record-matched)
+
+returns-2 : tie.Need-returns-2
+returns-2 c = record-answered _ _ (search record-open)
+
+returns-3 : tie.Need-returns-3
+returns-3 c = record-answered _ _ (search record-pointed)
 
 pub read-record-spec : {M : Type 1} → statement M
-read-record-spec = tie.close (tie.spec open-record-requires answer-of-requires returns)
+read-record-spec =
+    tie.close
+    (tie.spec
+    open-record-requires
+    enum-told
+    enum-told-2
+    enum-known-number
+    point-requires
+    returns
+    returns-2
+    returns-3)

@@ -1,20 +1,18 @@
 -- A mechanism that is read has one of the four signs, and a modifier has none; so a match always gives a result. From the productions.
-use Prim.Native.Nat.{ℕ, _+_}
-use mathlib.Core.Path.{_≡_, refl, ap, subst}
+use Prim.Native.Nat.{ℕ}
+use mathlib.Core.Path.{_≡_, refl, ap}
 use mathlib.Core.List.{List, [], _∷_}
 use mathlib.Core.Bool.{Bool, true, false, cond, _||_}
 use native.Mathlib.Omega.{arith}
-use lib.ListN.{length}
 use lib.Dec.{eqb}
 use Rattle.text.specs.Bytes.{part}
 use Rattle.records.specs.Readings.{Optional, absent, present, Said, Placed}
 use Rattle.records.specs.Grammar.{isQualifier, Mechanism, all-term, include, a, mx, ptr, ip4, ip6, exists, Modifier, redirect, explanation, unknown, unsigned, signed, TermText, directive, modifier-term, Terms, done, term as term-made, Record, spf1, sign-plus, sign-minus, sign-tilde, sign-question}
 use Rattle.records.specs.Reader.{readTerm}
-use Rattle.records.specs.Numbers.{TermReport, term, termReport, saidOf}
-use Rattle.records.specs.Answers.{TermAnswers, too-long, beyond, only-spaces, outside, produced}
+use Rattle.records.specs.Numbers.{term, termReport, saidOf}
 use Rattle.records.specs.declared.Term.{Term}
 use Rattle.records.specs.declared.TermAnswer.{TermAnswer}
-use Rattle.records.proofs.Laws.Terms.{term-answers}
+use Rattle.records.proofs.Laws.Terms.{found}
 use Rattle.rules.specs.Results.{result-pass, result-fail, result-softfail, result-neutral}
 use Rattle.rules.specs.Evaluation.{signResult}
 
@@ -44,19 +42,9 @@ term-signed (directive (unsigned m)) = mechanism-signed refl m
 term-signed (directive (signed h m)) = mechanism-signed h m
 term-signed (modifier-term m) = modifier-signed m
 
-answer-signed : (s : List ℕ) (i : ℕ) {r : TermReport} → TermAnswers s i r → (next : ℕ) (p : Placed) → r ≡ term next p → Signed (p .said .sign)
-answer-signed s i (too-long h) next p e = let z : _≡_ {A = ℕ} 0 1 = cc in absurd (omega arith)
-answer-signed s i (beyond h k) next p e = let z : _≡_ {A = ℕ} 0 1 = cc in absurd (omega arith)
-answer-signed s i (only-spaces h k l) next p e = let z : _≡_ {A = ℕ} 0 1 = cc in absurd (omega arith)
-answer-signed s i (outside u w rest h k d l o n) next p e = let z : _≡_ {A = ℕ} 0 1 = cc in absurd (omega arith)
-answer-signed s i (produced u w rest {x = x} h k d l o m) next p e =
-    let j : record { place = i + length u; said = x } ≡ p = cc in
-    subst (λ (y : Placed). Signed (y .said .sign)) j (term-signed m)
-
 -- the term that is read at a place
 pub read-signed : (s : List ℕ) (i at next : ℕ) (x : Term) → readTerm s i ≡ TermAnswer.Is at next x → Signed (saidOf (part s at next) x .sign)
-read-signed s i at next x e =
-    answer-signed s i (term-answers s i) next (record { place = at; said = saidOf (part s at next) x }) (ap (termReport s) e)
+read-signed s i at next x e = term-signed (found s i next (record { place = at; said = saidOf (part s at next) x }) (ap (termReport s) e) .text)
 
 -- all terms of a reading
 pub data AllSigned : List Placed → Type 0 where

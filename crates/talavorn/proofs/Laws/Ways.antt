@@ -27,10 +27,12 @@ use Rattle.macros.specs.Numbers.{Outcome as Expansion, outcome, refused as expa
 use Rattle.macros.specs.Answers.{Answered as Expansion-answered}
 use Rattle.records.specs.Numbers.{recordReport, termReport}
 use Rattle.records.specs.Answers.{RecordAnswers, TermAnswers}
-use Rattle.records.specs.Reader.{readRecord, readTerm}
+use Rattle.records.specs.Reader.{readTerm}
+use Rattle.records.specs.Beginnings.{pointedTerm, pointedRecord}
 use Rattle.records.specs.declared.Term.{Term}
 use Rattle.records.specs.declared.RecordAnswer.{RecordAnswer}
 use Rattle.records.specs.declared.TermAnswer.{TermAnswer}
+use Rattle.records.proofs.Laws.Terms.{term-unpointed}
 use Rattle.evaluation.specs.declared.Answer.{Answer}
 use Rattle.evaluation.specs.Numbers.{Outcome, refused, answerOf, nameAfter, textAfter, Says}
 use Rattle.evaluation.specs.Evaluating.{evaluated}
@@ -70,7 +72,7 @@ module _ (client x : FromOctets) (p : x ≡ client) (domain sender helo receiver
       )
 
 -- `talavorn_read_record`
-module _ (s : List ℕ) (x : RecordAnswer) (p : x ≡ readRecord s) (h : RecordAnswers s (recordReport x)) where
+module _ (s : List ℕ) (x : RecordAnswer) (p : x ≡ pointedRecord s) (h : RecordAnswers s (recordReport x)) where
   pub record-says : (numbers : List ℕ) → numbers ≡ recordNumbers (recordReport x) → RecordSays s numbers
   record-says numbers n = record { answer = n ∙ rw p; produced = rw p at h }
 
@@ -192,13 +194,13 @@ module _ (form : FormAnswer) (f : FormAnswer) (pf : f ≡ form) (client : FromOc
         )
 
 -- `talavorn_read_term`
-pub term-fits : (s : List ℕ) (i : ℕ) (x : TermAnswer) → x ≡ readTerm s i → (at next : ℕ) (t : Term) → x ≡ TermAnswer.Is at next t → (at ≤ next) × Inside (next - at) t
-term-fits s i x p at next t e = term-inside s i at next t (sym p ∙ e)
+pub term-fits : (s : List ℕ) (i : ℕ) (x : TermAnswer) → x ≡ pointedTerm s i → (at next : ℕ) (t : Term) → x ≡ TermAnswer.Is at next t → (at ≤ next) × Inside (next - at) t
+term-fits s i x p at next t e = term-inside s i at next t (term-unpointed s (readTerm s i) at next t (sym p ∙ e))
 
-module _ (s : List ℕ) (i : ℕ) (x : TermAnswer) (p : x ≡ readTerm s i) (h : TermAnswers s i (termReport s x)) (b : List ℕ) where
+module _ (s : List ℕ) (i : ℕ) (x : TermAnswer) (p : x ≡ pointedTerm s i) (h : TermAnswers s i (termReport s x)) (b : List ℕ) where
   term-says : (y : TermAnswer) → x ≡ y → ArgumentStands s y → (numbers d : List ℕ) → numbers ≡ termNumbers y → d ≡ overwritten (termOctets y) b → TermSays s i numbers b d
   term-says y e a numbers d n o =
-      let q : readTerm s i ≡ y = sym p ∙ e in
+      let q : pointedTerm s i ≡ y = sym p ∙ e in
       record { answer = rw q n; network = rw q o; argument = rw q a; produced = rw p at h }
 
   pub term-end : x ≡ TermAnswer.End → TermSays s i (0 ∷ 0 ∷ 0 ∷ 0 ∷ 0 ∷ 0 ∷ 0 ∷ 0 ∷ 0 ∷ []) b b
@@ -212,4 +214,4 @@ module _ (s : List ℕ) (i : ℕ) (x : TermAnswer) (p : x ≡ readTerm s i) (h :
   module _ (at next : ℕ) (t : Term) (e : x ≡ TermAnswer.Is at next t) where
     pub term-read : (row d : List ℕ) → row ≡ termRow at next (shapeOf (next - at) t) → d ≡ overwritten (networkOf t) b → TermSays s i (1 ∷ row) b d
     unfolding termNumbers termOctets
-    term-read row d n o = term-says (TermAnswer.Is at next t) e (argument-stands s i at next t (sym p ∙ e)) (1 ∷ row) d (ap (λ (l : List ℕ). 1 ∷ l) n) o
+    term-read row d n o = term-says (TermAnswer.Is at next t) e (argument-stands s i at next t (term-unpointed s (readTerm s i) at next t (sym p ∙ e))) (1 ∷ row) d (ap (λ (l : List ℕ). 1 ∷ l) n) o

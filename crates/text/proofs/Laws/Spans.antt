@@ -7,7 +7,7 @@ use mathlib.Core.List.{List, [], _∷_, _++_, append-assoc, append-nil}
 use native.Mathlib.Omega.{arith}
 use native.Mathlib.Nat.{add-zero}
 use native.Mathlib.Numerals.{add-one}
-use lib.ListN.{length, take, drop, length-append, take-append-drop, length-drop, drop-of-length-le}
+use lib.ListN.{length, take, drop, length-append, take-append-drop, length-take, length-drop, drop-of-length-le}
 use lib.Seq.{drop-drop, drop-cons, drop-append-seam, drop-append-add, length-take-le, drop-length, take-all, getD-drop, take-at, take-nil}
 use Rattle.text.specs.Bytes.{at, part}
 use Rattle.text.proofs.Laws.Orders.{le-or-lt}
@@ -85,6 +85,10 @@ span-to-end {s} {w} j e p = span-whole (subst (λ (n : ℕ). Span s 0 n w) e p)
 -- the part up to a place
 pub front-part : (s : List ℕ) (i : ℕ) → part s 0 i ≡ take i s
 front-part s i = let e : i - 0 ≡ i = omega arith in ap (λ (n : ℕ). take n s) e
+
+-- a part is no longer than the list
+pub part-length : (s : List ℕ) (i j : ℕ) → length (part s i j) ≤ length s
+part-length s i j = simp (length-take, length-drop) (omega arith)
 
 -- the part from a place on, as code hands it: `&s[i..]`
 pub rest-part : (s : List ℕ) (i : ℕ) → take (length s - i) (drop i s) ≡ drop i s

@@ -5,7 +5,7 @@ use native.Mathlib.Numerals.{add-one}
 use native.Mathlib.Nat.{add-zero, zero-add, add-suc, suc-add}
 use mathlib.Core.Path.{_≡_, refl, sym, ap, _∙_}
 use mathlib.Core.Logic.{_⊎_, ⊎-elim}
-use mathlib.Core.List.{List, [], _∷_, _++_, map, map-append, map-id, append-nil}
+use mathlib.Core.List.{List, [], _∷_, _++_, map, map-append, map-id, append-assoc, append-nil}
 use lib.ListN.{length, getD, take, drop, set, length-append, length-take, take-append-drop, drop-of-length-le}
 use lib.Seq.{sets, length-sets, sets-eq, set-out, take-suc, take-all, take-at, length-take-le}
 use Rattle.text.specs.Writing.{Wrote, overwritten}
@@ -70,13 +70,30 @@ wrote-front xs before after n w h = wrote-over xs before after n w ∙ over-fits
 pub wrote-length : (xs before after : List ℕ) (n : ℕ) → Wrote xs before 0 after n → length xs ≤ 18446744073709551615 → n ≡ length xs
 wrote-length xs before after n w h = omega (arith, w .next-place)
 
+-- a text that was written from a place on, with room for it: what stood before that place and what was written are read back
+module _ (xs z v : List ℕ) (at n : ℕ) (w : Wrote xs z at v n) (h : at + length xs ≤ length z) where
+  pub after-place : n ≡ at + length xs
+  after-place = omega (arith, w .next-place, w .room)
+
+  after-is : v ≡ (take at z ++ xs) ++ drop (at + length xs) z
+  after-is = w .text ∙ sets-eq xs z at h
+
+  front-length : length (take at z) ≡ at
+  front-length = length-take-le at z (omega arith)
+
+  pub after-taken : take n v ≡ take at z ++ xs
+  after-taken = rw after-is (take-at (take at z ++ xs) (drop (at + length xs) z) n (simp length-append (omega (arith, after-place, front-length))))
+
+  pub after-front : take at v ≡ take at z
+  after-front = rw (after-is, append-assoc) (take-at (take at z) (xs ++ drop (at + length xs) z) at front-length)
+
 -- a text that was written into an array with room for it: what was written is read back
 module _ (xs z v : List ℕ) (n : ℕ) (w : Wrote xs z 0 v n) (h : length xs ≤ length z) where
   value-size : n ≡ length xs
-  value-size = let r = w .room in wrote-length xs z v n w (omega arith)
+  value-size = omega (arith, after-place xs z v 0 n w (omega arith))
 
   pub value-taken : take n v ≡ xs
-  value-taken = rw (wrote-front xs z v n w h) (take-at xs (drop (length xs) z) n (sym value-size))
+  value-taken = after-taken xs z v 0 n w (omega arith)
 
   pub value-inside : n ≤ length v
   value-inside = omega (arith, value-size, length-wrote z 0 xs v n w)

@@ -45,7 +45,7 @@ use Rattle.target_name.proofs.make_target.Reads as make-target-reads
 use Rattle.record_lookup.proofs.select_record.Reads as select-record-reads
 use Rattle.mechanisms.proofs.try_plain.Reads as try-plain-reads
 use Rattle.records.proofs.opening.open_record.Reads as open-record-reads
-use Rattle.records.proofs.read_term.Reads as read-term-reads
+use Rattle.records.proofs.next_term.Reads as next-term-reads
 use Rattle.text.proofs.bytes.part.Reads as part-reads
 use Rattle.evaluation.proofs.check.+begin_check+check_domain+evaluate_record+include+no_match+try_term+try_terms.{
   statement,
@@ -155,7 +155,7 @@ try-term-claims t =
 
 abbrev try-terms-claims : ℕ → try-terms-lts.Claims
 try-terms-claims t =
-    (part-reads.Asked, part-reads.Learnt, read-term-reads.Asked, read-term-reads.Learnt, no-match-below t, no-match.Post, try-term-below t, try-term.Post, signed-reads.Asked, signed-reads.Learnt)
+    (part-reads.Asked, part-reads.Learnt, next-term-reads.Asked, next-term-reads.Learnt, no-match-below t, no-match.Post, try-term-below t, try-term.Post, signed-reads.Asked, signed-reads.Learnt)
 
 begin-check-ended-requires : (t : ℕ) → begin-check-lts.Need-ended-requires (begin-check-claims t) (begin-check-at t) begin-check.Post
 begin-check-ended-requires t c κs = search needs
@@ -385,8 +385,8 @@ try-terms-part-requires t c κs = search needs
 try-terms-loop-holds : (t : ℕ) → try-terms-lts.Need-loop-holds (try-terms-claims t) (try-terms-at t) try-terms.Post try-terms-Inv-loop try-terms-μ-loop
 try-terms-loop-holds t c = search walk-opened
 
-try-terms-read-term-requires : (t : ℕ) → try-terms-lts.Need-read-term-requires (try-terms-claims t) (try-terms-at t) try-terms.Post try-terms-Inv-loop try-terms-μ-loop
-try-terms-read-term-requires t c κs = search needs
+try-terms-next-term-requires : (t : ℕ) → try-terms-lts.Need-next-term-requires (try-terms-claims t) (try-terms-at t) try-terms.Post try-terms-Inv-loop try-terms-μ-loop
+try-terms-next-term-requires t c κs = search needs
 
 try-terms-enum-known-place : (t : ℕ) → try-terms-lts.Need-enum-known-place (try-terms-claims t) (try-terms-at t) try-terms.Post try-terms-Inv-loop try-terms-μ-loop
 try-terms-enum-known-place t c = search needs
@@ -416,7 +416,7 @@ try-terms-same-length-2 : (t : ℕ) → try-terms-lts.Need-same-length-2 (try-te
 try-terms-same-length-2 t c = c .before .before .before .before .before .out2 .given ∙ ap length (c .before .before .before .before .before .before .before .before .before .before .before .before .before .before .loop .inv .kept)
 
 try-terms-returns-2 : (t : ℕ) → try-terms-lts.Need-returns-2 (try-terms-claims t) (try-terms-at t) try-terms.Post try-terms-Inv-loop try-terms-μ-loop
-try-terms-returns-2 t c = walk-yes _ _ _ _ _ _ _ _ _ _ _ _ _ (c .signed .ensures) refl refl _ _ _ _ (c .before .before .before .before .before .before .before .before .before .before .before .before .before .before .loop .inv) (c .before .before .before .before .before .before .before .before .before .before .before .before .before .before .before .part .ensures) _ (c .before .before .before .before .before .before .before .before .before .before .before .before .read-term .ensures .0) _ _ (c .before .before .before .before .before .before .before .before .before .before .place .given .1) (c .before .before .before .before .before .before .before .before .before .before .before .before .before .loop-test .taken) _ (c .before .before .before .before .before .before .before .before .part2 .ensures) (c .before .before .before .before .before .before .try-term .ensures) (c .before .enum-told .given .1)
+try-terms-returns-2 t c = walk-yes _ _ _ _ _ _ _ _ _ _ _ _ _ (c .signed .ensures) refl refl _ _ _ _ (c .before .before .before .before .before .before .before .before .before .before .before .before .before .before .loop .inv) (c .before .before .before .before .before .before .before .before .before .before .before .before .before .before .before .part .ensures) _ (c .before .before .before .before .before .before .before .before .before .before .before .before .next-term .ensures) _ _ (c .before .before .before .before .before .before .before .before .before .before .place .given .1) (c .before .before .before .before .before .before .before .before .before .before .before .before .before .loop-test .taken) _ (c .before .before .before .before .before .before .before .before .part2 .ensures) (c .before .before .before .before .before .before .try-term .ensures) (c .before .enum-told .given .1)
 
 try-terms-enum-known-matched : (t : ℕ) → try-terms-lts.Need-enum-known-matched (try-terms-claims t) (try-terms-at t) try-terms.Post try-terms-Inv-loop try-terms-μ-loop
 try-terms-enum-known-matched t c = search needs
@@ -553,7 +553,7 @@ pub +begin-check+check-domain+evaluate-record+include+no-match+try-term+try-term
     try-terms-μ-loop
     (try-terms-part-requires t)
     (try-terms-loop-holds t)
-    (try-terms-read-term-requires t)
+    (try-terms-next-term-requires t)
     (try-terms-enum-known-place t)
     (try-terms-no-match-requires t)
     (try-terms-same-length t)

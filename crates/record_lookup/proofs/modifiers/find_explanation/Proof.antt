@@ -9,7 +9,7 @@ use Rattle.record_lookup.proofs.modifiers.find_explanation.Statement.{s
 use Rattle.record_lookup.proofs.modifiers.find_explanation.Tie as tie
 use Rattle.record_lookup.proofs.modifiers.find_explanation.Reads as reads
 use Rattle.record_lookup.proofs.modifiers.find_explanation.Lts as lts
-use Rattle.records.proofs.read_term.Reads as read-term-reads
+use Rattle.records.proofs.next_term.Reads as next-term-reads
 
 abbrev Inv-loop : tie.InvT-loop
 Inv-loop s at i₀ i = Sought (bytes "exp") s at i
@@ -26,8 +26,8 @@ returns c = search lacks-explanation
 loop-holds : tie.Need-loop-holds Inv-loop μ-loop
 loop-holds c = search sought-start
 
-read-term-requires : tie.Need-read-term-requires Inv-loop μ-loop
-read-term-requires c κs = search needs
+next-term-requires : tie.Need-next-term-requires Inv-loop μ-loop
+next-term-requires c κs = search needs
 
 enum-known-start : tie.Need-enum-known-start Inv-loop μ-loop
 enum-known-start c = search needs
@@ -65,7 +65,7 @@ find-explanation-spec =
     lacks-equals-requires
     returns
     loop-holds
-    read-term-requires
+    next-term-requires
     enum-known-start
     returns-2
     enum-known-term

@@ -16,8 +16,8 @@ abbrev μ-loop : tie.MeasureT-loop
 loop-holds : tie.Need-loop-holds Inv-loop μ-loop
 loop-holds c = search opens-start
 
-read-term-requires : tie.Need-read-term-requires Inv-loop μ-loop
-read-term-requires c κs = search needs
+next-term-requires : tie.Need-next-term-requires Inv-loop μ-loop
+next-term-requires c κs = search needs
 
 enum-known-answer : tie.Need-enum-known-answer Inv-loop μ-loop
 enum-known-answer c = search needs
@@ -68,7 +68,7 @@ check-terms-spec =
     Inv-loop
     μ-loop
     loop-holds
-    read-term-requires
+    next-term-requires
     enum-known-answer
     enum-known-answer-2
     returns
