@@ -118,7 +118,7 @@ static void make_bad_length(struct table *t, int unused)
     add_text(t, "example.com", "v=spf1 ip4:192.0.2.0/33 a mx include:b.example -all");
 }
 
-/* A term of so many bytes, macros and then literals, whose three quarters begin a term: of the places tried, the one to read most in. */
+/* A term of so many bytes, macros and then literals, the first three quarters of which begin a term: of the terms that were tried, the slowest. */
 static void make_bad_term(struct table *t, int size)
 {
     static char record[4128];

@@ -24,7 +24,7 @@ use Rattle.macros.specs.declared.Form.the-variants.{ModifierValue, Expla
 use Rattle.macros.proofs.Laws.Strings.{row-string}
 use Rattle.macros.proofs.Laws.Endings.{literal-out, spec-row}
 
--- the ends that are needed of `%%`, `%{d01}` and `x.a`
+-- the ends that are needed of `%%`, `%{d01}` and `.a`
 pub data End : List ℕ → Type 0 where
   nothing : End []
   percent : End (bytes "%")
