@@ -14,10 +14,12 @@ use text::bytes::Class;
 use text::writing;
 
 // Room for the longest run and for any end after it.
-fn room() -> [u8; 4160]
+const ROOM: usize = 4160;
+
+fn room() -> [u8; ROOM]
     ensures { λ r. ⌜ length r ≡ room-bytes ⌝ }
 {
-    [0; 4160]
+    [0; ROOM]
 }
 
 fn is_term(token: Token) -> bool

@@ -13,7 +13,7 @@ use text::bytes;
 use text::bytes::Class;
 use text::words;
 
-pub mod beginnings;
+mod beginnings;
 pub mod opening;
 pub mod terms;
 
