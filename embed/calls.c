@@ -499,6 +499,26 @@ static void checks(void)
     expect(talavorn_check(&mail, NULL, 0).number == TALAVORN_BAD_SENDER, "an empty sender");
 }
 
+/* An entry of type SPF may be added, and is ignored. */
+static void spf_entries(void)
+{
+    struct talavorn_mail mail = usual_mail();
+    struct talavorn_answer a;
+    begin_with("", 0);
+#define ADD_SPF \
+    append(TALAVORN_TYPE_SPF, TALAVORN_ANSWERED, TEXT("example.com"), TEXT("\x0b\0v=spf1 +all"), \
+           65535)
+    expect(ADD_SPF == 0 && size == 30, "an SPF entry");
+    a = talavorn_check(&mail, table, size);
+    expect(a.number == TALAVORN_WANTING && a.kind == TALAVORN_TYPE_TXT && a.lookups == 0
+               && strcmp(a.name, "example.com") == 0,
+           "a check with the SPF entry alone");
+    begin_items(512);
+    talavorn_item_txt(&items, talavorn_text("v=spf1 -all"));
+    expect(answered().number == TALAVORN_FAIL, "with a TXT record beside it");
+    expect(ADD_SPF == TALAVORN_IN_TABLE && size == 60, "the SPF entry twice");
+}
+
 /* Names and texts that can't stand in the table do no harm. */
 static void odd_answers(void)
 {
@@ -646,6 +666,7 @@ int main(void)
     item_texts();
     result_names();
     checks();
+    spf_entries();
     odd_answers();
     wrapped_additions();
     most_questions();

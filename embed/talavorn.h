@@ -90,8 +90,9 @@ extern "C" {
  * An entry doesn't expire: a table is for the checks of one message, HELO and MAIL FROM, and begins
  * empty, or with answers from the caller's cache. */
 
-/* Kinds: DNS types. No check asks for kind SPF, and none should go in: an answered entry of that
- * kind with items is taken in place of the domain's TXT texts. */
+/* Kinds: DNS types. No check asks for kind SPF, and an entry of that kind changes no answer: it is
+ * checked like any other, counts among the 512 and is then ignored, as records are TXT's alone
+ * (RFC 7208 section 3.1). */
 enum {
     TALAVORN_TYPE_A = 1,
     TALAVORN_TYPE_PTR = 12,
@@ -188,10 +189,10 @@ enum {
  *     0 to 6  the result, with both counts. For 3, and only then, text is written: the explanation
  *             at its front, values[3] bytes, 0 to 500. The domain's owner wrote it: say so in the
  *             reply (6.2)
- *     7       a question is needed that has no entry: its kind, the DNS type to ask, is in
- *             values[0], and its name is written at the front of name, values[3] bytes, 1 to 253.
- *             The counts are those so far. Ask the DNS, add an entry for this kind and name, and
- *             call again
+ *     7       a question is needed that has no entry: its kind, the DNS type to ask (A, PTR, MX,
+ *             TXT or AAAA), is in values[0], and its name is written at the front of name,
+ *             values[3] bytes, 1 to 253. The counts are those so far. Ask the DNS, add an entry for
+ *             this kind and name, and call again
  * All of values is written by every call.
  *
  * A caller who begins with an empty table and adds what is wanted gets 7 at most 123 times:

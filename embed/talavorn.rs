@@ -13,7 +13,7 @@ pub const TEMPERROR: u8 = 5;
 pub const PERMERROR: u8 = 6;
 pub const WANTING: u8 = 7;
 
-// Kinds of entries: DNS types.
+// Kinds of entries: DNS types. Entries of type 99, SPF, may stand in a table too and are ignored.
 pub const TYPE_A: u16 = 1;
 pub const TYPE_PTR: u16 = 12;
 pub const TYPE_MX: u16 = 15;

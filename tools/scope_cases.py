@@ -1,6 +1,7 @@
 #!/usr/bin/env python3
 """The cases of the program scope_cases: those of the scope paper's sections "Both sides of each line" and "Errors that look right", and the inputs of the list of
-readings (Q1 to Q53); and the inputs of the readings of the change requests, by their numbers (W-201: A1 to A12).
+readings (Q1 to Q53); and the inputs of the readings of the change requests, by their numbers (W-201: A1 to A12; W-207: K1, in place of Q18 and Q46; K2
+has those of Q38).
 
     python3 tools/scope_cases.py
 
@@ -482,20 +483,6 @@ def part_one():
     expand("Q17-255", "ok example.com", "%{d}", p="p" * 255)
     expand("Q17-256", "refused 22", "%{d}", p="p" * 256)
 
-    heading("Q18: an SPF entry with items")
-    txt = R("v=spf1 -all")
-    check("Q18-no-record", "0 . 0 0", SPF("example.com", "other"), txt)
-    check("Q18-failed", "3 . 0 0", failed("SPF", "example.com"), txt)
-    check("Q18-absent", "3 . 0 0", absent("SPF", "example.com"), txt)
-    check("Q18-no-items", "3 . 0 0", SPF("example.com"), txt)
-    check("Q18-record", "2 . 0 0", SPF("example.com", "v=spf1 +all"), txt)
-    check("Q18-record-alone", "2 . 0 0", SPF("example.com", "v=spf1 +all"))
-    check("Q18-record-txt-failed", "2 . 0 0", SPF("example.com", "v=spf1 +all"), failed("TXT", "example.com"))
-    check("Q18-records", "6 . 0 0", SPF("example.com", "v=spf1 +all", "v=spf1 +all"), txt)
-    check("Q18-one-of-two", "2 . 0 0", SPF("example.com", "other", "v=spf1 +all"), txt)
-    check("Q18-failed-alone", "7 16 0 0 example.com", failed("SPF", "example.com"))
-    check("Q18-included", "2 . 1 0", R("v=spf1 include:i.example -all"), SPF("i.example", "v=spf1 +all"))
-
     heading("Q19: ptr asks names outside the target too")
     check("Q19-asked", "7 1 1 0 x.y", R("v=spf1 ptr -all"), PTR(REV, "x.y"))
     check("Q19-validated", "3 . 1 0", R("v=spf1 ptr -all"), PTR(REV, "x.y"), A("x.y", CLIENT))
@@ -895,10 +882,6 @@ def terms():
     check("Q45-ptr-until", "2 . 1 0", ptr, PTR(REV, "m.example.com", "other.example"), A("m.example.com", CLIENT))
     check("Q45-ptr-eleventh", "3 . 1 0", ptr, PTR(REV, *ten, "example.com"), *tens, A("n9.y", OTHER), own)
 
-    heading("Q46: a later SPF entry may change a decided result")
-    check("Q46-before", "3 . 0 0", R("v=spf1 -all"))
-    check("Q46-after", "2 . 0 0", R("v=spf1 -all"), SPF("example.com", "v=spf1 +all"))
-
 
 # The readings, part 3.
 
@@ -1085,9 +1068,52 @@ def places():
     record("W201-A11-31", "refused 31 at 0", "v=spf1% ip4:192.0.2.0/33")
 
 
+def retired():
+    heading("W-207 K1: record lookup uses TXT alone; SPF entries are ignored")
+    txt, spf = R("v=spf1 -all"), SPF("example.com", "v=spf1 +all")
+    check("W207-K1-alone", "7 16 0 0 example.com", SPF("example.com", "v=spf1 -all"))
+    check("W207-K1-alone-no-items", "7 16 0 0 example.com", SPF("example.com"))
+    check("W207-K1-alone-failed", "7 16 0 0 example.com", failed("SPF", "example.com"))
+    check("W207-K1-alone-absent", "7 16 0 0 example.com", absent("SPF", "example.com"))
+    check("W207-K1-beside", "3 . 0 0", spf, txt)
+    check("W207-K1-beside-after", "3 . 0 0", txt, spf)
+    check("W207-K1-beside-no-record", "3 . 0 0", SPF("example.com", "other"), txt)
+    check("W207-K1-beside-records", "3 . 0 0", SPF("example.com", "v=spf1 +all", "v=spf1 +all"), txt)
+    check("W207-K1-beside-outside", "3 . 0 0", SPF("example.com", "v=spf1 moo"), txt)
+    check("W207-K1-beside-no-items", "3 . 0 0", SPF("example.com"), txt)
+    check("W207-K1-beside-failed", "3 . 0 0", failed("SPF", "example.com"), txt)
+    check("W207-K1-beside-absent", "3 . 0 0", absent("SPF", "example.com"), txt)
+    # No TXT answer falls back to it either.
+    check("W207-K1-txt-failed", "5 . 0 0", spf, failed("TXT", "example.com"))
+    check("W207-K1-txt-absent", "0 . 0 0", spf, absent("TXT", "example.com"))
+    check("W207-K1-txt-no-items", "0 . 0 0", spf, R())
+    check("W207-K1-txt-no-record", "0 . 0 0", spf, R("other"))
+    check("W207-K1-txt-records", "6 . 0 0", spf, R("v=spf1 -all", "v=spf1 -all"))
+    check("W207-K1-txt-outside", "6 . 0 0", spf, R("v=spf1 moo"))
+    # The same in the checks of include and redirect.
+    includes, redirects = R("v=spf1 include:i.example ?all"), R("v=spf1 redirect=i.example")
+    included = SPF("i.example", "v=spf1 +all")
+    check("W207-K1-included-alone", "7 16 1 0 i.example", includes, included)
+    check("W207-K1-included-beside", "1 . 1 0", includes, included, TXT("i.example", "v=spf1 -all"))
+    check("W207-K1-included-absent", "6 . 1 0", includes, included, absent("TXT", "i.example"))
+    check("W207-K1-redirected-alone", "7 16 1 0 i.example", redirects, included)
+    check("W207-K1-redirected-beside", "3 . 1 0", redirects, included, TXT("i.example", "v=spf1 -all"))
+    check("W207-K1-redirected-absent", "6 . 1 0", redirects, included, absent("TXT", "i.example"))
+
+    heading("W-207 K1: SPF entries are checked for 25 and 26 all the same, and count among the 512")
+    # The TXT entry has 30 bytes, an SPF entry without items 17; 512 entries of 9 bytes have 4,608.
+    many = [absent("A", f"{n:03}") for n in range(512)]
+    check("W207-K1-512", "7 16 0 0 example.com", *many[:511], SPF("example.com", "v=spf1 -all"))
+    check("W207-K1-513th", "25 4608 0 0", *many, SPF("example.com", "v=spf1 -all"))
+    check("W207-K1-second-of-pair", "26 47 0 0", txt, SPF("example.com"), spf)
+    check("W207-K1-text-4097", "25 30 0 0", txt, SPF("example.com", "y" * 4097))
+    check("W207-K1-failed-with-items", "25 30 0 0", txt, ("SPF", 2, "example.com", ["v=spf1 +all"]))
+    check("W207-K1-name", "25 30 0 0", txt, SPF("Example.com", "v=spf1 +all"))
+
+
 def main():
     heading("the cases of the scope paper's sections `Both sides of each line` and `Errors that look right`, and of the readings")
-    for section in (both_sides, look_right, part_one, limits, names, grammar, tables, explanations, clients, values, terms, edges, programs, places):
+    for section in (both_sides, look_right, part_one, limits, names, grammar, tables, explanations, clients, values, terms, edges, programs, places, retired):
         section()
     need(all(line.isascii() for line in given + printed), "a line is not ASCII")
     (CRATE / "stdin").write_text("\n".join(given) + "\n", encoding="ascii")

@@ -6,6 +6,8 @@ pub mod Reading
 pub mod Encoding
 -- Entries: the list of entries that a table encodes, and pairs in it.
 pub mod Entries
+-- Among: looking up against standing in a list of entries.
+pub mod Among
 -- Finding: `find` against the list of entries.
 pub mod Finding
 -- Checks: the check against the productions.

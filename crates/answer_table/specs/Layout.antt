@@ -31,6 +31,7 @@ kind-txt = 16
 abbrev pub kind-aaaa : ℕ
 kind-aaaa = 28
 
+-- W-207 amends the house rules: its entries are "still checked for 25 and 26, then ignored"
 abbrev pub kind-spf : ℕ
 kind-spf = 99
 
@@ -111,6 +112,11 @@ isPair kind name e = eqb (e .kind) kind && same (e .name) name
 unfoldable pub holds : ℕ → List ℕ → List Entry → Bool
 holds kind name [] = false
 holds kind name (e ∷ es) = isPair kind name e || holds kind name es
+
+-- an entry stands among entries
+pub data Among (e : Entry) : List Entry → Type 0 where
+  first : {es : List Entry} → Among e (e ∷ es)
+  later : {f : Entry} {es : List Entry} → Among e es → Among e (f ∷ es)
 
 -- "No kind and name pair occurs twice."
 unfoldable pub distinct : List Entry → Bool

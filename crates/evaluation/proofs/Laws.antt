@@ -6,7 +6,9 @@ pub mod Deciding
 pub mod Walking
 -- Leading: the leading terms of a record that need no lookup.
 pub mod Leading
--- Facts: a wanted name is a name as the table has it; only a fail has a text; the counts' bounds.
+-- Facts: a wanted name is a name as the table has it, a wanted kind one of five; only a fail has a text; the counts' bounds.
 pub mod Facts
 -- Demand3: demand 3 as one theorem about the calls.
 pub mod Demand3
+-- SpfEntries: SPF entries change no answer and no buffer.
+pub mod SpfEntries

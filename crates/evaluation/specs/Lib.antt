@@ -1,4 +1,4 @@
--- What the contracts of this crate are said in, and demand 3.
+-- What the contracts of this crate are said in, demand 3, and that SPF entries are ignored.
 -- Checks: what the parts of a check answer.
 pub mod Checks
 -- Numbers: the number and values of each answer, and the lent buffers afterwards.
@@ -9,3 +9,5 @@ pub mod Evaluating
 pub mod Answers
 -- Demand3: reading a record, reading its terms and evaluating, as one statement.
 pub mod Demand3
+-- SpfEntries: SPF entries are ignored, as one statement.
+pub mod SpfEntries

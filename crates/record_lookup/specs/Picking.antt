@@ -1,23 +1,11 @@
--- The entry that a domain's record is among, and which of its texts are records, by their places in the table.
+-- Which of an entry's texts are records, by their places in the table.
 use Prim.Native.Nat.{ℕ}
 use mathlib.Core.Path.{_≡_}
 use mathlib.Core.List.{List, [], _∷_}
-use mathlib.Core.Bool.{Bool, false, cond}
-use lib.Dec.{eqb, ltb}
+use mathlib.Core.Bool.{cond}
 use Rattle.text.specs.Bytes.{part}
-use Rattle.answer_table.specs.declared.Found.{Found}
-use Rattle.answer_table.specs.Reader.{findAt}
 use Rattle.records.specs.Reader.{hasVersion}
 use Rattle.record_lookup.specs.declared.Picked.{Picked}
-
--- whether an entry was found that isn't failed and has items
-unfoldable pub hasTexts : Found → Bool
-hasTexts (Found.Entry status start end) = cond (eqb status 2) false (ltb start end)
-hasTexts Found.Missing = false
-
--- of SPF where it is answered with items, otherwise of TXT
-unfoldable pub textsAt : List ℕ → List ℕ → Found
-textsAt t d = cond (hasTexts (findAt t 99 d)) (findAt t 99 d) (findAt t 16 d)
 
 -- the records so far and one more
 unfoldable pub oneMore : Picked → ℕ → ℕ → Picked

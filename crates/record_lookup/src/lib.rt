@@ -6,7 +6,7 @@ ghost use Rattle.rules.specs.Tree.{run};
 ghost use Rattle.rules.specs.Tables.{tableIn};
 ghost use Rattle.rules.specs.Evaluation.{recordLookup, versioned};
 ghost use Rattle.rules.specs.Outcomes.{SaysSelection};
-ghost use Rattle.record_lookup.specs.Picking.{hasTexts, textsAt, oneMore, joined, PickedIs};
+ghost use Rattle.record_lookup.specs.Picking.{oneMore, joined, PickedIs};
 use answer_table::Found;
 use answer_table::items;
 use rules::Counts;
@@ -21,30 +21,6 @@ pub enum Picked {
     Nothing,
     Several,
     One { from: usize, to: usize },
-}
-
-// Whether an entry was found that isn't failed and has items.
-fn has_texts(found: Found) -> bool
-    ensures { λ r. ⌜ r ≡ hasTexts found ⌝ }
-{
-    let Found::Entry { status, start, end } = found else {
-        return false;
-    };
-    if status == 2 {
-        return false;
-    }
-    start < end
-}
-
-// The entry that a domain's record is among: of SPF where it is answered with items, otherwise of TXT.
-fn find_texts(table: &[u8], domain: &[u8]) -> Found
-    ensures { λ r. ⌜ r ≡ textsAt (now (table .entry)) (now (domain .entry)) ⌝ }
-{
-    let found = answer_table::find(table, 99, domain);
-    if has_texts(found) {
-        return found;
-    }
-    answer_table::find(table, 16, domain)
 }
 
 // The records so far and one more.
@@ -83,11 +59,11 @@ fn pick(table: &[u8], start: usize, end: usize) -> Picked
     seen
 }
 
-// The record of a domain: of an answered SPF entry with items, otherwise of the TXT question.
+// The record of a domain, among the texts of its TXT question.
 pub fn select_record(table: &[u8], domain: &[u8], counts: Counts, out: &mut [u8]) -> Selected
     ensures { λ r. ⌜ SaysSelection counts (now (domain .entry)) (now (table .entry)) (run (tableIn (now (table .entry))) (recordLookup (now (domain .entry)) counts)) r (now (out .entry)) (now (out .exit)) ⌝ }
 {
-    let Found::Entry { status, start, end } = find_texts(table, domain) else {
+    let Found::Entry { status, start, end } = answer_table::find(table, 16, domain) else {
         client_match::want(domain, out);
         return Selected::Wanting {
             kind: 16,

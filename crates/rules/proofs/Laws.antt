@@ -16,7 +16,7 @@ pub mod Signs
 pub mod Reversed
 -- Askable: so are the names that an evaluation makes, and those in an accepted table's items.
 pub mod Askable
--- Kept: what every check keeps of the counts and the names that it asks, and that it settles the same over checks that do.
+-- Kept: what every check keeps of the counts, the kinds and the names that it asks, and that it settles the same over checks that do.
 pub mod Kept
 -- Verdicts: lookups never exceed 10, voids never 3, and 2 unless the result is permerror; only a fail has a text, of at most 500 bytes; a question can be asked.
 pub mod Verdicts
@@ -24,8 +24,10 @@ pub mod Verdicts
 pub mod Enough
 -- Agreement: what a check consults decides it.
 pub mod Agreement
--- Growth: a settled result stays when the table only gains entries that answer no peek.
+-- Growth: a settled result stays when the table gains entries.
 pub mod Growth
+-- Ignored: SPF entries change no evaluation.
+pub mod Ignored
 -- Produced: the texts that are selected, the terms that are tried and the expansions are those that the productions make.
 pub mod Produced
 -- Reached: a record outside the grammar is never evaluated.

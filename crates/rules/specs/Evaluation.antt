@@ -22,7 +22,7 @@ use Rattle.records.specs.Numbers.{TermReport, term, termReport, end, refused}
 use Rattle.records.specs.declared.RecordAnswer.{RecordAnswer}
 use Rattle.rules.specs.declared.Counts.{Counts}
 use Rattle.rules.specs.Results.{result-none, result-neutral, result-pass, result-fail, result-softfail, result-temperror, result-permerror}
-use Rattle.rules.specs.Tree.{Reply, failed, items, Check, give, ask, peek, bind}
+use Rattle.rules.specs.Tree.{Reply, failed, items, Check, give, ask, bind}
 use Rattle.rules.specs.Mechanisms.{Mail, Match, yes, no, stop, Step, step, matched, target, expanded, counting, aStep, existsStep, mxStep, ptrStep}
 
 -- where an explanation is to be fetched: the failing record's domain, and its exp
@@ -196,21 +196,9 @@ unfoldable pub textReply : Reply → Check Selection
 textReply failed = give (ends result-temperror)
 textReply (items ss) = give (selection (versioned ss))
 
-unfoldable pub textLookup : List ℕ → Counts → Check Selection
-textLookup d c = ask kind-txt d c textReply
-
--- "if the table holds an answered SPF entry with items, those texts; otherwise the TXT question"
-unfoldable pub spfItems : List ℕ → Counts → List (List ℕ) → Check Selection
-spfItems d c [] = textLookup d c
-spfItems d c (s ∷ ss) = give (selection (versioned (s ∷ ss)))
-
-unfoldable pub spfReply : List ℕ → Counts → Optional Reply → Check Selection
-spfReply d c absent = textLookup d c
-spfReply d c (present failed) = textLookup d c
-spfReply d c (present (items ss)) = spfItems d c ss
-
+-- W-207 amends the house rules: "Record lookup now uses TXT alone"; entries of kind 99 are "ignored"
 unfoldable pub recordLookup : List ℕ → Counts → Check Selection
-recordLookup d c = peek d (spfReply d c)
+recordLookup d c = ask kind-txt d c textReply
 
 unfoldable pub afterLookup : Mail → Sub → List ℕ → Counts → Selection → Check Result
 afterLookup mail sub d c (ends v) = ended v c

@@ -7,25 +7,18 @@ use lib.ListN.{length}
 use Rattle.text.specs.Texts.{bytes}
 use Rattle.domain.specs.Names.{labelCount}
 use Rattle.domain.specs.Normal.{Naming, name}
-use Rattle.answer_table.specs.Layout.{kind-txt, kind-spf}
-use Rattle.records.specs.Readings.{Optional, absent, present, Placed}
+use Rattle.answer_table.specs.Layout.{kind-txt}
+use Rattle.records.specs.Readings.{present, Placed}
 use Rattle.records.specs.Grammar.{Record}
 use Rattle.records.specs.Answers.{most-bytes, Version}
 use Rattle.rules.specs.declared.Counts.{Counts}
-use Rattle.rules.specs.Tree.{Reply, failed, items, Table, settled, run}
+use Rattle.rules.specs.Tree.{items, Table, settled, run}
 use Rattle.rules.specs.Mechanisms.{Mail, no, target, most-lookups, begun}
 use Rattle.rules.specs.Evaluation.{Sub, termStep, modifierOf, whole}
 
--- what a table has for the SPF question of a name is no "answered SPF entry with items"
-pub data NoSpfItems : Optional Reply → Type 0 where
-  not-there : NoSpfItems absent
-  not-answered : NoSpfItems (present failed)
-  void : NoSpfItems (present (items []))
-
--- the texts of a domain: "if the table holds an answered SPF entry with items, those texts; otherwise the TXT question"
-pub data Texts (t : Table) (d : List ℕ) : List (List ℕ) → Type 0 where
-  of-spf : {s : List ℕ} {ss : List (List ℕ)} → t kind-spf d ≡ present (items (s ∷ ss)) → Texts t d (s ∷ ss)
-  of-txt : {ss : List (List ℕ)} {r : Optional Reply} → t kind-spf d ≡ r → NoSpfItems r → t kind-txt d ≡ present (items ss) → Texts t d ss
+-- the texts of a domain: those of its TXT question. W-207 amends the house rules: "Record lookup now uses TXT alone"
+abbrev pub Texts : Table → List ℕ → List (List ℕ) → Type 0
+Texts t d ss = t kind-txt d ≡ present (items ss)
 
 -- a text "with a version section", by the production
 abbrev pub WithVersion : List ℕ → Type 0

@@ -19,9 +19,12 @@ pub record LookupRules : Type 0 where
   pub no-record : answer (row 16 "example.com" (bytes "v=spf2 -all" ∷ []) ∷ []) ≡ decided 0 0 0
   pub several-records : answer (row 16 "example.com" (bytes "v=spf1 -all" ∷ bytes "v=spf1 -all" ∷ []) ∷ []) ≡ decided 6 0 0
   pub single-record : answer (row 16 "example.com" (bytes "hello" ∷ bytes "v=spf1 -all" ∷ []) ∷ []) ≡ decided 3 0 0
-  -- "if the table holds an answered SPF entry with items, those texts; otherwise the TXT question"
-  pub spf-first : answer (spf "v=spf1 -all" ∷ row 99 "example.com" (bytes "v=spf1 +all" ∷ []) ∷ []) ≡ decided 2 0 0
-  pub spf-void : answer (spf "v=spf1 -all" ∷ row 99 "example.com" [] ∷ []) ≡ decided 3 0 0
+  -- W-207 amends the house rules: "Record lookup now uses TXT alone"; entries of kind 99 are "ignored: a lookup with only such an entry gives 7"
+  pub spf-beside : answer (spf "v=spf1 -all" ∷ row 99 "example.com" (bytes "v=spf1 +all" ∷ []) ∷ []) ≡ decided 3 0 0
+  pub spf-beside-void : answer (row 16 "example.com" [] ∷ row 99 "example.com" (bytes "v=spf1 +all" ∷ []) ∷ []) ≡ decided 0 0 0
+  pub spf-beside-failed : answer (broken 16 "example.com" ∷ row 99 "example.com" (bytes "v=spf1 +all" ∷ []) ∷ []) ≡ decided 5 0 0
+  pub spf-alone : answer (row 99 "example.com" (bytes "v=spf1 +all" ∷ []) ∷ []) ≡ wants 16 "example.com" 0
+  pub spf-included : answer (spf "v=spf1 include:b.example -all" ∷ row 99 "b.example" (bytes "v=spf1 +all" ∷ []) ∷ []) ≡ wants 16 "b.example" 1
 
 -- "the first match gives its sign's result"; "No match: ..; without it, neutral"
 pub record SignRules : Type 0 where

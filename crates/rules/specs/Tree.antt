@@ -2,7 +2,6 @@
 use Prim.Native.Nat.{ℕ}
 use mathlib.Core.Path.{_≡_, refl}
 use mathlib.Core.List.{List}
-use Rattle.answer_table.specs.Layout.{kind-spf}
 use Rattle.records.specs.Readings.{Optional, absent, present}
 use Rattle.rules.specs.declared.Counts.{Counts}
 
@@ -20,8 +19,6 @@ pub data Check (A : Type 0) : Type 0 where
   give : A → Check A
   -- a question's kind and name, and the counts that are reported if its answer is missing
   ask : ℕ → List ℕ → Counts → (Reply → Check A) → Check A
-  -- the SPF entry of a name, looked at without being asked for
-  peek : List ℕ → (Optional Reply → Check A) → Check A
 
 -- decided, or the question that is missing, with the counts so far
 pub data Settled (A : Type 0) : Type 0 where
@@ -31,7 +28,6 @@ pub data Settled (A : Type 0) : Type 0 where
 unfoldable pub bind : {A B : Type 0} → Check A → (A → Check B) → Check B
 bind (give a) f = f a
 bind (ask k d c g) f = ask k d c (λ r. bind (g r) f)
-bind (peek d g) f = peek d (λ r. bind (g r) f)
 
 unfoldable pub then : {A B : Type 0} → Settled A → (A → Settled B) → Settled B
 then (settled a) f = f a
@@ -45,7 +41,6 @@ answered (present r) w f = f r
 unfoldable pub run : {A : Type 0} → Table → Check A → Settled A
 run t (give a) = settled a
 run t (ask k d c g) = answered (t k d) (wanting k d c) (λ r. run t (g r))
-run t (peek d g) = run t (g (t kind-spf d))
 
 answered-then : {A B : Type 0} (r : Optional Reply) (k : ℕ) (d : List ℕ) (c : Counts) (g : Reply → Settled A) (f : A → Settled B) (h : Reply → Settled B)
     → ((x : Reply) → h x ≡ then (g x) f) → answered r (wanting k d c) h ≡ then (answered r (wanting k d c) g) f
@@ -59,4 +54,3 @@ unfolding run bind then
 run-bind t (give a) f = refl
 run-bind t (ask k d c g) f =
     answered-then (t k d) k d c (λ r. run t (g r)) (λ a. run t (f a)) (λ r. run t (bind (g r) f)) (λ r. run-bind t (g r) f)
-run-bind t (peek d g) f = run-bind t (g (t kind-spf d)) f

@@ -1,7 +1,7 @@
 -- What `find` answers is what looking up in the list of entries says, for any bytes; and in a table that encodes entries it finds just the pairs
 -- that stand among them. From header-facts (Encoding) and entries-complete.
 use Prim.Native.Nat.{ℕ, zero, suc, _+_, _-_, _≤_}
-use mathlib.Core.Path.{_≡_, refl, ap, subst, _∙_}
+use mathlib.Core.Path.{_≡_, refl, ap, _∙_}
 use mathlib.Core.List.{List, [], _∷_}
 use mathlib.Core.Bool.{Bool, true, false, cond, _&&_, _||_}
 use native.Mathlib.Omega.{arith}
@@ -73,16 +73,3 @@ holds-lookup kind name (e ∷ es) = by (isPair kind name e) (holds-lookup kind n
 pub found-iff : {t : List ℕ} {es : List Entry} → Entries t es → (kind : ℕ) (name : List ℕ) → isFound (findAt t kind name) ≡ holds kind name es
 found-iff {t} {es} p kind name =
     finds-present (finds t kind name) ∙ holds-lookup kind name (entriesOf t) ∙ ap (holds kind name) (entries-complete p)
-
--- what is found lies within the table
-abbrev Within : List ℕ → Found → Type 0
-Within t (Found.Entry status start end) = (start ≤ end) × (end ≤ length t)
-Within t Found.Missing = Unit {0}
-
-finds-within : {t : List ℕ} {l : Lookup} {r : Found} → Finds t l r → Within t r
-finds-within (found a z e) = (a, z)
-finds-within missing = tt
-
-pub found-within : (t : List ℕ) (kind : ℕ) (name : List ℕ) (status start end : ℕ) → findAt t kind name ≡ Found.Entry status start end
-    → (start ≤ end) × (end ≤ length t)
-found-within t kind name status start end e = subst (Within t) e (finds-within (finds t kind name))

@@ -13,7 +13,7 @@ use Rattle.answer_table.specs.Reader.{itemsOf, findAt}
 use Rattle.answer_table.proofs.Laws.Finding.{finds}
 use Rattle.records.specs.Readings.{Optional, absent, present}
 use Rattle.rules.specs.declared.Counts.{Counts}
-use Rattle.rules.specs.Tree.{Reply, failed, items, Check, ask, peek, run}
+use Rattle.rules.specs.Tree.{Reply, failed, items, Check, ask, run}
 use Rattle.rules.specs.Tables.{replyBy, replyOf, tableIn}
 use Rattle.rules.specs.Outcomes.{Wants}
 use Rattle.rules.proofs.Laws.Runs.{ask-present}
@@ -29,17 +29,17 @@ unfolding replyOf replyFound
 finds-reply (found {e = e} a z i) = rw i
 finds-reply missing = refl
 
-pub asks-found : (t : List ℕ) (kind : ℕ) (d : List ℕ) (f : Found) → f ≡ findAt t kind d → tableIn t kind d ≡ replyFound t f
+asks-found : (t : List ℕ) (kind : ℕ) (d : List ℕ) (f : Found) → f ≡ findAt t kind d → tableIn t kind d ≡ replyFound t f
 unfolding tableIn
 asks-found t kind d f p = rw p (finds-reply (finds t kind d))
 
 -- a question and the rest of its check
 module _ (t : List ℕ) (kind : ℕ) (d : List ℕ) (f : Found) (p : f ≡ findAt t kind d) where
-  pub asks-missing : f ≡ Found.Missing → tableIn t kind d ≡ absent
+  asks-missing : f ≡ Found.Missing → tableIn t kind d ≡ absent
   unfolding replyFound
   asks-missing e = asks-found t kind d f p ∙ rw e
 
-  pub asks-entry : (status start end : ℕ) → f ≡ Found.Entry status start end → tableIn t kind d ≡ present (replyBy status (itemsOf (part t start end)))
+  asks-entry : (status start end : ℕ) → f ≡ Found.Entry status start end → tableIn t kind d ≡ present (replyBy status (itemsOf (part t start end)))
   unfolding replyFound
   asks-entry status start end e = asks-found t kind d f p ∙ rw e
 
@@ -60,7 +60,3 @@ module _ (t : List ℕ) (kind : ℕ) (d : List ℕ) (f : Found) (p : f ≡ findA
       → run (tableIn t) (ask kind d c g) ≡ run (tableIn t) (g (items (itemsOf (part t start end))))
   unfolding replyBy
   run-items c g status start end e h = run-entry c g status start end e ∙ rw (ne-eqb status 2 h)
-
-pub run-peek : {A : Type 0} (t : List ℕ) (d : List ℕ) (g : Optional Reply → Check A) → run (tableIn t) (peek d g) ≡ run (tableIn t) (g (tableIn t 99 d))
-unfolding run
-run-peek t d g = refl

@@ -42,7 +42,7 @@ use Rattle.evaluation.specs.declared.Answer.{Answer}
 use Rattle.evaluation.specs.Checks.{endedOf}
 use Rattle.evaluation.specs.Numbers.{Outcome, refused, refused-at, settles, reported, answerOf, reportOf, nameAfter, textAfter, Says}
 use Rattle.evaluation.specs.Evaluating.{mailFor, hasRoom, refusalOf, afterTable, evaluated}
-use Rattle.evaluation.specs.Answers.{tableOf, Lent, lent, handed, Fit, refusedBy, Answers, no-sender, no-host, long-domain, no-room, bad-table, decides, Evaluates}
+use Rattle.evaluation.specs.Answers.{tableOf, Lent, lent, Handed, handed, Fit, refusedBy, Answers, no-sender, no-host, long-domain, no-room, bad-table, decides, Evaluates}
 
 -- an answer's report follows from its case
 report-is : (o : Outcome) → reported (answerOf o) ≡ reportOf o
@@ -52,8 +52,15 @@ report-is (refused-at number place) = refl
 report-is (settles (settled v)) = refl
 report-is (settles (wanting kind n c)) = refl
 
-said : (o : Outcome) (r : Answer) (b a u v : List ℕ) → r ≡ answerOf o → a ≡ nameAfter o b → v ≡ textAfter o u → Says o r b a u v
+pub said : (o : Outcome) (r : Answer) (b a u v : List ℕ) → r ≡ answerOf o → a ≡ nameAfter o b → v ≡ textAfter o u → Says o r b a u v
 said o r b a u v e n t = record { answer = e; report = ap reported e ∙ report-is o; name-buffer = n; text-buffer = t }
+
+-- an outcome has one answer, and leaves both buffers in one way
+pub said-one : {o : Outcome} {b u : List ℕ} (h g : Handed) → Says o (h .answer) b (h .name) u (h .text) → Says o (g .answer) b (g .name) u (g .text) → h ≡ g
+said-one h g s r =
+    ap (λ (x : Answer). handed x (h .name) (h .text)) (s .answer ∙ sym (r .answer))
+    ∙ ap (λ (x : List ℕ). handed (g .answer) x (h .text)) (s .name-buffer ∙ sym (r .name-buffer))
+    ∙ ap (λ (x : List ℕ). handed (g .answer) (g .name) x) (s .text-buffer ∙ sym (r .text-buffer))
 
 -- a given domain's name has at most 253 bytes
 normal-short : (s : List ℕ) → Short (normal s)

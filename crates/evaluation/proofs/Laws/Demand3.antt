@@ -1,7 +1,7 @@
 -- Demand 3: reading a record, its terms and their arguments, and evaluating. From records' claim, `verdict-never-evaluated` of `rules`, and that what
 -- is lent determines the outcome (Deciding).
 use Prim.Native.Nat.{ℕ, _≤_, _<_}
-use mathlib.Core.Path.{_≡_, ap, _∙_}
+use mathlib.Core.Path.{_≡_, refl, sym, ap, _∙_}
 use mathlib.Core.Logic.{⊎-elim}
 use mathlib.Core.List.{List, []}
 use native.Mathlib.Omega.{arith}
@@ -20,7 +20,7 @@ use Rattle.evaluation.specs.declared.Answer.{Answer}
 use Rattle.evaluation.specs.Numbers.{Outcome, settles, answerOf, nameAfter, textAfter, Says}
 use Rattle.evaluation.specs.Answers.{Lent, Handed, handed, mailIn, tableOf, decides}
 use Rattle.evaluation.specs.Demand3.{Demand3}
-use Rattle.evaluation.proofs.Laws.Deciding.{answers-one}
+use Rattle.evaluation.proofs.Laws.Deciding.{said, said-one, answers-one}
 
 -- what is refused is outside the grammar
 refused-outside : (s : List ℕ) (calls : Calls s) (number place : ℕ) → calls .record-answer ≡ RecordAnswer.Refused number place → Outside s
@@ -38,9 +38,7 @@ permerror-handed : (a : Lent) (h : Handed) (o : Outcome) (k : Counts) → Says o
     → o ≡ settles (settled (record { value = 6; counts = k; text = [] })) → h ≡ handed (Answer.Decided 6 k 0) (a .name) (a .text)
 unfolding answerOf nameAfter textAfter
 permerror-handed a h o k s e =
-    ap (λ (x : Answer). handed x (h .name) (h .text)) (s .answer ∙ ap answerOf e)
-    ∙ ap (λ (x : List ℕ). handed (Answer.Decided 6 k 0) x (h .text)) (s .name-buffer ∙ ap (λ (y : Outcome). nameAfter y (a .name)) e)
-    ∙ ap (λ (x : List ℕ). handed (Answer.Decided 6 k 0) (a .name) x) (s .text-buffer ∙ ap (λ (y : Outcome). textAfter y (a .text)) e ∙ over-fits [] (a .text) (omega arith))
+    said-one h (handed (Answer.Decided 6 k 0) (a .name) (a .text)) s (rw e (said _ _ _ _ _ _ refl refl (sym (over-fits [] (a .text) (omega arith)))))
 
 pub demand3 : (s : List ℕ) (calls : Calls s) → Demand3 s calls
 demand3 s calls = record {

@@ -1,6 +1,6 @@
 -- Facts of every evaluation, whatever its arguments: a wanted name is a name as the table has it, so that it fits the name buffer and its answer can be
--- added to the table; "text written only for 3"; lookups never exceed 10, and voids never 3. From `evaluated-answers` (Deciding) and the theorems of
--- `rules`.
+-- added to the table; a wanted kind is one of five; "text written only for 3"; lookups never exceed 10, and voids never 3. From `evaluated-answers`
+-- (Deciding) and the theorems of `rules`.
 use Prim.Native.Nat.{ℕ}
 use mathlib.Core.Path.{_≡_, subst}
 use mathlib.Core.List.{List, []}
@@ -15,6 +15,7 @@ use Rattle.rules.specs.Tables.{tableIn}
 use Rattle.rules.proofs.Laws.Alike.{Holds}
 use Rattle.rules.proofs.Laws.Askable.{Fitting, entries-fit}
 use Rattle.rules.specs.Evaluation.{Verdict}
+use Rattle.rules.proofs.Laws.Kept.{AskedKind}
 use Rattle.rules.proofs.Laws.Verdicts.{AskedFacts, VerdictFacts, verdict-facts}
 use Rattle.evaluation.specs.Numbers.{Outcome, refused, refused-at, settles}
 use Rattle.evaluation.specs.Evaluating.{mailFor, evaluated}
@@ -57,6 +58,12 @@ module _ (client : Address) (domain sender helo receiver : List ℕ) (seconds : 
       → isTableName n ≡ true
   unfolding Holds
   wanted-name kind n c e = facts (wanting kind n c) e .table-name (fitting (wanting kind n c) e)
+
+  -- a wanted kind: A, PTR, MX, TXT or AAAA
+  pub wanted-kind : (kind : ℕ) (n : List ℕ) (c : Counts) → evaluated client domain sender helo receiver seconds table name text ≡ settles (wanting kind n c)
+      → AskedKind kind
+  unfolding Holds
+  wanted-kind kind n c e = facts (wanting kind n c) e .asked-kind
 
   -- "text written only for 3"
   pub only-for-fail : (v : Verdict) → evaluated client domain sender helo receiver seconds table name text ≡ settles (settled v) → (v .value ≡ 3 → ⊥) → v .text ≡ []

@@ -6,11 +6,11 @@ use Rattle.record_lookup.proofs.select_record.Tie as tie
 use Rattle.record_lookup.proofs.select_record.Reads as reads
 use Rattle.record_lookup.proofs.select_record.Lts as lts
 use Rattle.client_match.proofs.want.Reads as want-reads
-use Rattle.record_lookup.proofs.find_texts.Reads as find-texts-reads
+use Rattle.answer_table.proofs.find.Reads as find-reads
 use Rattle.record_lookup.proofs.pick.Reads as pick-reads
 
-find-texts-requires : tie.Need-find-texts-requires
-find-texts-requires c κs = search needs
+find-requires : tie.Need-find-requires
+find-requires c κs = search needs
 
 enum-known-status : tie.Need-enum-known-status
 enum-known-status c = search needs
@@ -58,7 +58,7 @@ pub select-record-spec : {M : Type 1} → statement M
 select-record-spec =
     tie.close
     (tie.spec
-    find-texts-requires
+    find-requires
     enum-known-status
     enum-told
     want-requires

@@ -4,7 +4,7 @@ use Prim.Native.Nat.{ℕ}
 use mathlib.Core.Path.{_≡_, refl}
 use mathlib.Core.List.{List, [], _∷_}
 use Rattle.records.specs.Readings.{Optional, absent, present}
-use Rattle.rules.specs.Tree.{Reply, Table, Check, give, ask, peek, Settled, wanting, answered, run}
+use Rattle.rules.specs.Tree.{Reply, Table, Check, give, ask, Settled, wanting, answered, run}
 
 pub record Question : Type 0 where
   pub kind : ℕ
@@ -14,11 +14,10 @@ unfoldable pub onward : Optional Reply → (Reply → List Question) → List Qu
 onward absent f = []
 onward (present r) f = f r
 
--- the questions met on the way, in order: those answered, the SPF entries looked at, and last the one that is missing
+-- the questions met on the way, in order: those answered, and last the one that is missing
 unfoldable pub trail : {A : Type 0} → Table → Check A → List Question
 trail t (give a) = []
 trail t (ask k d c g) = record { kind = k; name = d } ∷ onward (t k d) (λ r. trail t (g r))
-trail t (peek d g) = record { kind = 99; name = d } ∷ trail t (g (t 99 d))
 
 pub data All (P : Question → Type 0) : List Question → Type 0 where
   done : All P []
@@ -39,4 +38,3 @@ unfolding run trail
 agrees t u (give a) x = refl
 agrees t u (ask k d c g) (both p x) =
     rw p (answered-agrees t u (wanting k d c) (λ r. run t (g r)) (λ r. run u (g r)) (λ r. trail t (g r)) (λ r y. agrees t u (g r) y) (t k d) x)
-agrees t u (peek d g) (both p x) = rw p (agrees t u (g (t 99 d)) x)

@@ -6,30 +6,30 @@ use mathlib.Core.List.{List}
 use mathlib.Core.Bool.{Bool, true, false, cond}
 use Rattle.records.specs.Readings.{Optional, absent, present}
 use Rattle.rules.specs.declared.Counts.{Counts}
-use Rattle.rules.specs.Tree.{Reply, Table, Check, give, ask, peek, Settled, settled, wanting, bind, then, answered, run, run-bind}
+use Rattle.rules.specs.Tree.{Reply, Table, Check, give, ask, Settled, settled, wanting, bind, then, answered, run, run-bind}
 
--- a fact of the value that is settled, or of the name and the counts of the question that is lacking
-unfoldable pub Holds : {A : Type 0} → (List ℕ → Counts → Type 0) → (A → Type 0) → Settled A → Type 0
+-- a fact of the value that is settled, or of the kind, the name and the counts of the question that is lacking
+unfoldable pub Holds : {A : Type 0} → (ℕ → List ℕ → Counts → Type 0) → (A → Type 0) → Settled A → Type 0
 Holds asked P (settled a) = P a
-Holds asked P (wanting kind n c) = asked n c
+Holds asked P (wanting kind n c) = asked kind n c
 
-pub holds-weaken : {A : Type 0} {asked wanted : List ℕ → Counts → Type 0} (P : A → Type 0) → ((n : List ℕ) (c : Counts) → asked n c → wanted n c)
+pub holds-weaken : {A : Type 0} {asked wanted : ℕ → List ℕ → Counts → Type 0} (P : A → Type 0) → ((k : ℕ) (n : List ℕ) (c : Counts) → asked k n c → wanted k n c)
     → (x : Settled A) → Holds asked P x → Holds wanted P x
 unfolding Holds
 holds-weaken P f (settled a) h = h
-holds-weaken P f (wanting kind n c) h = f n c h
+holds-weaken P f (wanting kind n c) h = f kind n c h
 
-pub record Alike {A : Type 0} (t : Table) (asked : List ℕ → Counts → Type 0) (P : A → Type 0) (m m′ : Check A) : Type 0 where
+pub record Alike {A : Type 0} (t : Table) (asked : ℕ → List ℕ → Counts → Type 0) (P : A → Type 0) (m m′ : Check A) : Type 0 where
   pub same : run t m ≡ run t m′
   pub holds : Holds asked P (run t m)
 
-module _ {t : Table} {asked : List ℕ → Counts → Type 0} where
+module _ {t : Table} {asked : ℕ → List ℕ → Counts → Type 0} where
   pub alike-give : {A : Type 0} {P : A → Type 0} {a : A} → P a → Alike t asked P (give a) (give a)
   unfolding run Holds
   alike-give h = record { same = refl; holds = h }
 
   -- a question, by the reply that the table has
-  pub alike-ask : {A : Type 0} {P : A → Type 0} {kind : ℕ} {n : List ℕ} {c : Counts} {g : Reply → Check A} → asked n c
+  pub alike-ask : {A : Type 0} {P : A → Type 0} {kind : ℕ} {n : List ℕ} {c : Counts} {g : Reply → Check A} → asked kind n c
       → ((r : Reply) → t kind n ≡ present r → Alike t asked P (g r) (g r)) → Alike t asked P (ask kind n c g) (ask kind n c g)
   unfolding run Holds answered
   alike-ask {P = P} {kind = kind} {n = n} {c = c} {g = g} q h = record { same = refl; holds = by (t kind n) refl }
@@ -37,11 +37,6 @@ module _ {t : Table} {asked : List ℕ → Counts → Type 0} where
       by : (x : Optional Reply) → t kind n ≡ x → Holds asked P (answered x (wanting kind n c) (λ r. run t (g r)))
       by absent e = q
       by (present r) e = h r e .holds
-
-  pub alike-peek : {A : Type 0} {P : A → Type 0} {n : List ℕ} {g : Optional Reply → Check A}
-      → ((r : Optional Reply) → Alike t asked P (g r) (g r)) → Alike t asked P (peek n g) (peek n g)
-  unfolding run
-  alike-peek {n = n} h = record { same = refl; holds = h (t 99 n) .holds }
 
   pub alike-cond : {A : Type 0} {P : A → Type 0} (b : Bool) {x x′ y y′ : Check A} → (b ≡ true → Alike t asked P x x′) → (b ≡ false → Alike t asked P y y′)
       → Alike t asked P (cond b x y) (cond b x′ y′)

@@ -1,7 +1,7 @@
--- What every check keeps, whatever the table: no count falls or passes its bound, only a fail has an explanation, and each question has a name as the
--- table has it, where this is so of the domain and the table's items are of their kinds. And two checks settle the same if those that they begin one
--- level down do. One walk over the definitions of the mechanisms and of the evaluation, by induction on the terms and the depth; from the laws of
--- Alike and the names that can be asked (Askable).
+-- What every check keeps, whatever the table: no count falls or passes its bound, only a fail has an explanation, and each question is of one of five
+-- kinds and has a name as the table has it, where this is so of the domain and the table's items are of their kinds. And two checks settle the same if
+-- those that they begin one level down do. One walk over the definitions of the mechanisms and of the evaluation, by induction on the terms and the
+-- depth; from the laws of Alike and the names that can be asked (Askable).
 use Prim.Native.Nat.{ℕ, zero, suc, _≤_, _<_}
 use native.Mathlib.Nat.{le-refl}
 use native.Mathlib.Omega.{arith}
@@ -17,10 +17,11 @@ use Rattle.text.specs.Texts.{bytes}
 use Rattle.text.proofs.Laws.Parts.{all-first, all-rest}
 use Rattle.text.proofs.Laws.Tests.{cond-elim, and-left}
 use Rattle.address.specs.declared.Address.{Address}
+use Rattle.address.specs.declared.Address.the-variants.{IPv4, IPv6}
 use Rattle.address.specs.Matching.{matchesAt}
 use Rattle.domain.specs.Names.{isTableName, atOrBelow, labelCount}
 use Rattle.domain.specs.Normal.{Naming, name, malformed}
-use Rattle.answer_table.specs.Layout.{isItem}
+use Rattle.answer_table.specs.Layout.{kind-a, kind-ptr, kind-mx, kind-txt, kind-aaaa, isItem}
 use Rattle.macros.specs.declared.Form.{Form}
 use Rattle.macros.specs.Reader.{isMacroString, usesP}
 use Rattle.records.specs.Readings.{Optional, absent, present, Said, Placed}
@@ -28,11 +29,11 @@ use Rattle.records.specs.Reader.{readRecord}
 use Rattle.records.specs.declared.RecordAnswer.{RecordAnswer}
 use Rattle.rules.specs.declared.Counts.{Counts}
 use Rattle.rules.specs.Tree.{Reply, failed, items, Table, Check}
-use Rattle.rules.proofs.Laws.Alike.{Alike, alike-give, alike-ask, alike-peek, alike-cond, alike-bind}
+use Rattle.rules.proofs.Laws.Alike.{Alike, alike-give, alike-ask, alike-cond, alike-bind}
 use Rattle.rules.proofs.Laws.Reversed.{reversed-ok}
 use Rattle.rules.proofs.Laws.Askable.{NamingOk, question-ok, ReplyFits, Fitting, names-ok, host-ok, hosts-ok}
-use Rattle.rules.specs.Mechanisms.{Mail, Match, yes, no, stop, Step, step, matched, includesClient, anyMatches, withValid, validated, namesOf, givesChosen, pReply, pValue, givesExpansion, expanded, givesName, target, targetOr, most-lookups, most-voids, most-hosts, begun, voided, counting, atTarget, targetStep, countedStep, orVoid, onMatch, untilMatch, aReply, askA, aStep, existsReply, askExists, existsStep, byPreference, hostReply, askHost, mxItems, mxReply, askMx, mxStep, nameReply, askName, ptrReply, askPtr, ptrStep}
-use Rattle.rules.specs.Evaluation.{Failing, Result, ended, Sub, includeMatch, checkTarget, begunCheck, includeOf, includeStep, having, lengthFor, networkStep, plainStep, mechanismStep, termStep, signResult, modifierOf, failingAt, signed, noneIsPermerror, redirectOf, noMatch, matchResult, afterStep, tryTerms, termsOf, readOutcome, Selection, ends, one, textReply, textLookup, spfItems, spfReply, recordLookup, afterLookup, checkName, check, givesShown, explained, explainReply, explainName, explanation, most-text, shown}
+use Rattle.rules.specs.Mechanisms.{Mail, Match, yes, no, stop, Step, step, matched, addressKind, includesClient, anyMatches, withValid, validated, namesOf, givesChosen, pReply, pValue, givesExpansion, expanded, givesName, target, targetOr, most-lookups, most-voids, most-hosts, begun, voided, counting, atTarget, targetStep, countedStep, orVoid, onMatch, untilMatch, aReply, askA, aStep, existsReply, askExists, existsStep, byPreference, hostReply, askHost, mxItems, mxReply, askMx, mxStep, nameReply, askName, ptrReply, askPtr, ptrStep}
+use Rattle.rules.specs.Evaluation.{Failing, Result, ended, Sub, includeMatch, checkTarget, begunCheck, includeOf, includeStep, having, lengthFor, networkStep, plainStep, mechanismStep, termStep, signResult, modifierOf, failingAt, signed, noneIsPermerror, redirectOf, noMatch, matchResult, afterStep, tryTerms, termsOf, readOutcome, Selection, ends, one, textReply, recordLookup, afterLookup, checkName, check, givesShown, explained, explainReply, explainName, explanation, most-text, shown}
 
 -- the counts k of a question, or of a term that lets the check go on, after the counts c: none falls, and none that was within its bound passes it
 pub record Bounded (c k : Counts) : Type 0 where
@@ -113,8 +114,22 @@ shown-short s =
     cond-elim (λ (x : List ℕ). length x ≤ most-text) (leb (length s) most-text && all isPrintable s)
     (λ e. leb-true (length s) most-text (and-left (leb (length s) most-text) (all isPrintable s) e)) (λ _. omega arith)
 
--- a question: its counts, and its name under an assumption
-pub record Asked (Sound : Type 0) (c : Counts) (n : List ℕ) (k : Counts) : Type 0 where
+-- the kinds of questions. W-207 amends the house rules: "Record lookup now uses TXT alone", so that SPF is none of them
+pub data AskedKind : ℕ → Type 0 where
+  of-a : AskedKind kind-a
+  of-ptr : AskedKind kind-ptr
+  of-mx : AskedKind kind-mx
+  of-txt : AskedKind kind-txt
+  of-aaaa : AskedKind kind-aaaa
+
+of-address : (client : Address) → AskedKind (addressKind client)
+unfolding addressKind
+of-address (IPv4 v) = of-a
+of-address (IPv6 h l) = of-aaaa
+
+-- a question: its kind, its counts, and its name under an assumption
+pub record Asked (Sound : Type 0) (c : Counts) (kind : ℕ) (n : List ℕ) (k : Counts) : Type 0 where
+  pub asked-kind : AskedKind kind
   pub bounded : Bounded c k
   pub table-name : Sound → isTableName n ≡ true
 
@@ -156,21 +171,21 @@ module _ (t : Table) (Sound : Type 0) (fits : Sound → Fitting t) (c : Counts) 
       (λ s q. onMatch-fine (untilMatch f xs) (untilMatch-fine p f g xs (λ z. all-rest p x xs (h z))) (s .match) (s .counts) q)
 
   module _ (k : Counts) (b : Bounded c k) where
-    asked : {n : List ℕ} → Askable n → Asked Sound c n k
-    asked h = record { bounded = b; table-name = h }
+    asked : {kind : ℕ} {n : List ℕ} → AskedKind kind → Askable n → Asked Sound c kind n k
+    asked q h = record { asked-kind = q; bounded = b; table-name = h }
 
     -- p's questions
     validated-fine : (client : Address) (ns found : List (List ℕ)) → (Sound → all isTableName ns ≡ true) → Fine Any (validated client k ns found)
     unfolding validated
     validated-fine client [] found h = alike-give tt
     validated-fine client (n ∷ ns) found h =
-        alike-ask (asked (λ s. all-first isTableName n ns (h s)))
+        alike-ask (asked (of-address client) (λ s. all-first isTableName n ns (h s)))
         (λ r _. validated-fine client ns (withValid client n found r) (λ s. all-rest isTableName n ns (h s)))
 
     p-fine : (client : Address) (d : List ℕ) → Fine Any (pValue client d k)
     unfolding pValue pReply givesChosen
     p-fine client d =
-        alike-ask (asked (λ _. reversed-ok client))
+        alike-ask (asked of-ptr (λ _. reversed-ok client))
         (λ r e. alike-bind (validated-fine client (namesOf r) [] (λ s. names-ok r (fits s 12 _ r e))) (λ ns _. alike-give tt))
 
     expanded-fine : (mail : Mail) (d : List ℕ) (form : Form) (text : List ℕ) → Fine Any (expanded mail d form text k)
@@ -205,7 +220,7 @@ module _ (t : Table) (Sound : Type 0) (fits : Sound → Fitting t) (c : Counts) 
     module _ (client : Address) where
       host-fine : (n : ℕ) (d : List ℕ) → (Sound → isItem 15 d ≡ true) → Fine (StepKept c) (askHost client n d k)
       unfolding askHost hostReply
-      host-fine n d h = alike-cond (eqb (length d) 2) (λ _. step-fine no) (λ e. alike-ask (asked (λ s. host-ok d (h s) e)) (λ r _. reply r))
+      host-fine n d h = alike-cond (eqb (length d) 2) (λ _. step-fine no) (λ e. alike-ask (asked (of-address client) (λ s. host-ok d (h s) e)) (λ r _. reply r))
         where
           reply : (r : Reply) → Fine (StepKept c) (hostReply client n k r)
           reply failed = step-fine (stop 5)
@@ -213,7 +228,7 @@ module _ (t : Table) (Sound : Type 0) (fits : Sound → Fitting t) (c : Counts) 
 
       name-fine : (m n : List ℕ) → Askable n → Fine (StepKept c) (askName client m n k)
       unfolding askName nameReply
-      name-fine m n h = alike-ask (asked h) (λ r _. matched-fine (includesClient client r && atOrBelow n m))
+      name-fine m n h = alike-ask (asked (of-address client) h) (λ r _. matched-fine (includesClient client r && atOrBelow n m))
 
   -- the hosts of mx and the names of ptr
   hosts-fine : (client : Address) (n : ℕ) (ds : List (List ℕ)) → (Sound → all (isItem 15) ds ≡ true)
@@ -229,7 +244,7 @@ module _ (t : Table) (Sound : Type 0) (fits : Sound → Fitting t) (c : Counts) 
     module _ (client : Address) (m : List ℕ) (h : Askable m) where
       askA-fine : (n : ℕ) → Fine (StepKept c) (askA client n k m)
       unfolding askA aReply
-      askA-fine n = alike-ask (asked k b h) (λ r _. reply r)
+      askA-fine n = alike-ask (asked k b (of-address client) h) (λ r _. reply r)
         where
           reply : (r : Reply) → Fine (StepKept c) (aReply client n k r)
           reply failed = step-fine k b (stop 5)
@@ -237,7 +252,7 @@ module _ (t : Table) (Sound : Type 0) (fits : Sound → Fitting t) (c : Counts) 
 
       askExists-fine : Fine (StepKept c) (askExists k m)
       unfolding askExists existsReply
-      askExists-fine = alike-ask (asked k b h) (λ r _. reply r)
+      askExists-fine = alike-ask (asked k b of-a h) (λ r _. reply r)
         where
           reply : (r : Reply) → Fine (StepKept c) (existsReply k r)
           reply failed = step-fine k b (stop 5)
@@ -245,7 +260,7 @@ module _ (t : Table) (Sound : Type 0) (fits : Sound → Fitting t) (c : Counts) 
 
       askMx-fine : (n : ℕ) → Fine (StepKept c) (askMx client n k m)
       unfolding askMx mxReply mxItems
-      askMx-fine n = alike-ask (asked k b h) (λ r e. reply r (λ s. fits s 15 m r e))
+      askMx-fine n = alike-ask (asked k b of-mx h) (λ r e. reply r (λ s. fits s 15 m r e))
         where
           reply : (r : Reply) → (Sound → ReplyFits 15 r) → Fine (StepKept c) (mxReply client n k r)
           reply failed f = step-fine k b (stop 5)
@@ -255,7 +270,7 @@ module _ (t : Table) (Sound : Type 0) (fits : Sound → Fitting t) (c : Counts) 
 
       askPtr-fine : Fine (StepKept c) (askPtr client k m)
       unfolding askPtr ptrReply namesOf
-      askPtr-fine = alike-ask (asked k b (λ _. reversed-ok client)) (λ r e. reply r (λ s. names-ok r (fits s 12 _ r e)))
+      askPtr-fine = alike-ask (asked k b of-ptr (λ _. reversed-ok client)) (λ r e. reply r (λ s. names-ok r (fits s 12 _ r e)))
         where
           reply : (r : Reply) → (Sound → all isTableName (namesOf r) ≡ true) → Fine (StepKept c) (ptrReply client m k r)
           reply failed f = step-fine k b no
@@ -276,21 +291,12 @@ module _ (t : Table) (Sound : Type 0) (fits : Sound → Fitting t) (c : Counts) 
 
     -- record lookup
     lookup-fine : (d : List ℕ) → Askable d → Fine Any (recordLookup d k)
-    unfolding recordLookup spfReply spfItems textLookup textReply
-    lookup-fine d h = alike-peek spf
+    unfolding recordLookup textReply
+    lookup-fine d h = alike-ask (asked k b of-txt h) (λ r _. reply r)
       where
         reply : (r : Reply) → Fine Any (textReply r)
         reply failed = alike-give tt
         reply (items ss) = alike-give tt
-
-        text : Fine Any (textLookup d k)
-        text = alike-ask (asked k b h) (λ r _. reply r)
-
-        spf : (r : Optional Reply) → Fine Any (spfReply d k r)
-        spf absent = text
-        spf (present failed) = text
-        spf (present (items [])) = text
-        spf (present (items (s ∷ ss))) = alike-give tt
 
   -- what counts as a lookup
   counting-fine : {A : Type 0} {P : A → Type 0} (refused go go′ : Counts → Check A) (k : Counts) → Bounded c k → FineBoth P (refused k) (refused k)
@@ -419,7 +425,7 @@ module _ (t : Table) (Sound : Type 0) (fits : Sound → Fitting t) (c : Counts) 
     explainName-fine : (x : Naming) → NameFits x → Fine P (explainName mail d k x)
     unfolding explainName NamingOk
     explainName-fine malformed h = alike-give empty
-    explainName-fine (name n) h = alike-ask (asked k b h) (λ r _. explainReply-fine r)
+    explainName-fine (name n) h = alike-ask (asked k b of-txt h) (λ r _. explainReply-fine r)
 
   pub explanation-fine : (mail : Mail) (f : Optional Failing) (k : Counts) → ((x : Failing) → f ≡ present x → Bounded c k)
       → Fine (TextKept f) (explanation mail f k)

@@ -29,10 +29,10 @@ use Rattle.rules.specs.Tree.{Reply, failed, items, Table, settled, wanti
 use Rattle.rules.proofs.Laws.Runs.{bind-is}
 use Rattle.rules.proofs.Laws.Alike.{Holds}
 use Rattle.rules.specs.Mechanisms.{Mail, expansion}
-use Rattle.rules.specs.Evaluation.{Sub, tryTerms, termsAfter, termsFrom, termsOf, readOutcome, versioned, one, selection, textReply, textLookup, spfItems, spfReply, recordLookup, afterLookup, checkName, whole, verdict, most-text, Verdict}
+use Rattle.rules.specs.Evaluation.{Sub, tryTerms, termsAfter, termsFrom, termsOf, readOutcome, versioned, one, selection, textReply, recordLookup, afterLookup, checkName, whole, verdict, most-text, Verdict}
 use Rattle.rules.proofs.Laws.Enough.{whole-unfolds}
 use Rattle.rules.proofs.Laws.Verdicts.{AskedFacts, VerdictFacts, verdict-facts}
-use Rattle.rules.specs.Reached.{NoSpfItems, not-there, not-answered, void, Texts, of-spf, of-txt, WithVersion, NoneWithVersion, none, besides, Single, first, later, Selects, only, Outside, too-long, unproduced}
+use Rattle.rules.specs.Reached.{Texts, WithVersion, NoneWithVersion, none, besides, Single, first, later, Selects, only, Outside, too-long, unproduced}
 
 -- the texts with a version section, by the production and as record lookup keeps them
 no-version : (s : List ℕ) → (WithVersion s → ⊥) → hasVersion s ≡ false
@@ -74,41 +74,27 @@ single-is ss s = (kept-single ss s, single-kept)
 
 -- what record lookup comes to, by the texts of a domain
 module _ (t : Table) (d : List ℕ) (c : Counts) where
-  text-is : (ss : List (List ℕ)) → t 16 d ≡ present (items ss) → run t (textLookup d c) ≡ settled (selection (versioned ss))
-  unfolding textLookup run answered textReply
-  text-is ss e = rw e
-
-  texts-are : {ss : List (List ℕ)} → Texts t d ss → run t (recordLookup d c) ≡ settled (selection (versioned ss))
-  unfolding recordLookup spfReply spfItems run
-  texts-are (of-spf p) = ap (λ (r : Optional Reply). run t (spfReply d c r)) p
-  texts-are (of-txt p not-there q) = ap (λ (r : Optional Reply). run t (spfReply d c r)) p ∙ text-is _ q
-  texts-are (of-txt p not-answered q) = ap (λ (r : Optional Reply). run t (spfReply d c r)) p ∙ text-is _ q
-  texts-are (of-txt p void q) = ap (λ (r : Optional Reply). run t (spfReply d c r)) p ∙ text-is _ q
+  texts-are : (ss : List (List ℕ)) → Texts t d ss → run t (recordLookup d c) ≡ settled (selection (versioned ss))
+  unfolding recordLookup textReply answered run
+  texts-are ss e = rw e
 
   selects-one : (s : List ℕ) → Selects t d s → run t (recordLookup d c) ≡ settled (one s)
   unfolding selection
-  selects-one s (only h x v) = texts-are x ∙ rw (single-kept v)
+  selects-one s (only h x v) = texts-are _ x ∙ rw (single-kept v)
 
   one-selects : (s : List ℕ) → 1 < labelCount d → run t (recordLookup d c) ≡ settled (one s) → Selects t d s
-  unfolding recordLookup textLookup textReply spfReply spfItems selection answered run
-  one-selects s h e = spf (t 99 d) refl e
+  unfolding recordLookup textReply selection answered run
+  one-selects s h e = by (t 16 d) refl e
     where
       single : (ss : List (List ℕ)) → settled (selection ss) ≡ settled (one s) → ss ≡ s ∷ []
       single [] q = let z : _≡_ {A = ℕ} 0 1 = cc in absurd (omega arith)
       single (u ∷ []) q = let z : u ≡ s = cc in rw z
       single (u ∷ v ∷ r) q = let z : _≡_ {A = ℕ} 0 1 = cc in absurd (omega arith)
 
-      txt : (r : Optional Reply) → t 99 d ≡ r → NoSpfItems r → (x : Optional Reply) → t 16 d ≡ x
-          → answered x (wanting 16 d c) (λ y. run t (textReply y)) ≡ settled (one s) → Selects t d s
-      txt r p n absent g q = let z : _≡_ {A = ℕ} 0 1 = cc in absurd (omega arith)
-      txt r p n (present failed) g q = let z : _≡_ {A = ℕ} 0 1 = cc in absurd (omega arith)
-      txt r p n (present (items ss)) g q = only h (of-txt p n g) (kept-single ss s (single (versioned ss) q))
-
-      spf : (r : Optional Reply) → t 99 d ≡ r → run t (spfReply d c r) ≡ settled (one s) → Selects t d s
-      spf absent p q = txt absent p not-there (t 16 d) refl q
-      spf (present failed) p q = txt (present failed) p not-answered (t 16 d) refl q
-      spf (present (items [])) p q = txt (present (items [])) p void (t 16 d) refl q
-      spf (present (items (u ∷ us))) p q = only h (of-spf p) (kept-single (u ∷ us) s (single (versioned (u ∷ us)) q))
+      by : (x : Optional Reply) → t 16 d ≡ x → answered x (wanting 16 d c) (λ y. run t (textReply y)) ≡ settled (one s) → Selects t d s
+      by absent g q = let z : _≡_ {A = ℕ} 0 1 = cc in absurd (omega arith)
+      by (present failed) g q = let z : _≡_ {A = ℕ} 0 1 = cc in absurd (omega arith)
+      by (present (items ss)) g q = only h g (kept-single ss s (single (versioned ss) q))
 
 -- `Selects` is what record lookup does: a domain of more than one label selects a text exactly if record lookup comes to it
 pub selects-is : (t : Table) (d s : List ℕ) (c : Counts) → 1 < labelCount d → Selects t d s ↔ (run t (recordLookup d c) ≡ settled (one s))

@@ -1,5 +1,6 @@
 -- What holds of every verdict, whatever the table, the mail and the domain: at most ten lookups and, short of permerror, two void answers; "text written
--- only for 3", of at most 500 bytes; and a question that is lacking has a name as the table has it, if the table's items are of their kinds. From what a check keeps (Kept).
+-- only for 3", of at most 500 bytes; and a question that is lacking is of one of five kinds, and has a name as the table has it, if the table's items
+-- are of their kinds. From what a check keeps (Kept).
 use Prim.Native.Nat.{ℕ, _≤_, _<_}
 use native.Mathlib.Omega.{arith}
 use mathlib.Core.Path.{_≡_, refl}
@@ -15,10 +16,11 @@ use Rattle.rules.proofs.Laws.Alike.{Holds, holds-weaken, alike-give, al
 use Rattle.rules.proofs.Laws.Askable.{Fitting, normal-ok}
 use Rattle.rules.specs.Mechanisms.{Mail}
 use Rattle.rules.specs.Evaluation.{Failing, Result, noCounts, evaluation, most-text, Verdict, verdict}
-use Rattle.rules.proofs.Laws.Kept.{Reported, within, third, ResultKept, TextKept, Asked, Fine, bounded-self, resumes, check-fine, explanation-fine}
+use Rattle.rules.proofs.Laws.Kept.{Reported, within, third, ResultKept, TextKept, AskedKind, Asked, Fine, bounded-self, resumes, check-fine, explanation-fine}
 
 -- a question that is lacking, and the counts that are reported with it
-pub record AskedFacts (t : Table) (n : List ℕ) (c : Counts) : Type 0 where
+pub record AskedFacts (t : Table) (kind : ℕ) (n : List ℕ) (c : Counts) : Type 0 where
+  pub asked-kind : AskedKind kind
   pub lookups-ten : c .lookups ≤ 10
   pub voids-two : c .voids ≤ 2
   pub table-name : Fitting t → isTableName n ≡ true
@@ -31,8 +33,8 @@ pub record VerdictFacts (v : Verdict) : Type 0 where
   pub text : (v .value ≡ 3 → ⊥) → v .text ≡ []
   pub short : length (v .text) ≤ most-text
 
-asked-facts : (t : Table) (n : List ℕ) (k : Counts) → Asked (Fitting t) noCounts n k → AskedFacts t n k
-asked-facts t n k a = record { lookups-ten = a .bounded .lookups-small (omega arith); voids-two = a .bounded .voids-small (omega arith); table-name = a .table-name }
+asked-facts : (t : Table) (kind : ℕ) (n : List ℕ) (k : Counts) → Asked (Fitting t) noCounts kind n k → AskedFacts t kind n k
+asked-facts t kind n k a = record { asked-kind = a .asked-kind; lookups-ten = a .bounded .lookups-small (omega arith); voids-two = a .bounded .voids-small (omega arith); table-name = a .table-name }
 
 bounds : {v : ℕ} {k : Counts} → Reported noCounts v k → (k .lookups ≤ 10) × (k .voids ≤ 3) × (2 < k .voids → v ≡ 6)
 bounds (within b) =
