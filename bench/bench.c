@@ -104,6 +104,22 @@ static void make_hostile(struct table *t, int count)
     }
 }
 
+/* So many mail hosts, of which only the last has an address, that of the client. */
+static void make_hosts(struct table *t, int count)
+{
+    static const uint8_t client[4] = { 10, 0, 0, 1 };
+    char host[32] = "\x0a";
+    add_text(t, "example.com", "v=spf1 mx -all");
+    add_entry(t, 15, "example.com");
+    for (int i = 0; i < count; i++)
+        add_item(t, host, 2 + (size_t)sprintf(host + 2, "h%d.example.com", i));
+    for (int i = 0; i < count; i++) {
+        sprintf(host, "h%d.example.com", i);
+        add_entry(t, 1, host);
+    }
+    add_item(t, client, 4);
+}
+
 /* The reference record with a bad last term. */
 static void make_refused(struct table *t, int unused)
 {
@@ -162,6 +178,7 @@ static const struct {
     { "play-first", "first match, from an empty table", make_reference, 0, { 192, 0, 2, 1 }, TALAVORN_PASS, 0, play },
     { "play-fail", "final -all, from an empty table", make_reference, 0, { 10, 0, 0, 1 }, TALAVORN_FAIL, 0, play },
     { "play-includes", "ten includes, from an empty table", make_includes, 10, { 10, 0, 0, 1 }, TALAVORN_FAIL, 0, play },
+    { "play-hosts", "nine hosts gone, from an empty table", make_hosts, 10, { 10, 0, 0, 1 }, TALAVORN_PERMERROR, 0, play },
     { "read-reference", "reference record read: accepted", make_reference, 0, { 0 }, 0, 0, read_record },
     { "read-refused", "refused record read: 32", make_refused, 0, { 0 }, TALAVORN_BAD_TERM, 0, read_record },
     { "read-length", "length of 33 read: 32", make_bad_length, 0, { 0 }, TALAVORN_BAD_TERM, 0, read_record },

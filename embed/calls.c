@@ -619,6 +619,50 @@ static void put_ten(const struct talavorn_answer *a)
     }
 }
 
+/* Plays a check of this record, with ten hosts in each MX and PTR answer: h0 to h9 before the name
+ * that was asked. Those below h`gone` have no address, the others the client's. Answers how many
+ * questions there were. */
+static int played(const char *record, char gone, struct talavorn_answer *a)
+{
+    struct talavorn_mail mail = usual_mail();
+    int questions = 0;
+    size = 0;
+    while ((*a = talavorn_check(&mail, table, size)).number == TALAVORN_WANTING) {
+        unsigned rcode = 0;
+        begin_items(sizeof buffer);
+        if (a->kind == TALAVORN_TYPE_TXT)
+            talavorn_item_txt(&items, talavorn_text(record));
+        else if (a->kind != TALAVORN_TYPE_A)
+            put_ten(a);
+        else if (a->name[0] == 'h' && gone <= a->name[1])
+            talavorn_item_a(&items, client);
+        else
+            rcode = TALAVORN_NO_SUCH_NAME;
+        if (talavorn_add(a, rcode, &items, table, sizeof table, &size) != 0)
+            break;
+        questions++;
+    }
+    return questions;
+}
+
+/* Hosts of mx and names of ptr that are gone: the third ends the check, p's don't count. */
+static void void_answers(void)
+{
+    struct talavorn_answer a;
+    expect(played("v=spf1 mx -all", '9', &a) == 5 && a.number == TALAVORN_PERMERROR
+               && a.lookups == 1 && a.voids == 3,
+           "ten hosts, nine gone");
+    expect(played("v=spf1 mx -all", '2', &a) == 5 && a.number == TALAVORN_PASS && a.lookups == 1
+               && a.voids == 2,
+           "ten hosts, two gone");
+    expect(played("v=spf1 ptr -all", '9', &a) == 5 && a.number == TALAVORN_PERMERROR
+               && a.lookups == 1 && a.voids == 3,
+           "ten names, nine gone");
+    expect(played("v=spf1 exists:%{p}.example -all", 'z', &a) == 13 && a.number == TALAVORN_FAIL
+               && a.lookups == 1 && a.voids == 1,
+           "p's ten names, all gone");
+}
+
 /* Ten mx of ten hosts each, one of them with macro p, and an explanation. */
 static void most_questions(void)
 {
@@ -669,6 +713,7 @@ int main(void)
     spf_entries();
     odd_answers();
     wrapped_additions();
+    void_answers();
     most_questions();
     printf("%d as they should be, %d not\n", right, wrong);
     return wrong != 0;

@@ -158,7 +158,7 @@ enum {
     TALAVORN_KIND = 0,              /* 7: the DNS type to ask. 25, 26: the place. Otherwise 0 */
     TALAVORN_PLACE = 0,
     TALAVORN_LOOKUPS = 1,           /* lookups begun, 0 to 10 */
-    TALAVORN_VOIDS = 2,             /* void answers met, 0 to 3 */
+    TALAVORN_VOIDS = 2,             /* void answers met, 0 to 3; the third gives 6 */
     TALAVORN_LENGTH = 3,            /* 3: the text's length. 7: the name's length. Otherwise 0 */
     TALAVORN_VALUES = 4
 };
@@ -194,6 +194,11 @@ enum {
  *             values[3] bytes, 1 to 253. The counts are those so far. Ask the DNS, add an entry for
  *             this kind and name, and call again
  * All of values is written by every call.
+ *
+ * A void answer is an entry of status 3, or of status 0 without items, for a question of a, mx, ptr
+ * or exists; the addresses of mx hosts and ptr names are such questions. It counts each time it is
+ * met, and the third in a check gives 6 at once: no later host or name is asked. Not counted are
+ * TXT, and the questions of macro p.
  *
  * A caller who begins with an empty table and adds what is wanted gets 7 at most 123 times:
  *       1  the TXT question of the domain

@@ -68,7 +68,8 @@ pub struct Answer {
     pub number: u8,
     /// - `[0]`: `WANTING`: the DNS type to ask. 25 and 26: the place in the table. Otherwise 0.
     /// - `[1]`: lookups begun, 0 to 10.
-    /// - `[2]`: void answers met, 0 to 3.
+    /// - `[2]`: void answers met, 0 to 3: those without items to the questions of a, mx, ptr and
+    ///   exists, mx hosts' and ptr names' addresses included. The third gives 6.
     /// - `[3]`: `WANTING`: the length of the name. `FAIL`: the length of the text. Otherwise 0.
     pub values: [usize; 4],
     /// `WANTING`: the name to ask, the first `values[3]` bytes.

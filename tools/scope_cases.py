@@ -1,7 +1,7 @@
 #!/usr/bin/env python3
 """The cases of the program scope_cases: those of the scope paper's sections "Both sides of each line" and "Errors that look right", and the inputs of the list of
 readings (Q1 to Q53); and the inputs of the readings of the change requests, by their numbers (W-201: A1 to A12; W-207: K1, in place of Q18 and Q46; K2
-has those of Q38).
+has those of Q38; W-204: V1 to V7, which amend Q23).
 
     python3 tools/scope_cases.py
 
@@ -535,10 +535,8 @@ def limits():
     check("Q23-redirect", "6 . 1 0", R("v=spf1 redirect=r.example"), absent("TXT", "r.example"))
     check("Q23-mx", "3 . 1 1", mx, absent("MX", "example.com"))
     check("Q23-mx-no-items", "3 . 1 1", mx, MX("example.com"))
-    check("Q23-mx-host", "3 . 1 0", mx, MX("example.com", (10, "m.example")), absent("A", "m.example"))
     check("Q23-ptr", "3 . 1 1", ptr, absent("PTR", REV))
     check("Q23-ptr-no-items", "3 . 1 1", ptr, PTR(REV))
-    check("Q23-ptr-name", "3 . 1 0", ptr, PTR(REV, "h.example.com"), absent("A", "h.example.com"))
     check("Q23-ptr-p", "3 . 1 1", R("v=spf1 ptr:%{p}.x -all"), absent("PTR", REV))
     check("Q23-p", "2 . 1 0", R("v=spf1 exists:%{p}.x -all"), absent("PTR", REV), A("unknown.x", "127.0.0.2"))
     check("Q23-p-and-own", "3 . 1 1", R("v=spf1 exists:%{p}.x -all"), absent("PTR", REV), absent("A", "unknown.x"))
@@ -1111,9 +1109,90 @@ def retired():
     check("W207-K1-name", "25 30 0 0", txt, SPF("Example.com", "v=spf1 +all"))
 
 
+def void_answers():
+    mx, ptr = R("v=spf1 mx -all"), R("v=spf1 ptr -all")
+    g, h, f = absent("A", "g.x"), absent("A", "h.x"), failed("A", "f.x")
+
+    def hosts(*names):
+        return MX("example.com", *[(10, name) for name in names])
+
+    def names(*listed):
+        return PTR(REV, *listed)
+
+    heading("W-204 V1: address questions of mx and ptr count their void answers, and no others do")
+    check("W204-V1-host", "3 . 1 1", mx, hosts("g.x"), g)
+    check("W204-V1-host-no-items", "3 . 1 1", mx, hosts("g.x"), A("g.x"))
+    check("W204-V1-host-ip6", "3 . 1 1", mx, hosts("g.x"), AAAA("g.x"), A("g.x", OTHER), client="::1")
+    check("W204-V1-host-other-family", "3 . 1 0", mx, hosts("g.x"), absent("AAAA", "g.x"), A("g.x", OTHER))
+    check("W204-V1-name", "3 . 1 1", ptr, names("g.x"), g)
+    check("W204-V1-name-no-items", "3 . 1 1", ptr, names("g.x"), A("g.x"))
+    check("W204-V1-name-other-family", "3 . 1 0", ptr, names("g.x"), absent("AAAA", "g.x"), A("g.x", OTHER))
+    check("W204-V1-include", "6 . 1 0", R("v=spf1 ?include:b.x -all"), absent("TXT", "b.x"))
+    check("W204-V1-redirect", "6 . 2 1", R("v=spf1 mx redirect=b.x"), hosts("g.x"), g, absent("TXT", "b.x"))
+    check("W204-V1-explanation", "3 . 1 2", R("v=spf1 mx -all exp=e.x"), hosts("g.x", "g.x"), g, absent("TXT", "e.x"))
+
+    heading("W-204 V2: each void answer counts when it is given")
+    check("W204-V2-twice", "3 . 1 2", mx, hosts("h.x", "h.x"), h)
+    check("W204-V2-thrice", "6 . 1 3", mx, hosts("h.x", "h.x", "h.x"), h)
+    check("W204-V2-earlier-terms", "6 . 3 3", R("v=spf1 a:h.x exists:h.x mx -all"), hosts("h.x"), h)
+    check("W204-V2-later-term", "6 . 2 3", R("v=spf1 mx a:h.x -all"), hosts("h.x", "h.x"), h)
+    check("W204-V2-mx-again", "6 . 2 3", R("v=spf1 mx mx -all"), hosts("h.x", "h.x"), h)
+    check("W204-V2-mx-and-ptr", "6 . 2 3", R("v=spf1 mx ptr -all"), hosts("g.x"), names("g.x", "g.x"), g)
+    check("W204-V2-name-again", "6 . 1 3", ptr, names("h.x", "h.x", "h.x"), h)
+
+    heading("W-204 V3: the third ends the check at once, before another host is asked")
+    gone = [absent("A", f"h{n}.x") for n in range(9)]
+    check("W204-V3-match-after", "6 . 1 3", mx, hosts("h0.x", "h1.x", "h2.x", "ok.x"), *gone[:3], A("ok.x", CLIENT))
+    check("W204-V3-missing-after", "6 . 1 3", mx, hosts("h0.x", "h1.x", "h2.x", "ok.x"), *gone[:3])
+    check("W204-V3-match-second", "2 . 1 2", mx, hosts("h0.x", "h1.x", "ok.x"), *gone[:2], A("ok.x", CLIENT))
+    check("W204-V3-missing-second", "7 1 1 2 ok.x", mx, hosts("h0.x", "h1.x", "ok.x"), *gone[:2])
+    check("W204-V3-preferred", "2 . 1 0", mx, MX("example.com", (20, "h0.x"), (20, "h1.x"), (20, "h2.x"), (10, "ok.x")), *gone[:3], A("ok.x", CLIENT))
+    check("W204-V3-nine-of-ten", "6 . 1 3", mx, hosts(*[f"h{n}.x" for n in range(9)], "ok.x"), *gone, A("ok.x", CLIENT))
+    check("W204-V3-three-asked", "6 . 1 3", mx, hosts(*[f"h{n}.x" for n in range(9)], "ok.x"), *gone[:3])
+    check("W204-V3-any-sign", "6 . 1 3", R("v=spf1 -mx +all"), hosts("h.x", "h.x", "h.x"), h)
+    inner = MX("i.x", (10, "h.x"), (10, "h.x"))
+    check("W204-V3-in-include", "6 . 3 3", R("v=spf1 include:i.x +all"), TXT("i.x", "v=spf1 mx a:h.x"), inner, h)
+    check("W204-V3-after-include", "6 . 3 3", R("v=spf1 include:i.x mx +all"), TXT("i.x", "v=spf1 mx"), inner, hosts("h.x"), h)
+    check("W204-V3-in-redirect", "6 . 3 3", R("v=spf1 mx redirect=i.x"), hosts("h.x"), TXT("i.x", "v=spf1 mx +all"), inner, h)
+
+    heading("W-204 V4: a failed answer is no void answer")
+    check("W204-V4-host", "5 . 1 2", mx, hosts("g.x", "h.x", "f.x", "g.x"), g, h, f)
+    check("W204-V4-host-first", "5 . 1 0", mx, hosts("f.x", "g.x", "g.x", "g.x"), g, f)
+    check("W204-V4-host-behind", "6 . 1 3", mx, hosts("g.x", "h.x", "g.x", "f.x"), g, h, f)
+    check("W204-V4-names", "3 . 1 0", ptr, names("f.x", "f.x", "f.x"), f)
+    check("W204-V4-names-between", "3 . 1 2", ptr, names("f.x", "g.x", "f.x", "g.x", "f.x"), g, f)
+    check("W204-V4-names-then-third", "6 . 1 3", ptr, names("f.x", "g.x", "f.x", "g.x", "f.x", "g.x"), g, f)
+
+    heading("W-204 V5: what isn't asked doesn't count")
+    check("W204-V5-behind-match", "2 . 1 0", mx, hosts("ok.x", "h.x"), A("ok.x", CLIENT))
+    check("W204-V5-over-ten", "6 . 1 0", mx, hosts(*["h.x"] * 11), h)
+    check("W204-V5-nameless", "3 . 1 0", mx, hosts("", "", ""))
+    check("W204-V5-nameless-between", "3 . 1 2", mx, hosts("", "h.x", "", "h.x", ""), h)
+    check("W204-V5-name-behind-match", "2 . 1 0", ptr, names("m.example.com", "h.x", "h.x", "h.x"), A("m.example.com", CLIENT), h)
+    check("W204-V5-eleventh-name", "3 . 1 2", ptr, names("h.x", "h.x", *["o.x"] * 8, "h.x"), A("o.x", OTHER), h)
+
+    heading("W-204 V6: the third under ptr ends the check")
+    listed = [absent("A", name) for name in ("a.x", "b.x", "c.x")]
+    check("W204-V6-third", "6 . 1 3", ptr, names("a.x", "b.x", "c.x"), *listed)
+    check("W204-V6-below-target", "6 . 1 3", ptr, names(*["m.example.com"] * 3), absent("A", "m.example.com"))
+    check("W204-V6-match-after", "6 . 1 3", ptr, names("a.x", "b.x", "c.x", "m.example.com"), *listed, A("m.example.com", CLIENT))
+    check("W204-V6-missing-after", "6 . 1 3", ptr, names("a.x", "b.x", "c.x", "d.x"), *listed)
+    check("W204-V6-match-second", "2 . 1 2", ptr, names("a.x", "b.x", "m.example.com"), *listed[:2], A("m.example.com", CLIENT))
+    check("W204-V6-missing-second", "7 1 1 2 c.x", ptr, names("a.x", "b.x", "c.x"), *listed[:2])
+
+    heading("W-204 V7: p's don't count; the same entries asked by ptr do")
+    unknown = absent("A", "unknown.y")
+    check("W204-V7-exists", "3 . 1 1", R("v=spf1 exists:%{p}.y -all"), names("a.x", "b.x", "c.x"), *listed, unknown)
+    check("W204-V7-ptr", "6 . 1 3", R("v=spf1 ptr:%{p}.y -all"), names("a.x", "b.x", "c.x"), *listed)
+    check("W204-V7-before-ptr", "6 . 2 3", R("v=spf1 exists:%{p}.y ptr -all"), names("a.x", "b.x", "c.x"), *listed, unknown)
+    check("W204-V7-missing", "7 1 1 0 c.x", R("v=spf1 exists:%{p}.y -all"), names("a.x", "b.x", "c.x"), *listed[:2])
+    check("W204-V7-include", "6 . 1 0", R("v=spf1 include:%{p}.y -all"), names("a.x", "b.x", "c.x"), *listed, absent("TXT", "unknown.y"))
+    check("W204-V7-explanation", "3 . 1 2", R("v=spf1 mx -all exp=%{p}.y"), hosts("a.x", "b.x"), names("a.x", "b.x", "c.x"), *listed, absent("TXT", "unknown.y"))
+
+
 def main():
     heading("the cases of the scope paper's sections `Both sides of each line` and `Errors that look right`, and of the readings")
-    for section in (both_sides, look_right, part_one, limits, names, grammar, tables, explanations, clients, values, terms, edges, programs, places, retired):
+    for section in (both_sides, look_right, part_one, limits, names, grammar, tables, explanations, clients, values, terms, edges, programs, places, retired, void_answers):
         section()
     need(all(line.isascii() for line in given + printed), "a line is not ASCII")
     (CRATE / "stdin").write_text("\n".join(given) + "\n", encoding="ascii")

@@ -20,7 +20,7 @@ pub fn address_kind(client: Address) -> u16
 }
 
 // The whole width of the client's address.
-fn width(client: Address) -> usize
+pub fn width(client: Address) -> usize
     ensures { λ r. ⌜ r ≡ width client ⌝ }
 {
     match client {

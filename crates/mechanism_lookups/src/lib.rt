@@ -34,7 +34,7 @@ pub fn matched(test: bool, counts: Counts) -> Stepped
     }
 }
 
-// a: the address question of the client's family.
+// a, and a host of mx: the address question of the client's family.
 pub fn ask_a(
     client: Address,
     length: usize,
@@ -56,11 +56,11 @@ pub fn ask_a(
             counts,
         };
     }
-    let items = bytes::part(table, start, end);
-    if items.len() == 0 {
+    let addresses = bytes::part(table, start, end);
+    if addresses.len() == 0 {
         return replies::void(counts);
     }
-    replies::addresses(client, length, items, counts)
+    replies::addresses(client, length, addresses, counts)
 }
 
 // exists: always the A question.

@@ -8,7 +8,7 @@ pub mod Candidates
 pub mod Preferences
 -- Inversions: what an answer of the code tells of what a table settles.
 pub mod Inversions
--- Steps: one term and then the others; the counts after a term.
+-- Steps: one term and then the others; the counts after a term, a host of mx or a name of ptr.
 pub mod Steps
 -- Signs: a mechanism that is read has one of the four signs.
 pub mod Signs

@@ -173,7 +173,8 @@ unfoldable pub countedStep : Mail → List ℕ → Optional (List ℕ) → (Coun
 countedStep mail d spec go c = counting (step (stop result-permerror)) (targetStep mail d spec go) c
 
 -- "A void answer is status 3, or 0 without items" (an entry of status 3 has none); "each a, mx, ptr or exists counts the void answer to its own first
--- question, none of p's, and the third gives permerror at once"
+-- question, none of p's, and the third gives permerror at once". W-204 amends the house rules: "Address questions of mx and ptr now count as well, in the
+-- order asked; p's don't. The third still gives permerror at once, ptr included."
 unfoldable pub orVoid : Counts → List (List ℕ) → Check Step → Check Step
 orVoid c [] rest = cond (ltb (c .voids) most-voids) (step no (voided c)) (step (stop result-permerror) (voided c))
 orVoid c (d ∷ ds) rest = rest
@@ -227,14 +228,9 @@ unfoldable pub byPreference : List (List ℕ) → List (List ℕ)
 byPreference [] = []
 byPreference (d ∷ ds) = insertHost d (byPreference ds)
 
--- a host's addresses; "A failed question gives temperror."
-unfoldable pub hostReply : Address → ℕ → Counts → Reply → Check Step
-hostReply client n c failed = step (stop result-temperror) c
-hostReply client n c (items ds) = matched (anyMatches client n ds) c
-
--- "a nameless item asks nothing"
+-- "a nameless item asks nothing"; any other one's addresses are asked as a asks them, so that W-204's void answers are counted there
 unfoldable pub askHost : Address → ℕ → List ℕ → Counts → Check Step
-askHost client n d c = cond (eqb (length d) 2) (step no c) (ask (addressKind client) (drop 2 d) c (hostReply client n c))
+askHost client n d c = cond (eqb (length d) 2) (step no c) (askA client n c (drop 2 d))
 
 -- "addresses are asked by preference until one matches"
 abbrev pub askHosts : Address → ℕ → List (List ℕ) → Counts → Check Step
@@ -258,9 +254,10 @@ unfoldable pub mxStep : Mail → List ℕ → Optional (List ℕ) → ℕ → Co
 mxStep mail d spec n c = countedStep mail d spec (askMx (mail .client) n) c
 
 -- ptr: "one is validated if its addresses include the client, and a validated name matches if it is the target or below it"; "a failed address
--- question skips its name". The name n and the target m.
+-- question skips its name"; W-204: a void answer counts. The name n and the target m.
 unfoldable pub nameReply : Address → List ℕ → Counts → List ℕ → Reply → Check Step
-nameReply client m c n r = matched (includesClient client r && atOrBelow n m) c
+nameReply client m c n failed = step no c
+nameReply client m c n (items ds) = orVoid c ds (matched (includesClient client (items ds) && atOrBelow n m) c)
 
 unfoldable pub askName : Address → List ℕ → List ℕ → Counts → Check Step
 askName client m n c = ask (addressKind client) n c (nameReply client m c n)

@@ -99,9 +99,9 @@ pub record PtrRules : Type 0 where
   pub by-whole-labels : answer (spf "v=spf1 ptr -all" ∷ pointers (bytes "anexample.com" ∷ []) ∷ row 1 "anexample.com" (here ∷ []) ∷ []) ≡ decided 3 1 0
   pub not-validated : answer (spf "v=spf1 ptr -all" ∷ pointers (bytes "example.com" ∷ []) ∷ row 1 "example.com" (elsewhere ∷ []) ∷ []) ≡ decided 3 1 0
   pub ten-names : answer (spf "v=spf1 ptr -all" ∷ pointers (replicate 9 (bytes "n.example") ++ (bytes "example.com" ∷ []))
-      ∷ row 1 "n.example" [] ∷ row 1 "example.com" (here ∷ []) ∷ []) ≡ decided 2 1 0
+      ∷ row 1 "n.example" (elsewhere ∷ []) ∷ row 1 "example.com" (here ∷ []) ∷ []) ≡ decided 2 1 0
   pub eleventh-name : answer (spf "v=spf1 ptr -all" ∷ pointers (replicate 10 (bytes "n.example") ++ (bytes "example.com" ∷ []))
-      ∷ row 1 "n.example" [] ∷ row 1 "example.com" (here ∷ []) ∷ []) ≡ decided 3 1 0
+      ∷ row 1 "n.example" (elsewhere ∷ []) ∷ row 1 "example.com" (here ∷ []) ∷ []) ≡ decided 3 1 0
   -- "A failed PTR question yields no names; a failed address question skips its name."
   pub failed-question : answer (spf "v=spf1 ptr -all" ∷ broken 12 "129.2.0.192.in-addr.arpa" ∷ []) ≡ decided 3 1 0
   pub failed-name : answer (spf "v=spf1 ptr -all" ∷ pointers (bytes "n.example" ∷ bytes "example.com" ∷ []) ∷ broken 1 "n.example" ∷ row 1 "example.com" (here ∷ []) ∷ [])
@@ -143,6 +143,35 @@ pub record ExplanationRules : Type 0 where
   pub of-500-bytes : answer (spf "v=spf1 -all exp=e.example" ∷ txt (bytes "e.example") (replicate 500 120) ∷ []) ≡ fails 0 (replicate 500 120)
   pub of-501-bytes : answer (spf "v=spf1 -all exp=e.example" ∷ txt (bytes "e.example") (replicate 501 120) ∷ []) ≡ decided 3 0 0
 
+-- W-204 amends the house rules: "Address questions of mx and ptr now count as well, in the order asked; p's don't. The third still gives permerror at
+-- once, ptr included."
+pub record VoidRules : Type 0 where
+  pub one-host : answer (spf "v=spf1 mx -all" ∷ row 15 "example.com" (host 10 (bytes "g.example") ∷ []) ∷ row 1 "g.example" [] ∷ []) ≡ decided 3 1 1
+  pub one-host-of-six : answer6 (spf "v=spf1 mx -all" ∷ row 15 "example.com" (host 10 (bytes "g.example") ∷ []) ∷ row 28 "g.example" [] ∷ []) ≡ decided 3 1 1
+  -- a host that is asked again counts again
+  pub same-host-thrice : answer (spf "v=spf1 mx -all" ∷ row 15 "example.com" (replicate 3 (host 10 (bytes "g.example"))) ∷ row 1 "g.example" [] ∷ []) ≡ decided 6 1 3
+  -- ten hosts, nine of them gone: "at once" is before the tenth, which is the client or has no entry
+  pub third-before-match : answer (spf "v=spf1 mx -all" ∷ row 15 "example.com" (replicate 9 (host 10 (bytes "g.example")) ++ (host 20 (bytes "m.example") ∷ []))
+      ∷ row 1 "g.example" [] ∷ row 1 "m.example" (here ∷ []) ∷ []) ≡ decided 6 1 3
+  pub third-before-missing : answer (spf "v=spf1 mx -all" ∷ row 15 "example.com" (replicate 9 (host 10 (bytes "g.example")) ++ (host 20 (bytes "m.example") ∷ []))
+      ∷ row 1 "g.example" [] ∷ []) ≡ decided 6 1 3
+  -- "limits the whole check's void answers": those of earlier terms count
+  pub third-of-check : answer (spf "v=spf1 a:g.example mx -all" ∷ row 15 "example.com" (replicate 2 (host 10 (bytes "g.example"))) ∷ row 1 "g.example" [] ∷ []) ≡ decided 6 2 3
+  pub after-mx : answer (spf "v=spf1 mx exists:g.example -all" ∷ row 15 "example.com" (replicate 2 (host 10 (bytes "g.example"))) ∷ row 1 "g.example" [] ∷ []) ≡ decided 6 2 3
+  -- a failed answer is no void answer
+  pub failed-host : answer (spf "v=spf1 mx -all" ∷ row 15 "example.com" (replicate 2 (host 10 (bytes "g.example")) ++ (host 10 (bytes "f.example") ∷ host 10 (bytes "g.example") ∷ []))
+      ∷ row 1 "g.example" [] ∷ broken 1 "f.example" ∷ []) ≡ decided 5 1 2
+  pub failed-names : answer (spf "v=spf1 ptr -all" ∷ pointers (replicate 3 (bytes "f.example")) ∷ broken 1 "f.example" ∷ []) ≡ decided 3 1 0
+  -- "ptr included", also for names that could never match
+  pub two-names : answer (spf "v=spf1 ptr -all" ∷ pointers (replicate 2 (bytes "g.example")) ∷ row 1 "g.example" [] ∷ []) ≡ decided 3 1 2
+  pub third-name : answer (spf "v=spf1 ptr -all" ∷ pointers (replicate 3 (bytes "g.example") ++ (bytes "example.com" ∷ []))
+      ∷ row 1 "g.example" [] ∷ row 1 "example.com" (here ∷ []) ∷ []) ≡ decided 6 1 3
+  -- "p's don't"; the same entries asked by ptr do
+  pub p-not-counted : answer (spf "v=spf1 exists:%{p}.t -all" ∷ pointers (replicate 3 (bytes "g.example")) ∷ row 1 "g.example" [] ∷ row 1 "unknown.t" [] ∷ []) ≡ decided 3 1 1
+  pub p-before-ptr : answer (spf "v=spf1 ptr:%{p}.t -all" ∷ pointers (replicate 3 (bytes "g.example")) ∷ row 1 "g.example" [] ∷ []) ≡ decided 6 1 3
+  -- nor does the TXT question of an include
+  pub include-not-counted : answer (spf "v=spf1 ?include:b.example -all" ∷ row 16 "b.example" [] ∷ []) ≡ decided 6 1 0
+
 pub record Rules : Type 0 where
   pub lookup : LookupRules
   pub signs : SignRules
@@ -151,4 +180,5 @@ pub record Rules : Type 0 where
   pub mx : MxRules
   pub ptr : PtrRules
   pub p : PRules
+  pub voids : VoidRules
   pub explanation : ExplanationRules

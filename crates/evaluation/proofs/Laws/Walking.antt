@@ -203,7 +203,7 @@ module _ (t : List ℕ) (mail : Mail) (d s : List ℕ) (first : ℕ) (b : List �
             let o = onward in
             let m = next-less s i a p at next x q (length s - i) inside refl in
             let g = step-no _ r out z stepped e in
-            let y = no-bounded (tableIn t) mail d (saidOf (part s at next) x) (saidOf (part s at next) x .sign) c (r .counts) (g .is) in
+            let y = no-bounded (tableIn t) c (r .counts) mail d (saidOf (part s at next) x) (saidOf (part s at next) x .sign) (g .is) in
             record {
               kept = g .kept ∙ w .kept;
               grows = omega (arith, w .grows, y .lookups-grow);

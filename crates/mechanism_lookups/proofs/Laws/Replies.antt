@@ -3,7 +3,7 @@
 use Prim.Native.Nat.{ℕ, _≤_, _<_}
 use mathlib.Core.Path.{_≡_, refl, ap, _∙_}
 use mathlib.Core.List.{List, []}
-use mathlib.Core.Bool.{Bool, true, false, cond, _&&_}
+use mathlib.Core.Bool.{Bool, true, false, cond, _&&_, and-comm}
 use native.Mathlib.Omega.{arith}
 use lib.ListN.{length, take, drop, drop-of-length-le}
 use lib.Dec.{ltb}
@@ -23,11 +23,11 @@ use Rattle.rules.specs.declared.Ending.{Ending}
 use Rattle.rules.specs.declared.Matched.{Matched}
 use Rattle.rules.specs.declared.Stepped.{Stepped}
 use Rattle.rules.specs.Tree.{Reply, failed, items, Table, Check, ask, run}
-use Rattle.rules.specs.Tables.{tableIn, replyBy}
-use Rattle.rules.specs.Mechanisms.{yes, no, stop, Step, step, addressKind, anyMatches, includesClient, most-voids, voided, orVoid, matched, aReply, askA, existsReply, askExists, byPreference, hostReply, askHost, askHosts, most-hosts, mxItems, mxReply, askMx, nameReply, askName, askNames, most-names, ptrReply, askPtr}
+use Rattle.rules.specs.Tables.{tableIn}
+use Rattle.rules.specs.Mechanisms.{yes, no, stop, Step, step, addressKind, anyMatches, width, includesClient, most-voids, voided, orVoid, matched, aReply, askA, existsReply, askExists, byPreference, askHost, askHosts, most-hosts, mxItems, mxReply, askMx, nameReply, askName, askNames, most-names, ptrReply, askPtr}
 use Rattle.rules.specs.Outcomes.{matchedOf, SaysStep}
 use Rattle.rules.proofs.Laws.Inversions.{step-give, step-wanted}
-use Rattle.client_match.proofs.Laws.Asked.{run-missing, run-entry, run-failed, run-items}
+use Rattle.client_match.proofs.Laws.Asked.{run-missing, run-failed, run-items}
 use Rattle.mechanism_lookups.specs.Steps.{Unanswered, voidAnswer, matchAnswer}
 
 -- `missing`, `void`, `addresses`
@@ -171,25 +171,10 @@ module _ (client : Address) (n : ℕ) (t d : List ℕ) (c : Counts) (b : List �
   unfolding askHost matchedOf
   host-nameless k = rw (eq-eqb (length d) 2 k) (step-give (tableIn t) no c b)
 
-  module _ (k : length d ≡ 2 → ⊥) (kind : ℕ) (ek : kind ≡ addressKind client) (m : List ℕ) (em : m ≡ drop 2 d) (f : Found) (p : f ≡ findAt t kind m) where
-    host-asks : (r : Stepped) (a : List ℕ) → SaysStep (run (tableIn t) (ask kind m c (hostReply client n c))) r b a → SaysStep (run (tableIn t) (askHost client n d c)) r b a
-    unfolding askHost
-    host-asks r a w = rw (ne-eqb (length d) 2 k, ← ek, ← em) w
-
-    pub host-missing : f ≡ Found.Missing → (r : Stepped) (a : List ℕ) → Unanswered kind m c r b a → SaysStep (run (tableIn t) (askHost client n d c)) r b a
-    host-missing e r a w = host-asks r a (asked-missing t kind m f p c (hostReply client n c) r b a e w)
-
-    module _ (status start end : ℕ) (e : f ≡ Found.Entry status start end) where
-      pub host-failed : status ≡ 2 → SaysStep (run (tableIn t) (askHost client n d c)) (record { matched = Matched.Stop (Ending.Result 5); counts = c }) b b
-      unfolding hostReply matchedOf
-      host-failed o = host-asks _ b (asked-failed t kind m f p c (hostReply client n c) _ b b status start end e o (step-give (tableIn t) (stop 5) c b))
-
-      pub host-addresses : (status ≡ 2 → ⊥) → (s : List ℕ) → s ≡ part t start end → (r : Stepped) → r ≡ matchAnswer (anyMatches client n (itemsOf s)) c
-          → SaysStep (run (tableIn t) (askHost client n d c)) r b b
-      unfolding hostReply
-      host-addresses o s at r j =
-          host-asks r b
-          (asked-items t kind m f p c (hostReply client n c) r b b status start end e o s at (rw j (match-says (tableIn t) (anyMatches client n (itemsOf s)) c b)))
+  pub host-named : (length d ≡ 2 → ⊥) → (m : List ℕ) → m ≡ drop 2 d → (r : Stepped) (a : List ℕ) → SaysStep (run (tableIn t) (askA client n c m)) r b a
+      → SaysStep (run (tableIn t) (askHost client n d c)) r b a
+  unfolding askHost
+  host-named k m em r a w = rw (ne-eqb (length d) 2 k, ← em) w
 
 -- `ask_name`
 module _ (client : Address) (t d m : List ℕ) (c : Counts) (b : List ℕ) (kind : ℕ) (ek : kind ≡ addressKind client) (f : Found) (p : f ≡ findAt t kind d) where
@@ -198,24 +183,35 @@ module _ (client : Address) (t d m : List ℕ) (c : Counts) (b : List ℕ) (kind
   unfolding askName
   name-missing e r a w = rw (← ek) (asked-missing t kind d f p c (nameReply client m c d) r b a e w)
 
-  module _ (status start end : ℕ) (e : f ≡ Found.Entry status start end) (s : List ℕ) (at : s ≡ part t start end) (u : Bool) (eu : u ≡ includesClient client (replyBy status (itemsOf s))) where
-    name-asks : (r : Stepped) (a : List ℕ) → SaysStep (run (tableIn t) (matched (u && atOrBelow d m) c)) r b a
-        → SaysStep (run (tableIn t) (askName client m d c)) r b a
-    unfolding askName nameReply
-    name-asks r a w = rw (← ek, run-entry t kind d f p c (nameReply client m c d) status start end e, ← at, ← eu) w
+  module _ (status start end : ℕ) (e : f ≡ Found.Entry status start end) where
+    pub name-failed : status ≡ 2 → SaysStep (run (tableIn t) (askName client m d c)) (record { matched = Matched.No; counts = c }) b b
+    unfolding askName nameReply matchedOf
+    name-failed h = rw (← ek) (asked-failed t kind d f p c (nameReply client m c d) _ b b status start end e h (step-give (tableIn t) no c b))
 
-    pub name-invalid : u ≡ false → SaysStep (run (tableIn t) (askName client m d c)) (record { matched = Matched.No; counts = c }) b b
-    unfolding matchedOf
-    name-invalid h = name-asks _ b (rw h (step-give (tableIn t) no c b))
+    module _ (h : status ≡ 2 → ⊥) (s : List ℕ) (at : s ≡ part t start end) where
+      abbrev test : Bool
+      test = includesClient client (items (itemsOf s)) && atOrBelow d m
 
-    module _ (h : u ≡ true) (v : Bool) (ev : v ≡ atOrBelow d m) where
-      pub name-matches : v ≡ true → SaysStep (run (tableIn t) (askName client m d c)) (record { matched = Matched.Yes; counts = c }) b b
-      unfolding matchedOf
-      name-matches k = name-asks _ b (rw (h, ← ev, k) (step-give (tableIn t) yes c b))
+      pub name-void : length s ≡ 0 → (r : Stepped) → r ≡ voidAnswer c → SaysStep (run (tableIn t) (askName client m d c)) r b b
+      unfolding askName nameReply
+      name-void k r j = rw (← ek) (asked-void t kind d f p c (nameReply client m c d) r b b status start end e h s at (matched test c) refl k j refl)
 
-      pub name-elsewhere : v ≡ false → SaysStep (run (tableIn t) (askName client m d c)) (record { matched = Matched.No; counts = c }) b b
-      unfolding matchedOf
-      name-elsewhere k = name-asks _ b (rw (h, ← ev, k) (step-give (tableIn t) no c b))
+      module _ (k : length s ≡ 0 → ⊥) (v : Bool) (ev : v ≡ atOrBelow d m) where
+        name-some : (r : Stepped) → SaysStep (run (tableIn t) (matched (v && includesClient client (items (itemsOf s))) c)) r b b
+            → SaysStep (run (tableIn t) (askName client m d c)) r b b
+        unfolding askName nameReply
+        name-some r w =
+            rw (← ek) (asked-some t kind d f p c (nameReply client m c d) r b b status start end e h s at (matched test c) refl k
+            (rw (and-comm (includesClient client (items (itemsOf s))) (atOrBelow d m), ← ev) w))
+
+        pub name-below : v ≡ true → (n : ℕ) → n ≡ width client → (r : Stepped) → r ≡ matchAnswer (anyMatches client n (itemsOf s)) c
+            → SaysStep (run (tableIn t) (askName client m d c)) r b b
+        unfolding includesClient
+        name-below o n en r j = name-some r (rw (o, j, en) (match-says (tableIn t) (anyMatches client (width client) (itemsOf s)) c b))
+
+        pub name-elsewhere : v ≡ false → SaysStep (run (tableIn t) (askName client m d c)) (record { matched = Matched.No; counts = c }) b b
+        unfolding matchedOf
+        name-elsewhere o = name-some _ (rw o (step-give (tableIn t) no c b))
 
 -- `ask_pointers`
 module _ (client : Address) (t d m : List ℕ) (c : Counts) (b : List ℕ) (f : Found) (p : f ≡ findAt t 12 d) where

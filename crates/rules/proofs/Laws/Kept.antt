@@ -8,7 +8,7 @@ use native.Mathlib.Omega.{arith}
 use mathlib.Core.Path.{_≡_, refl}
 use mathlib.Core.List.{List, [], _∷_}
 use mathlib.Core.Bool.{Bool, true, cond, _&&_}
-use lib.ListN.{length}
+use lib.ListN.{length, drop}
 use lib.Dec.{ltb, leb, eqb}
 use borrow.Author.Tests.{ltb-true, leb-true, eqb-true, eqb-false}
 use Rattle.text.specs.Bytes.{isPrintable}
@@ -32,7 +32,7 @@ use Rattle.rules.specs.Tree.{Reply, failed, items, Table, Check}
 use Rattle.rules.proofs.Laws.Alike.{Alike, alike-give, alike-ask, alike-cond, alike-bind}
 use Rattle.rules.proofs.Laws.Reversed.{reversed-ok}
 use Rattle.rules.proofs.Laws.Askable.{NamingOk, question-ok, ReplyFits, Fitting, names-ok, host-ok, hosts-ok}
-use Rattle.rules.specs.Mechanisms.{Mail, Match, yes, no, stop, Step, step, matched, addressKind, includesClient, anyMatches, withValid, validated, namesOf, givesChosen, pReply, pValue, givesExpansion, expanded, givesName, target, targetOr, most-lookups, most-voids, most-hosts, begun, voided, counting, atTarget, targetStep, countedStep, orVoid, onMatch, untilMatch, aReply, askA, aStep, existsReply, askExists, existsStep, byPreference, hostReply, askHost, mxItems, mxReply, askMx, mxStep, nameReply, askName, ptrReply, askPtr, ptrStep}
+use Rattle.rules.specs.Mechanisms.{Mail, Match, yes, no, stop, Step, step, matched, addressKind, includesClient, anyMatches, withValid, validated, namesOf, givesChosen, pReply, pValue, givesExpansion, expanded, givesName, target, targetOr, most-lookups, most-voids, most-hosts, begun, voided, counting, atTarget, targetStep, countedStep, orVoid, onMatch, untilMatch, aReply, askA, aStep, existsReply, askExists, existsStep, byPreference, askHost, mxItems, mxReply, askMx, mxStep, nameReply, askName, ptrReply, askPtr, ptrStep}
 use Rattle.rules.specs.Evaluation.{Failing, Result, ended, Sub, includeMatch, checkTarget, begunCheck, includeOf, includeStep, having, lengthFor, networkStep, plainStep, mechanismStep, termStep, signResult, modifierOf, failingAt, signed, noneIsPermerror, redirectOf, noMatch, matchResult, afterStep, tryTerms, termsOf, readOutcome, Selection, ends, one, textReply, recordLookup, afterLookup, checkName, check, givesShown, explained, explainReply, explainName, explanation, most-text, shown}
 
 -- the counts k of a question, or of a term that lets the check go on, after the counts c: none falls, and none that was within its bound passes it
@@ -216,22 +216,30 @@ module _ (t : Table) (Sound : Type 0) (fits : Sound → Fitting t) (c : Counts) 
     orVoid-fine [] h = alike-cond (ltb (k .voids) most-voids) (λ e. alike-give (bounded-voided b (ltb-true (k .voids) most-voids e))) (λ _. alike-give (third b))
     orVoid-fine (d ∷ ds) h = h
 
-    -- a host of mx and a name of ptr
+    -- what a asks of a name, a host of mx and a name of ptr
     module _ (client : Address) where
-      host-fine : (n : ℕ) (d : List ℕ) → (Sound → isItem 15 d ≡ true) → Fine (StepKept c) (askHost client n d k)
-      unfolding askHost hostReply
-      host-fine n d h = alike-cond (eqb (length d) 2) (λ _. step-fine no) (λ e. alike-ask (asked (of-address client) (λ s. host-ok d (h s) e)) (λ r _. reply r))
+      askA-fine : (n : ℕ) (m : List ℕ) → Askable m → Fine (StepKept c) (askA client n k m)
+      unfolding askA aReply
+      askA-fine n m h = alike-ask (asked (of-address client) h) (λ r _. reply r)
         where
-          reply : (r : Reply) → Fine (StepKept c) (hostReply client n k r)
+          reply : (r : Reply) → Fine (StepKept c) (aReply client n k r)
           reply failed = step-fine (stop 5)
-          reply (items ds) = matched-fine (anyMatches client n ds)
+          reply (items ds) = orVoid-fine ds (matched-fine (anyMatches client n ds))
 
-      name-fine : (m n : List ℕ) → Askable n → Fine (StepKept c) (askName client m n k)
+      pub host-fine : (n : ℕ) (d : List ℕ) → (Sound → isItem 15 d ≡ true) → Fine (StepKept c) (askHost client n d k)
+      unfolding askHost
+      host-fine n d h = alike-cond (eqb (length d) 2) (λ _. step-fine no) (λ e. askA-fine n (drop 2 d) (λ s. host-ok d (h s) e))
+
+      pub name-fine : (m n : List ℕ) → Askable n → Fine (StepKept c) (askName client m n k)
       unfolding askName nameReply
-      name-fine m n h = alike-ask (asked (of-address client) h) (λ r _. matched-fine (includesClient client r && atOrBelow n m))
+      name-fine m n h = alike-ask (asked (of-address client) h) (λ r _. reply r)
+        where
+          reply : (r : Reply) → Fine (StepKept c) (nameReply client m k n r)
+          reply failed = step-fine no
+          reply (items ds) = orVoid-fine ds (matched-fine (includesClient client (items ds) && atOrBelow n m))
 
   -- the hosts of mx and the names of ptr
-  hosts-fine : (client : Address) (n : ℕ) (ds : List (List ℕ)) → (Sound → all (isItem 15) ds ≡ true)
+  pub hosts-fine : (client : Address) (n : ℕ) (ds : List (List ℕ)) → (Sound → all (isItem 15) ds ≡ true)
       → (k : Counts) → Bounded c k → Fine (StepKept c) (untilMatch (askHost client n) ds k)
   hosts-fine client n ds h = untilMatch-fine (isItem 15) (askHost client n) (λ d q k b. host-fine k b client n d q) ds h
 
@@ -240,16 +248,8 @@ module _ (t : Table) (Sound : Type 0) (fits : Sound → Fitting t) (c : Counts) 
   names-fine client m ns h = untilMatch-fine isTableName (askName client m) (λ n q k b. name-fine k b client m n q) ns h
 
   module _ (k : Counts) (b : Bounded c k) where
-    -- what a, exists, mx and ptr ask of a name m
+    -- what exists, mx and ptr ask of a name m
     module _ (client : Address) (m : List ℕ) (h : Askable m) where
-      askA-fine : (n : ℕ) → Fine (StepKept c) (askA client n k m)
-      unfolding askA aReply
-      askA-fine n = alike-ask (asked k b (of-address client) h) (λ r _. reply r)
-        where
-          reply : (r : Reply) → Fine (StepKept c) (aReply client n k r)
-          reply failed = step-fine k b (stop 5)
-          reply (items ds) = orVoid-fine k b ds (matched-fine k b (anyMatches client n ds))
-
       askExists-fine : Fine (StepKept c) (askExists k m)
       unfolding askExists existsReply
       askExists-fine = alike-ask (asked k b of-a h) (λ r _. reply r)
@@ -320,7 +320,7 @@ module _ (t : Table) (Sound : Type 0) (fits : Sound → Fitting t) (c : Counts) 
   unfolding plainStep aStep mxStep ptrStep existsStep
   plain-fine mail d h x k b =
       alike-cond (same (x .name) (bytes "all")) (λ _. step-fine k b yes)
-      (λ _. alike-cond (same (x .name) (bytes "a")) (λ _. having-fine k b (lengthFor client x) (λ n. asks (x .argument) (λ k b m q. askA-fine k b client m q n)))
+      (λ _. alike-cond (same (x .name) (bytes "a")) (λ _. having-fine k b (lengthFor client x) (λ n. asks (x .argument) (λ k b m q. askA-fine k b client n m q)))
       (λ _. alike-cond (same (x .name) (bytes "mx")) (λ _. having-fine k b (lengthFor client x) (λ n. asks (x .argument) (λ k b m q. askMx-fine k b client m q n)))
       (λ _. alike-cond (same (x .name) (bytes "ptr")) (λ _. asks (x .argument) (λ k b m q. askPtr-fine k b client m q))
       (λ _. alike-cond (same (x .name) (bytes "exists")) (λ _. having-fine k b (x .argument) (λ spec. asks (present spec) (λ k b m q. askExists-fine k b client m q)))

@@ -64,7 +64,7 @@ pub begins-grows : (t : Table) (mail : Mail) (d : List ℕ) (all-terms : List Pl
     → Begins t mail (whole mail) d all-terms ts c e k → (c .lookups < k .lookups) × (k .lookups ≤ 10)
 begins-grows t mail d all-terms (past-term {x = x} {c = c} {l = l} m b) =
     let r = begins-grows t mail d all-terms b in
-    (omega (arith, no-bounded t mail d (x .said) (x .said .sign) c l m .lookups-grow, r .0), r .1)
+    (omega (arith, no-bounded t c l mail d (x .said) (x .said .sign) m .lookups-grow, r .0), r .1)
 begins-grows t mail d all-terms (by-include n g a h q) = (omega arith, omega (arith, h))
 begins-grows t mail d all-terms (by-redirect r h q) = (omega arith, omega (arith, h))
 

@@ -1,5 +1,5 @@
 -- `mechanism_lookups::names::ask_names` meets its contract. From the laws of Loops.
-use Rattle.mechanism_lookups.proofs.Laws.Loops.{Names, names-start, names-next, names-stay, names-ten, names-end}
+use Rattle.mechanism_lookups.proofs.Laws.Loops.{Names, names-start, names-next, names-stay, names-ten, names-end, names-few}
 use native.Mathlib.Omega.{arith}
 use Rattle.answer_table.proofs.Laws.Items.{next-less}
 use Prim.Native.Nat.{_-_}
@@ -27,7 +27,7 @@ item-requires : tie.Need-item-requires Inv-loop μ-loop
 item-requires c κs = search needs
 
 ask-name-requires : tie.Need-ask-name-requires Inv-loop μ-loop
-ask-name-requires c κs = search needs
+ask-name-requires c κs = search names-few
 
 enum-told : tie.Need-enum-told Inv-loop μ-loop
 enum-told c = search needs
