@@ -51,7 +51,7 @@ client 203.0.113.9
   A mail.example.com
   A gone.example.com
   TXT why.example.com
-  fail, lookups 2, voids 0
+  fail, lookups 2, voids 1
   the domain example.com explains: 203.0.113.9 may not send mail for example.com
 client 2001:db8::1
   TXT example.com
@@ -60,7 +60,7 @@ client 2001:db8::1
   AAAA mail.example.com
   AAAA gone.example.com
   TXT why.example.com
-  fail, lookups 2, voids 0
+  fail, lookups 2, voids 2
   the domain example.com explains: 2001:db8:0:0:0:0:0:1 may not send mail for example.com
 END
 diff "$dir/expected" "$dir/printed"
