@@ -1,16 +1,22 @@
--- The code's answers for a question without an entry, for a void question and for a test.
+-- The code's answers for a question without an entry, for a void question and for a test; and what an answer says of a question, for any use of it.
 use Prim.Native.Nat.{ℕ}
 use mathlib.Core.Path.{_≡_}
 use mathlib.Core.List.{List}
 use mathlib.Core.Bool.{Bool, cond}
 use lib.Dec.{ltb}
 use lib.ListN.{length}
+use Rattle.text.specs.Bytes.{part}
 use Rattle.text.specs.Writing.{overwritten}
+use Rattle.answer_table.specs.Reader.{itemsOf}
 use Rattle.rules.specs.declared.Counts.{Counts}
 use Rattle.rules.specs.declared.Ending.{Ending}
 use Rattle.rules.specs.declared.Matched.{Matched}
 use Rattle.rules.specs.declared.Stepped.{Stepped}
-use Rattle.rules.specs.Mechanisms.{most-voids, voided}
+use Rattle.rules.specs.Tree.{Check, settled, run}
+use Rattle.rules.specs.Tables.{tableIn}
+use Rattle.rules.specs.Mechanisms.{Match, Step, most-voids, voided, ownQuestion}
+use Rattle.rules.specs.Outcomes.{SaysStep}
+use Rattle.mechanism_lookups.specs.declared.Asked.{Asked}
 
 -- a question without an entry: its kind, its name's length and the counts so far, and its name at the front of the buffer
 pub record Unanswered (kind : ℕ) (name : List ℕ) (c : Counts) (r : Stepped) (before after : List ℕ) : Type 0 where
@@ -24,3 +30,15 @@ voidAnswer c = record { matched = cond (ltb (c .voids) most-voids) Matched.No (M
 -- a test: it matches or not
 abbrev pub matchAnswer : Bool → Counts → Stepped
 matchAnswer test c = cond test (record { matched = Matched.Yes; counts = c }) (record { matched = Matched.No; counts = c })
+
+-- a fact of a question for any use of it: whatever a failed answer gives, and whatever becomes of the items
+abbrev pub ForAnyUse : (Match → (List (List ℕ) → Check Step) → Type 0) → Type 0
+ForAnyUse P = (m : Match) (rest : List (List ℕ) → Check Step) → P m rest
+
+-- what an answer says of the question of a kind and a name, with the table's bytes t and the counts c: the step that it ends in, that it failed, or where
+-- its items stand
+unfoldable pub AskedIs : (t : List ℕ) → Counts → (kind : ℕ) → (name before after : List ℕ) → Asked → Type 0
+AskedIs t c kind n b a (Asked.Ended r) = ForAnyUse (λ m rest. SaysStep (run (tableIn t) (ownQuestion m c kind n rest)) r b a)
+AskedIs t c kind n b a Asked.Failed = (a ≡ b) × ForAnyUse (λ m rest. run (tableIn t) (ownQuestion m c kind n rest) ≡ settled (record { match = m; counts = c }))
+AskedIs t c kind n b a (Asked.Items start end) =
+    (a ≡ b) × ForAnyUse (λ m rest. run (tableIn t) (ownQuestion m c kind n rest) ≡ run (tableIn t) (rest (itemsOf (part t start end))))

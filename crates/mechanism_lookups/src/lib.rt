@@ -1,13 +1,13 @@
 // The questions of a, mx, ptr and exists once their target is known, and whether their answers match.
 ghost use Prim.Native.Nat.{_≤_};
 ghost use mathlib.Core.Path.{_≡_};
-ghost use Rattle.rules.specs.Tree.{run, ask};
+ghost use lib.ListN.{take};
+ghost use Rattle.rules.specs.Tree.{run};
 ghost use Rattle.rules.specs.Tables.{tableIn};
-ghost use Rattle.rules.specs.Mechanisms.{askA, askExists, askMx, ptrReply, askPtr};
+ghost use Rattle.rules.specs.Mechanisms.{no, ownQuestion, askA, askExists, askMx, most-names, askNames, askPtr};
 ghost use Rattle.rules.specs.Outcomes.{SaysStep};
 ghost use Rattle.mechanism_lookups.specs.Steps.{matchAnswer};
 use address::Address;
-use answer_table::Found;
 use rules::Counts;
 use rules::Ending;
 use rules::Matched;
@@ -17,6 +17,13 @@ use text::bytes;
 mod hosts;
 mod names;
 mod replies;
+
+// What a question comes to: a step, for want of an entry or of items; a failed answer; or items, which stand in the table from a place to another.
+enum Asked {
+    Ended(Stepped),
+    Failed,
+    Items { start: usize, end: usize },
+}
 
 // What is known once a test is made: whether it matches, with the counts as they are.
 pub fn matched(test: bool, counts: Counts) -> Stepped
@@ -46,21 +53,16 @@ pub fn ask_a(
     requires { ⌜ counts .voids ≤ 2 ⌝ }
     ensures { λ r. ⌜ SaysStep (run (tableIn (now (table .entry))) (askA client length counts (now (name .entry)))) r (now (out .entry)) (now (out .exit)) ⌝ }
 {
-    let kind = client_match::address_kind(client);
-    let Found::Entry { status, start, end } = answer_table::find(table, kind, name) else {
-        return replies::missing(kind, name, counts, out);
-    };
-    if status == 2 {
-        return Stepped {
+    match replies::ask(table, client_match::address_kind(client), name, counts, out) {
+        Asked::Ended(stepped) => stepped,
+        Asked::Failed => Stepped {
             matched: Matched::Stop(Ending::Result(5)),
             counts,
-        };
+        },
+        Asked::Items { start, end } => {
+            replies::addresses(client, length, bytes::part(table, start, end), counts)
+        }
     }
-    let addresses = bytes::part(table, start, end);
-    if addresses.len() == 0 {
-        return replies::void(counts);
-    }
-    replies::addresses(client, length, addresses, counts)
 }
 
 // exists: always the A question.
@@ -68,22 +70,16 @@ pub fn ask_exists(table: &[u8], name: &[u8], counts: Counts, out: &mut [u8]) -> 
     requires { ⌜ counts .voids ≤ 2 ⌝ }
     ensures { λ r. ⌜ SaysStep (run (tableIn (now (table .entry))) (askExists counts (now (name .entry)))) r (now (out .entry)) (now (out .exit)) ⌝ }
 {
-    let Found::Entry { status, start, end } = answer_table::find(table, 1, name) else {
-        return replies::missing(1, name, counts, out);
-    };
-    if status == 2 {
-        return Stepped {
+    match replies::ask(table, 1, name, counts, out) {
+        Asked::Ended(stepped) => stepped,
+        Asked::Failed => Stepped {
             matched: Matched::Stop(Ending::Result(5)),
             counts,
-        };
-    }
-    let items = bytes::part(table, start, end);
-    if items.len() == 0 {
-        return replies::void(counts);
-    }
-    Stepped {
-        matched: Matched::Yes,
-        counts,
+        },
+        Asked::Items { start: _, end: _ } => Stepped {
+            matched: Matched::Yes,
+            counts,
+        },
     }
 }
 
@@ -99,26 +95,23 @@ pub fn ask_mx(
     requires { ⌜ counts .voids ≤ 2 ⌝ }
     ensures { λ r. ⌜ SaysStep (run (tableIn (now (table .entry))) (askMx client length counts (now (name .entry)))) r (now (out .entry)) (now (out .exit)) ⌝ }
 {
-    let Found::Entry { status, start, end } = answer_table::find(table, 15, name) else {
-        return replies::missing(15, name, counts, out);
-    };
-    if status == 2 {
-        return Stepped {
+    match replies::ask(table, 15, name, counts, out) {
+        Asked::Ended(stepped) => stepped,
+        Asked::Failed => Stepped {
             matched: Matched::Stop(Ending::Result(5)),
             counts,
-        };
+        },
+        Asked::Items { start, end } => {
+            hosts::ask_items(
+                client,
+                length,
+                table,
+                bytes::part(table, start, end),
+                counts,
+                out,
+            )
+        }
     }
-    let items = bytes::part(table, start, end);
-    if items.len() == 0 {
-        return replies::void(counts);
-    }
-    if 10 < hosts::count(items) {
-        return Stepped {
-            matched: Matched::Stop(Ending::Result(6)),
-            counts,
-        };
-    }
-    hosts::ask_hosts(client, length, table, items, counts, out)
 }
 
 // ptr, with the name that has the client's names.
@@ -131,22 +124,25 @@ fn ask_pointers(
     out: &mut [u8],
 ) -> Stepped
     requires { ⌜ counts .voids ≤ 2 ⌝ }
-    ensures { λ r. ⌜ SaysStep (run (tableIn (now (table .entry))) (ask 12 (now (name .entry)) counts (ptrReply client (now (target .entry)) counts))) r (now (out .entry)) (now (out .exit)) ⌝ }
+    ensures { λ r. ⌜ SaysStep (run (tableIn (now (table .entry))) (ownQuestion no counts 12 (now (name .entry)) (λ ds. askNames client (now (target .entry)) (take most-names ds) counts))) r (now (out .entry)) (now (out .exit)) ⌝ }
 {
-    let Found::Entry { status, start, end } = answer_table::find(table, 12, name) else {
-        return replies::missing(12, name, counts, out);
-    };
-    if status == 2 {
-        return Stepped {
+    match replies::ask(table, 12, name, counts, out) {
+        Asked::Ended(stepped) => stepped,
+        Asked::Failed => Stepped {
             matched: Matched::No,
             counts,
-        };
+        },
+        Asked::Items { start, end } => {
+            names::ask_names(
+                client,
+                table,
+                bytes::part(table, start, end),
+                target,
+                counts,
+                out,
+            )
+        }
     }
-    let items = bytes::part(table, start, end);
-    if items.len() == 0 {
-        return replies::void(counts);
-    }
-    names::ask_names(client, table, items, target, counts, out)
 }
 
 // ptr: the client's names, validated; `target` is the name that one of them must be or be below.

@@ -1,17 +1,20 @@
-// What a question comes to: no answer yet, a void answer, addresses.
+// What a question of a, mx, ptr or exists comes to: no answer yet, a failed one, a void one, or items.
 ghost use Prim.Native.Nat.{_≤_};
 ghost use mathlib.Core.Path.{_≡_};
 ghost use Rattle.answer_table.specs.Reader.{itemsOf};
 ghost use Rattle.rules.specs.Mechanisms.{anyMatches};
-ghost use Rattle.mechanism_lookups.specs.Steps.{Unanswered, voidAnswer, matchAnswer};
+ghost use Rattle.mechanism_lookups.specs.Steps.{Unanswered, voidAnswer, matchAnswer, AskedIs};
+use crate::Asked;
 use address::Address;
+use answer_table::Found;
 use rules::Counts;
 use rules::Ending;
 use rules::Matched;
 use rules::Stepped;
+use text::bytes;
 
 // A question without an entry: its name is written.
-pub fn missing(kind: u16, name: &[u8], counts: Counts, out: &mut [u8]) -> Stepped
+fn missing(kind: u16, name: &[u8], counts: Counts, out: &mut [u8]) -> Stepped
     ensures { λ r. ⌜ Unanswered kind (now (name .entry)) counts r (now (out .entry)) (now (out .exit)) ⌝ }
 {
     client_match::want(name, out);
@@ -25,7 +28,7 @@ pub fn missing(kind: u16, name: &[u8], counts: Counts, out: &mut [u8]) -> Steppe
 }
 
 // A void answer is counted, and the third ends the check.
-pub fn void(counts: Counts) -> Stepped
+fn void(counts: Counts) -> Stepped
     requires { ⌜ counts .voids ≤ 2 ⌝ }
     ensures { λ r. ⌜ r ≡ voidAnswer counts ⌝ }
 {
@@ -43,6 +46,23 @@ pub fn void(counts: Counts) -> Stepped
         matched: Matched::Stop(Ending::Result(6)),
         counts: after,
     }
+}
+
+// Asks a question: without an entry its name is written, and a void answer is counted.
+pub fn ask(table: &[u8], kind: u16, name: &[u8], counts: Counts, out: &mut [u8]) -> Asked
+    requires { ⌜ counts .voids ≤ 2 ⌝ }
+    ensures { λ r. ⌜ AskedIs (now (table .entry)) counts kind (now (name .entry)) (now (out .entry)) (now (out .exit)) r ⌝ }
+{
+    let Found::Entry { status, start, end } = answer_table::find(table, kind, name) else {
+        return Asked::Ended(missing(kind, name, counts, out));
+    };
+    if status == 2 {
+        return Asked::Failed;
+    }
+    if bytes::part(table, start, end).len() == 0 {
+        return Asked::Ended(void(counts));
+    }
+    Asked::Items { start, end }
 }
 
 // Whether any address of an answer matches the client.

@@ -172,12 +172,20 @@ targetStep mail d spec go c = bind (targetOr mail d spec c) (atTarget (go c) c)
 unfoldable pub countedStep : Mail → List ℕ → Optional (List ℕ) → (Counts → List ℕ → Check Step) → Counts → Check Step
 countedStep mail d spec go c = counting (step (stop result-permerror)) (targetStep mail d spec go) c
 
--- "A void answer is status 3, or 0 without items" (an entry of status 3 has none); "each a, mx, ptr or exists counts the void answer to its own first
--- question, none of p's, and the third gives permerror at once". W-204 amends the house rules: "Address questions of mx and ptr now count as well, in the
--- order asked; p's don't. The third still gives permerror at once, ptr included."
-unfoldable pub orVoid : Counts → List (List ℕ) → Check Step → Check Step
-orVoid c [] rest = cond (ltb (c .voids) most-voids) (step no (voided c)) (step (stop result-permerror) (voided c))
-orVoid c (d ∷ ds) rest = rest
+-- "A void answer is status 3, or 0 without items" (an entry of status 3 has none); it counts, "and the third gives permerror at once"
+unfoldable pub voidStep : Counts → Check Step
+voidStep c = cond (ltb (c .voids) most-voids) (step no (voided c)) (step (stop result-permerror) (voided c))
+
+-- A question of a, mx, ptr or exists: what a failed answer gives, a void answer, and what becomes of the items otherwise. "each a, mx, ptr or exists counts
+-- the void answer to its own first question, none of p's". W-204 amends the house rules: "Address questions of mx and ptr now count as well, in the order
+-- asked; p's don't. The third still gives permerror at once, ptr included."
+unfoldable pub ownReply : Match → Counts → (List (List ℕ) → Check Step) → Reply → Check Step
+ownReply m c rest failed = step m c
+ownReply m c rest (items []) = voidStep c
+ownReply m c rest (items (d ∷ ds)) = rest (d ∷ ds)
+
+abbrev pub ownQuestion : Match → Counts → ℕ → List ℕ → (List (List ℕ) → Check Step) → Check Step
+ownQuestion m c kind n rest = ask kind n c (ownReply m c rest)
 
 abbrev pub matched : Bool → Counts → Check Step
 matched t c = cond t (step yes c) (step no c)
@@ -197,23 +205,15 @@ untilMatch f [] c = step no c
 untilMatch f (x ∷ xs) c = bind (f x c) (ifNoMatch (untilMatch f xs))
 
 -- a: "the address question of the client's family"; "A failed question gives temperror."
-unfoldable pub aReply : Address → ℕ → Counts → Reply → Check Step
-aReply client n c failed = step (stop result-temperror) c
-aReply client n c (items ds) = orVoid c ds (matched (anyMatches client n ds) c)
-
-unfoldable pub askA : Address → ℕ → Counts → List ℕ → Check Step
-askA client n c m = ask (addressKind client) m c (aReply client n c)
+abbrev pub askA : Address → ℕ → Counts → List ℕ → Check Step
+askA client n c m = ownQuestion (stop result-temperror) c (addressKind client) m (λ ds. matched (anyMatches client n ds) c)
 
 unfoldable pub aStep : Mail → List ℕ → Optional (List ℕ) → ℕ → Counts → Check Step
 aStep mail d spec n c = countedStep mail d spec (askA (mail .client) n) c
 
 -- exists: "always A, matched by any item"
-unfoldable pub existsReply : Counts → Reply → Check Step
-existsReply c failed = step (stop result-temperror) c
-existsReply c (items ds) = orVoid c ds (step yes c)
-
-unfoldable pub askExists : Counts → List ℕ → Check Step
-askExists c m = ask kind-a m c (existsReply c)
+abbrev pub askExists : Counts → List ℕ → Check Step
+askExists c m = ownQuestion (stop result-temperror) c kind-a m (λ ds. step yes c)
 
 unfoldable pub existsStep : Mail → List ℕ → List ℕ → Counts → Check Step
 existsStep mail d spec c = countedStep mail d (present spec) askExists c
@@ -243,37 +243,24 @@ most-hosts = 10
 unfoldable pub mxItems : Address → ℕ → Counts → List (List ℕ) → Check Step
 mxItems client n c ds = cond (leb (length ds) most-hosts) (askHosts client n (byPreference ds) c) (step (stop result-permerror) c)
 
-unfoldable pub mxReply : Address → ℕ → Counts → Reply → Check Step
-mxReply client n c failed = step (stop result-temperror) c
-mxReply client n c (items ds) = orVoid c ds (mxItems client n c ds)
-
-unfoldable pub askMx : Address → ℕ → Counts → List ℕ → Check Step
-askMx client n c m = ask kind-mx m c (mxReply client n c)
+abbrev pub askMx : Address → ℕ → Counts → List ℕ → Check Step
+askMx client n c m = ownQuestion (stop result-temperror) c kind-mx m (mxItems client n c)
 
 unfoldable pub mxStep : Mail → List ℕ → Optional (List ℕ) → ℕ → Counts → Check Step
 mxStep mail d spec n c = countedStep mail d spec (askMx (mail .client) n) c
 
 -- ptr: "one is validated if its addresses include the client, and a validated name matches if it is the target or below it"; "a failed address
--- question skips its name"; W-204: a void answer counts. The name n and the target m.
-unfoldable pub nameReply : Address → List ℕ → Counts → List ℕ → Reply → Check Step
-nameReply client m c n failed = step no c
-nameReply client m c n (items ds) = orVoid c ds (matched (includesClient client (items ds) && atOrBelow n m) c)
-
-unfoldable pub askName : Address → List ℕ → List ℕ → Counts → Check Step
-askName client m n c = ask (addressKind client) n c (nameReply client m c n)
+-- question skips its name". The name n and the target m.
+abbrev pub askName : Address → List ℕ → List ℕ → Counts → Check Step
+askName client m n c = ownQuestion no c (addressKind client) n (λ ds. matched (includesClient client (items ds) && atOrBelow n m) c)
 
 -- "the first 10 names, asked in order until one matches"
 abbrev pub askNames : Address → List ℕ → List (List ℕ) → Counts → Check Step
 askNames client m ns c = untilMatch (askName client m) ns c
 
--- "A failed PTR question yields no names"; it is no void answer
-unfoldable pub ptrReply : Address → List ℕ → Counts → Reply → Check Step
-ptrReply client m c failed = step no c
-ptrReply client m c (items ds) = orVoid c ds (askNames client m (take most-names ds) c)
-
--- "the reversed name in `in-addr.arpa` or `ip6.arpa`"
-unfoldable pub askPtr : Address → Counts → List ℕ → Check Step
-askPtr client c m = ask kind-ptr (reversedName client) c (ptrReply client m c)
+-- "the reversed name in `in-addr.arpa` or `ip6.arpa`"; "A failed PTR question yields no names", and is no void answer
+abbrev pub askPtr : Address → Counts → List ℕ → Check Step
+askPtr client c m = ownQuestion no c kind-ptr (reversedName client) (λ ds. askNames client m (take most-names ds) c)
 
 unfoldable pub ptrStep : Mail → List ℕ → Optional (List ℕ) → Counts → Check Step
 ptrStep mail d spec c = countedStep mail d spec (askPtr (mail .client)) c

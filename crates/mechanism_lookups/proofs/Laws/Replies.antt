@@ -1,5 +1,5 @@
--- What a question of a, mx, ptr or exists comes to, by what the table has for it: a rule for each way out. From client_match's laws of questions,
--- the definitions of the mechanisms, and Inversions.
+-- What a question of a, mx, ptr or exists comes to, by what the table has for it, and each use of it by what `ask` answers: a rule for each way out. From
+-- client_match's laws of questions, the definitions of the mechanisms, and Inversions.
 use Prim.Native.Nat.{ℕ, _≤_, _<_}
 use mathlib.Core.Path.{_≡_, refl, ap, _∙_}
 use mathlib.Core.List.{List, []}
@@ -22,13 +22,14 @@ use Rattle.rules.specs.declared.Counts.{Counts}
 use Rattle.rules.specs.declared.Ending.{Ending}
 use Rattle.rules.specs.declared.Matched.{Matched}
 use Rattle.rules.specs.declared.Stepped.{Stepped}
-use Rattle.rules.specs.Tree.{Reply, failed, items, Table, Check, ask, run}
+use Rattle.rules.specs.Tree.{items, Table, Check, run}
 use Rattle.rules.specs.Tables.{tableIn}
-use Rattle.rules.specs.Mechanisms.{yes, no, stop, Step, step, addressKind, anyMatches, width, includesClient, most-voids, voided, orVoid, matched, aReply, askA, existsReply, askExists, byPreference, askHost, askHosts, most-hosts, mxItems, mxReply, askMx, nameReply, askName, askNames, most-names, ptrReply, askPtr}
+use Rattle.rules.specs.Mechanisms.{Match, yes, no, stop, Step, step, addressKind, anyMatches, width, includesClient, most-voids, voided, voidStep, ownReply, ownQuestion, matched, askA, askExists, byPreference, askHost, askHosts, most-hosts, mxItems, askName, askNames, most-names, askPtr}
 use Rattle.rules.specs.Outcomes.{matchedOf, SaysStep}
 use Rattle.rules.proofs.Laws.Inversions.{step-give, step-wanted}
 use Rattle.client_match.proofs.Laws.Asked.{run-missing, run-failed, run-items}
-use Rattle.mechanism_lookups.specs.Steps.{Unanswered, voidAnswer, matchAnswer}
+use Rattle.mechanism_lookups.specs.Steps.{Unanswered, voidAnswer, matchAnswer, AskedIs}
+use Rattle.mechanism_lookups.specs.declared.Asked.{Asked}
 
 -- `missing`, `void`, `addresses`
 pub missing-says : (kind : ℕ) (d : List ℕ) (c : Counts) (b a : List ℕ) → a ≡ overwritten d b
@@ -53,9 +54,9 @@ unfolding matchedOf
 tests-void t true c b = step-give t no c b
 tests-void t false c b = step-give t (stop 6) c b
 
-void-says : (t : Table) (c : Counts) (rest : Check Step) (b : List ℕ) → SaysStep (run t (orVoid c [] rest)) (voidAnswer c) b b
-unfolding orVoid voidAnswer
-void-says t c rest b = tests-void t (ltb (c .voids) most-voids) (voided c) b
+void-says : (t : Table) (c : Counts) (b : List ℕ) → SaysStep (run t (voidStep c)) (voidAnswer c) b b
+unfolding voidStep voidAnswer
+void-says t c b = tests-void t (ltb (c .voids) most-voids) (voided c) b
 
 pub match-says : (t : Table) (u : Bool) (c : Counts) (b : List ℕ) → SaysStep (run t (matched u c)) (matchAnswer u c) b b
 unfolding matchedOf
@@ -66,104 +67,96 @@ match-says t false c b = step-give t no c b
 void-items : (s : List ℕ) → length s ≡ 0 → itemsOf s ≡ []
 void-items s h = ap itemsOf (drop-of-length-le s {i = 0} (omega arith)) ∙ of-none
 
-some-items : (s : List ℕ) → (length s ≡ 0 → ⊥) → (c : Counts) (rest : Check Step) → orVoid c (itemsOf s) rest ≡ rest
-unfolding orVoid
-some-items s h c rest = let p : 0 < length s = omega arith in rw (of-more s p)
+some-items : (s : List ℕ) → (length s ≡ 0 → ⊥) → (m : Match) (c : Counts) (rest : List (List ℕ) → Check Step) → ownReply m c rest (items (itemsOf s)) ≡ rest (itemsOf s)
+unfolding ownReply
+some-items s h m c rest = let p : 0 < length s = omega arith in rw (of-more s p)
 
--- a question by what was found
-module _ (t : List ℕ) (kind : ℕ) (d : List ℕ) (f : Found) (p : f ≡ findAt t kind d) (c : Counts) (g : Reply → Check Step) (r : Stepped) (b a : List ℕ) where
-  pub asked-missing : f ≡ Found.Missing → Unanswered kind d c r b a → SaysStep (run (tableIn t) (ask kind d c g)) r b a
-  asked-missing e w = rw (w .outcome) (step-wanted _ kind (length d) c b a (run-missing t kind d f p c g e b a (w .buffer)))
+-- `ask`: by what was found
+module _ (t : List ℕ) (kind : ℕ) (d : List ℕ) (f : Found) (p : f ≡ findAt t kind d) (c : Counts) (b : List ℕ) where
+  pub ask-missing : f ≡ Found.Missing → (r : Stepped) (a : List ℕ) → Unanswered kind d c r b a → AskedIs t c kind d b a (Asked.Ended r)
+  unfolding AskedIs
+  ask-missing e r a w m rest = rw (w .outcome) (step-wanted _ kind (length d) c b a (run-missing t kind d f p c (ownReply m c rest) e b a (w .buffer)))
 
   module _ (status start end : ℕ) (e : f ≡ Found.Entry status start end) where
-    asked-failed : status ≡ 2 → SaysStep (run (tableIn t) (g failed)) r b a → SaysStep (run (tableIn t) (ask kind d c g)) r b a
-    asked-failed h w = rw (run-failed t kind d f p c g status start end e h) w
+    pub ask-failed : status ≡ 2 → AskedIs t c kind d b b Asked.Failed
+    unfolding AskedIs ownReply run
+    ask-failed h = (refl, λ m rest. run-failed t kind d f p c (ownReply m c rest) status start end e h)
 
     module _ (h : status ≡ 2 → ⊥) (s : List ℕ) (at : s ≡ part t start end) where
-      asked-items : SaysStep (run (tableIn t) (g (items (itemsOf s)))) r b a → SaysStep (run (tableIn t) (ask kind d c g)) r b a
-      asked-items w = rw (run-items t kind d f p c g status start end e h, ← at) w
+      with-items : (m : Match) (rest : List (List ℕ) → Check Step) → run (tableIn t) (ownQuestion m c kind d rest) ≡ run (tableIn t) (ownReply m c rest (items (itemsOf s)))
+      with-items m rest = run-items t kind d f p c (ownReply m c rest) status start end e h ∙ rw at
 
-      -- its answer is void, or has items
-      module _ (rest : Check Step) (o : g (items (itemsOf s)) ≡ orVoid c (itemsOf s) rest) where
-        asked-some : (length s ≡ 0 → ⊥) → SaysStep (run (tableIn t) rest) r b a → SaysStep (run (tableIn t) (ask kind d c g)) r b a
-        asked-some k w = asked-items (rw (o, some-items s k c rest) w)
+      pub ask-void : length s ≡ 0 → (r : Stepped) → r ≡ voidAnswer c → AskedIs t c kind d b b (Asked.Ended r)
+      unfolding AskedIs ownReply
+      ask-void k r j m rest = rw (with-items m rest, void-items s k, j) (void-says (tableIn t) c b)
 
-        asked-void : length s ≡ 0 → r ≡ voidAnswer c → a ≡ b → SaysStep (run (tableIn t) (ask kind d c g)) r b a
-        asked-void k j same = asked-items (rw (o, void-items s k, j, same) (void-says (tableIn t) c rest b))
+      pub ask-items : (length s ≡ 0 → ⊥) → AskedIs t c kind d b b (Asked.Items start end)
+      unfolding AskedIs
+      ask-items k = (refl, λ m rest. with-items m rest ∙ ap (run (tableIn t)) (some-items s k m c rest) ∙ rw at)
 
--- `ask_a`
-module _ (client : Address) (n : ℕ) (t m : List ℕ) (c : Counts) (b : List ℕ) (kind : ℕ) (q : kind ≡ addressKind client) (f : Found) (p : f ≡ findAt t kind m) where
-  pub a-missing : f ≡ Found.Missing → (r : Stepped) (a : List ℕ) → Unanswered kind m c r b a → SaysStep (run (tableIn t) (askA client n c m)) r b a
-  unfolding askA
-  a-missing e r a w = rw (← q) (asked-missing t kind m f p c (aReply client n c) r b a e w)
+-- a question by what `ask` answers, for any use of it
+module _ (t : List ℕ) (c : Counts) (kind : ℕ) (d b a : List ℕ) (o : Asked) (w : AskedIs t c kind d b a o) (k : ℕ) (q : kind ≡ k) (rest : List (List ℕ) → Check Step) where
+  pub own-ended : (m : Match) (r : Stepped) → o ≡ Asked.Ended r → SaysStep (run (tableIn t) (ownQuestion m c k d rest)) r b a
+  unfolding AskedIs
+  own-ended m r e = rw (← q) ((rw e at w) m rest)
 
-  module _ (status start end : ℕ) (e : f ≡ Found.Entry status start end) where
-    pub a-failed : status ≡ 2 → SaysStep (run (tableIn t) (askA client n c m)) (record { matched = Matched.Stop (Ending.Result 5); counts = c }) b b
-    unfolding askA aReply matchedOf
-    a-failed h = rw (← q) (asked-failed t kind m f p c (aReply client n c) _ b b status start end e h (step-give (tableIn t) (stop 5) c b))
+  own-failed : (m : Match) → o ≡ Asked.Failed → SaysStep (run (tableIn t) (ownQuestion m c k d rest)) (record { matched = matchedOf m; counts = c }) b a
+  unfolding AskedIs run
+  own-failed m e = let v = rw e at w in rw (← q, v .1 m rest, v .0) (step-give (tableIn t) m c b)
 
-    module _ (h : status ≡ 2 → ⊥) (s : List ℕ) (at : s ≡ part t start end) (r : Stepped) where
-      pub a-void : length s ≡ 0 → r ≡ voidAnswer c → SaysStep (run (tableIn t) (askA client n c m)) r b b
-      unfolding askA aReply
-      a-void k j = rw (← q) (asked-void t kind m f p c (aReply client n c) r b b status start end e h s at (matched (anyMatches client n (itemsOf s)) c) refl k j refl)
+  pub own-temperror : o ≡ Asked.Failed → SaysStep (run (tableIn t) (ownQuestion (stop 5) c k d rest)) (record { matched = Matched.Stop (Ending.Result 5); counts = c }) b a
+  unfolding matchedOf
+  own-temperror = own-failed (stop 5)
 
-      pub a-some : (length s ≡ 0 → ⊥) → r ≡ matchAnswer (anyMatches client n (itemsOf s)) c → SaysStep (run (tableIn t) (askA client n c m)) r b b
-      unfolding askA aReply
-      a-some k j =
-          rw (← q) (asked-some t kind m f p c (aReply client n c) r b b status start end e h s at (matched (anyMatches client n (itemsOf s)) c) refl k
-          (rw j (match-says (tableIn t) (anyMatches client n (itemsOf s)) c b)))
+  pub own-skipped : o ≡ Asked.Failed → SaysStep (run (tableIn t) (ownQuestion no c k d rest)) (record { matched = Matched.No; counts = c }) b a
+  unfolding matchedOf
+  own-skipped = own-failed no
+
+  pub own-items : (m : Match) (start end : ℕ) → o ≡ Asked.Items start end → (s : List ℕ) → s ≡ part t start end
+      → (r : Stepped) (z : List ℕ) → SaysStep (run (tableIn t) (rest (itemsOf s))) r a z → SaysStep (run (tableIn t) (ownQuestion m c k d rest)) r b z
+  unfolding AskedIs
+  own-items m start end e s at r z y = let v = rw e at w in rw (← q, v .1 m rest, ← at, ← v .0) y
+
+-- its items are addresses
+module _ (t : List ℕ) (c : Counts) (kind : ℕ) (d b a : List ℕ) (o : Asked) (w : AskedIs t c kind d b a o) (client : Address) (q : kind ≡ addressKind client)
+    (start end : ℕ) (e : o ≡ Asked.Items start end) where
+  pub a-items : (s : List ℕ) → s ≡ part t start end → (n : ℕ) (r : Stepped) → r ≡ matchAnswer (anyMatches client n (itemsOf s)) c
+      → SaysStep (run (tableIn t) (askA client n c d)) r b a
+  a-items s at n r j =
+      own-items t c kind d b a o w (addressKind client) q _ (stop 5) start end e s at r a (rw j (match-says (tableIn t) (anyMatches client n (itemsOf s)) c a))
+
+  module _ (m : List ℕ) (v : Bool) (ev : v ≡ atOrBelow d m) where
+    name-items : (s : List ℕ) → s ≡ part t start end → (r : Stepped) → SaysStep (run (tableIn t) (matched (v && includesClient client (items (itemsOf s))) c)) r a a
+        → SaysStep (run (tableIn t) (askName client m d c)) r b a
+    name-items s at r y =
+        own-items t c kind d b a o w (addressKind client) q _ no start end e s at r a
+        (rw (and-comm (includesClient client (items (itemsOf s))) (atOrBelow d m), ← ev) y)
+
+    pub name-below : v ≡ true → (s : List ℕ) → s ≡ part t start end → (n : ℕ) → n ≡ width client → (r : Stepped)
+        → r ≡ matchAnswer (anyMatches client n (itemsOf s)) c → SaysStep (run (tableIn t) (askName client m d c)) r b a
+    unfolding includesClient
+    name-below h s at n en r j = name-items s at r (rw (h, j, en) (match-says (tableIn t) (anyMatches client (width client) (itemsOf s)) c a))
+
+    pub name-elsewhere : v ≡ false → SaysStep (run (tableIn t) (askName client m d c)) (record { matched = Matched.No; counts = c }) b a
+    unfolding matchedOf
+    name-elsewhere h = name-items _ refl _ (rw h (step-give (tableIn t) no c a))
 
 -- `ask_exists`
-module _ (t m : List ℕ) (c : Counts) (b : List ℕ) (f : Found) (p : f ≡ findAt t 1 m) where
-  pub exists-missing : f ≡ Found.Missing → (r : Stepped) (a : List ℕ) → Unanswered 1 m c r b a → SaysStep (run (tableIn t) (askExists c m)) r b a
-  unfolding askExists
-  exists-missing e r a w = asked-missing t 1 m f p c (existsReply c) r b a e w
+pub exists-items : (t : List ℕ) (c : Counts) (d b a : List ℕ) (o : Asked) → AskedIs t c 1 d b a o → (start end : ℕ) → o ≡ Asked.Items start end
+    → SaysStep (run (tableIn t) (askExists c d)) (record { matched = Matched.Yes; counts = c }) b a
+unfolding matchedOf
+exists-items t c d b a o w start end e = own-items t c 1 d b a o w 1 refl _ (stop 5) start end e _ refl _ a (step-give (tableIn t) yes c a)
 
-  module _ (status start end : ℕ) (e : f ≡ Found.Entry status start end) where
-    pub exists-failed : status ≡ 2 → SaysStep (run (tableIn t) (askExists c m)) (record { matched = Matched.Stop (Ending.Result 5); counts = c }) b b
-    unfolding askExists existsReply matchedOf
-    exists-failed h = asked-failed t 1 m f p c (existsReply c) _ b b status start end e h (step-give (tableIn t) (stop 5) c b)
+-- `ask_items`: too many, or not
+module _ (client : Address) (n : ℕ) (t s : List ℕ) (c : Counts) (b : List ℕ) (many : ℕ) (l : many ≡ length (itemsOf s)) where
+  pub items-many : 10 < many → SaysStep (run (tableIn t) (mxItems client n c (itemsOf s))) (record { matched = Matched.Stop (Ending.Result 6); counts = c }) b b
+  unfolding mxItems matchedOf
+  items-many h = let j : most-hosts < length (itemsOf s) = omega arith in rw (lt-leb (length (itemsOf s)) most-hosts j) (step-give (tableIn t) (stop 6) c b)
 
-    module _ (h : status ≡ 2 → ⊥) (s : List ℕ) (at : s ≡ part t start end) where
-      pub exists-void : length s ≡ 0 → (r : Stepped) → r ≡ voidAnswer c → SaysStep (run (tableIn t) (askExists c m)) r b b
-      unfolding askExists existsReply
-      exists-void k r j = asked-void t 1 m f p c (existsReply c) r b b status start end e h s at (step yes c) refl k j refl
-
-      pub exists-some : (length s ≡ 0 → ⊥) → SaysStep (run (tableIn t) (askExists c m)) (record { matched = Matched.Yes; counts = c }) b b
-      unfolding askExists existsReply matchedOf
-      exists-some k = asked-some t 1 m f p c (existsReply c) _ b b status start end e h s at (step yes c) refl k (step-give (tableIn t) yes c b)
-
--- `ask_mx`
-module _ (client : Address) (n : ℕ) (t m : List ℕ) (c : Counts) (b : List ℕ) (f : Found) (p : f ≡ findAt t 15 m) where
-  pub mx-missing : f ≡ Found.Missing → (r : Stepped) (a : List ℕ) → Unanswered 15 m c r b a → SaysStep (run (tableIn t) (askMx client n c m)) r b a
-  unfolding askMx
-  mx-missing e r a w = asked-missing t 15 m f p c (mxReply client n c) r b a e w
-
-  module _ (status start end : ℕ) (e : f ≡ Found.Entry status start end) where
-    pub mx-failed : status ≡ 2 → SaysStep (run (tableIn t) (askMx client n c m)) (record { matched = Matched.Stop (Ending.Result 5); counts = c }) b b
-    unfolding askMx mxReply matchedOf
-    mx-failed h = asked-failed t 15 m f p c (mxReply client n c) _ b b status start end e h (step-give (tableIn t) (stop 5) c b)
-
-    module _ (h : status ≡ 2 → ⊥) (s : List ℕ) (at : s ≡ part t start end) where
-      pub mx-void : length s ≡ 0 → (r : Stepped) → r ≡ voidAnswer c → SaysStep (run (tableIn t) (askMx client n c m)) r b b
-      unfolding askMx mxReply
-      mx-void k r j = asked-void t 15 m f p c (mxReply client n c) r b b status start end e h s at (mxItems client n c (itemsOf s)) refl k j refl
-
-      module _ (k : length s ≡ 0 → ⊥) (many : ℕ) (l : many ≡ length (itemsOf s)) where
-        pub mx-many : 10 < many → SaysStep (run (tableIn t) (askMx client n c m)) (record { matched = Matched.Stop (Ending.Result 6); counts = c }) b b
-        unfolding askMx mxReply mxItems matchedOf
-        mx-many o =
-            let j : most-hosts < length (itemsOf s) = omega arith in
-            asked-some t 15 m f p c (mxReply client n c) _ b b status start end e h s at (mxItems client n c (itemsOf s)) refl k
-            (rw (lt-leb (length (itemsOf s)) most-hosts j) (step-give (tableIn t) (stop 6) c b))
-
-        pub mx-hosts : many ≤ 10 → (r : Stepped) (a : List ℕ) → SaysStep (run (tableIn t) (askHosts client n (byPreference (itemsOf s)) c)) r b a
-            → SaysStep (run (tableIn t) (askMx client n c m)) r b a
-        unfolding askMx mxReply mxItems
-        mx-hosts o r a w =
-            let j : length (itemsOf s) ≤ most-hosts = omega arith in
-            asked-some t 15 m f p c (mxReply client n c) r b a status start end e h s at (mxItems client n c (itemsOf s)) refl k
-            (rw (le-leb (length (itemsOf s)) most-hosts j) w)
+  pub items-few : many ≤ 10 → (r : Stepped) (a : List ℕ) → SaysStep (run (tableIn t) (askHosts client n (byPreference (itemsOf s)) c)) r b a
+      → SaysStep (run (tableIn t) (mxItems client n c (itemsOf s))) r b a
+  unfolding mxItems
+  items-few h r a w = let j : length (itemsOf s) ≤ most-hosts = omega arith in rw (le-leb (length (itemsOf s)) most-hosts j) w
 
 -- `ask_host`
 module _ (client : Address) (n : ℕ) (t d : List ℕ) (c : Counts) (b : List ℕ) where
@@ -176,67 +169,11 @@ module _ (client : Address) (n : ℕ) (t d : List ℕ) (c : Counts) (b : List �
   unfolding askHost
   host-named k m em r a w = rw (ne-eqb (length d) 2 k, ← em) w
 
--- `ask_name`
-module _ (client : Address) (t d m : List ℕ) (c : Counts) (b : List ℕ) (kind : ℕ) (ek : kind ≡ addressKind client) (f : Found) (p : f ≡ findAt t kind d) where
-  pub name-missing : f ≡ Found.Missing → (r : Stepped) (a : List ℕ) → Unanswered kind d c r b a
-      → SaysStep (run (tableIn t) (askName client m d c)) r b a
-  unfolding askName
-  name-missing e r a w = rw (← ek) (asked-missing t kind d f p c (nameReply client m c d) r b a e w)
-
-  module _ (status start end : ℕ) (e : f ≡ Found.Entry status start end) where
-    pub name-failed : status ≡ 2 → SaysStep (run (tableIn t) (askName client m d c)) (record { matched = Matched.No; counts = c }) b b
-    unfolding askName nameReply matchedOf
-    name-failed h = rw (← ek) (asked-failed t kind d f p c (nameReply client m c d) _ b b status start end e h (step-give (tableIn t) no c b))
-
-    module _ (h : status ≡ 2 → ⊥) (s : List ℕ) (at : s ≡ part t start end) where
-      abbrev test : Bool
-      test = includesClient client (items (itemsOf s)) && atOrBelow d m
-
-      pub name-void : length s ≡ 0 → (r : Stepped) → r ≡ voidAnswer c → SaysStep (run (tableIn t) (askName client m d c)) r b b
-      unfolding askName nameReply
-      name-void k r j = rw (← ek) (asked-void t kind d f p c (nameReply client m c d) r b b status start end e h s at (matched test c) refl k j refl)
-
-      module _ (k : length s ≡ 0 → ⊥) (v : Bool) (ev : v ≡ atOrBelow d m) where
-        name-some : (r : Stepped) → SaysStep (run (tableIn t) (matched (v && includesClient client (items (itemsOf s))) c)) r b b
-            → SaysStep (run (tableIn t) (askName client m d c)) r b b
-        unfolding askName nameReply
-        name-some r w =
-            rw (← ek) (asked-some t kind d f p c (nameReply client m c d) r b b status start end e h s at (matched test c) refl k
-            (rw (and-comm (includesClient client (items (itemsOf s))) (atOrBelow d m), ← ev) w))
-
-        pub name-below : v ≡ true → (n : ℕ) → n ≡ width client → (r : Stepped) → r ≡ matchAnswer (anyMatches client n (itemsOf s)) c
-            → SaysStep (run (tableIn t) (askName client m d c)) r b b
-        unfolding includesClient
-        name-below o n en r j = name-some r (rw (o, j, en) (match-says (tableIn t) (anyMatches client (width client) (itemsOf s)) c b))
-
-        pub name-elsewhere : v ≡ false → SaysStep (run (tableIn t) (askName client m d c)) (record { matched = Matched.No; counts = c }) b b
-        unfolding matchedOf
-        name-elsewhere o = name-some _ (rw o (step-give (tableIn t) no c b))
-
--- `ask_pointers`
-module _ (client : Address) (t d m : List ℕ) (c : Counts) (b : List ℕ) (f : Found) (p : f ≡ findAt t 12 d) where
-  module _ (status start end : ℕ) (e : f ≡ Found.Entry status start end) where
-    pub ptr-failed : status ≡ 2 → SaysStep (run (tableIn t) (ask 12 d c (ptrReply client m c))) (record { matched = Matched.No; counts = c }) b b
-    unfolding ptrReply matchedOf
-    ptr-failed h = asked-failed t 12 d f p c (ptrReply client m c) _ b b status start end e h (step-give (tableIn t) no c b)
-
-    module _ (h : status ≡ 2 → ⊥) (s : List ℕ) (at : s ≡ part t start end) where
-      pub ptr-void : length s ≡ 0 → (r : Stepped) → r ≡ voidAnswer c → SaysStep (run (tableIn t) (ask 12 d c (ptrReply client m c))) r b b
-      unfolding ptrReply
-      ptr-void k r j = asked-void t 12 d f p c (ptrReply client m c) r b b status start end e h s at (askNames client m (take most-names (itemsOf s)) c) refl k j refl
-
-      pub ptr-names : (length s ≡ 0 → ⊥) → (r : Stepped) (a : List ℕ) → SaysStep (run (tableIn t) (askNames client m (take most-names (itemsOf s)) c)) r b a
-          → SaysStep (run (tableIn t) (ask 12 d c (ptrReply client m c))) r b a
-      unfolding ptrReply
-      ptr-names k r a w =
-          asked-some t 12 d f p c (ptrReply client m c) r b a status start end e h s at (askNames client m (take most-names (itemsOf s)) c) refl k w
-
 -- `ask_ptr`: the reversed name in its array
 pub reversed-fits : (client : Address) (z : List ℕ) → length z ≡ 72 → length (reversedName client) ≤ length z
 reversed-fits client z e = let h = length-reversed client in omega arith
 
 pub ptr-says : (client : Address) (z v : List ℕ) (n : ℕ) → Wrote (reversedName client) z 0 v n → length z ≡ 72
-    → (t m : List ℕ) (c : Counts) (r : Stepped) (b a : List ℕ) → SaysStep (run (tableIn t) (ask 12 (take n v) c (ptrReply client m c))) r b a
+    → (t m : List ℕ) (c : Counts) (r : Stepped) (b a : List ℕ) → SaysStep (run (tableIn t) (ownQuestion no c 12 (take n v) (λ ds. askNames client m (take most-names ds) c))) r b a
     → SaysStep (run (tableIn t) (askPtr client c m)) r b a
-unfolding askPtr
 ptr-says client z v n w size t m c r b a o = rw (← value-taken (reversedName client) z v n w (reversed-fits client z size)) o

@@ -1,5 +1,5 @@
 -- `mechanism_lookups::ask_a` meets its contract. From the laws of Replies.
-use Rattle.mechanism_lookups.proofs.Laws.Replies.{a-missing, a-failed, a-void, a-some}
+use Rattle.mechanism_lookups.proofs.Laws.Replies.{own-ended, own-temperror, a-items}
 use borrow.Author.Needs.{needs}
 use Rattle.mechanism_lookups.proofs.ask_a.Statement.{statement}
 use Rattle.mechanism_lookups.proofs.ask_a.Tie as tie
@@ -7,56 +7,56 @@ use Rattle.mechanism_lookups.proofs.ask_a.Tie as tie
 address-kind-requires : tie.Need-address-kind-requires
 address-kind-requires c κs = search needs
 
-find-requires : tie.Need-find-requires
-find-requires c κs = search needs
+ask-requires : tie.Need-ask-requires
+ask-requires c κs = search needs
 
-enum-known-status : tie.Need-enum-known-status
-enum-known-status c = search needs
+enum-known-stepped : tie.Need-enum-known-stepped
+enum-known-stepped c = search needs
 
 enum-told : tie.Need-enum-told
 enum-told c = search needs
 
-missing-requires : tie.Need-missing-requires
-missing-requires c κs = search needs
+enum-known-start : tie.Need-enum-known-start
+enum-known-start c = search needs
+
+part-requires : tie.Need-part-requires
+part-requires c κs = search needs
+
+addresses-requires : tie.Need-addresses-requires
+addresses-requires c κs = search needs
 
 same-length : tie.Need-same-length
 same-length c = search needs
 
 returns : tie.Need-returns
-returns c = search a-missing
+returns c = search own-ended
+
+same-length-2 : tie.Need-same-length-2
+same-length-2 c = search needs
 
 returns-2 : tie.Need-returns-2
-returns-2 c = search a-failed
+returns-2 c = search own-temperror
 
-part-requires : tie.Need-part-requires
-part-requires c κs = search needs
-
-void-requires : tie.Need-void-requires
-void-requires c κs = search needs
+same-length-3 : tie.Need-same-length-3
+same-length-3 c = search needs
 
 returns-3 : tie.Need-returns-3
-returns-3 c = search a-void
-
-addresses-requires : tie.Need-addresses-requires
-addresses-requires c κs = search needs
-
-returns-4 : tie.Need-returns-4
-returns-4 c = search a-some
+returns-3 c = search a-items
 
 pub ask-a-spec : {M : Type 1} → statement M
 ask-a-spec =
     tie.close
     (tie.spec
     address-kind-requires
-    find-requires
-    enum-known-status
+    ask-requires
+    enum-known-stepped
     enum-told
-    missing-requires
+    enum-known-start
+    part-requires
+    addresses-requires
     same-length
     returns
+    same-length-2
     returns-2
-    part-requires
-    void-requires
-    returns-3
-    addresses-requires
-    returns-4)
+    same-length-3
+    returns-3)

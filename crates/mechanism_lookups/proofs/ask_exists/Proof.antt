@@ -1,54 +1,50 @@
 -- `mechanism_lookups::ask_exists` meets its contract. From the laws of Replies.
-use Rattle.mechanism_lookups.proofs.Laws.Replies.{exists-missing, exists-failed, exists-void, exists-some}
+use Rattle.mechanism_lookups.proofs.Laws.Replies.{own-ended, own-temperror, exists-items}
 use borrow.Author.Needs.{needs}
 use Rattle.mechanism_lookups.proofs.ask_exists.Statement.{statement}
 use Rattle.mechanism_lookups.proofs.ask_exists.Tie as tie
 
-find-requires : tie.Need-find-requires
-find-requires c κs = search needs
+ask-requires : tie.Need-ask-requires
+ask-requires c κs = search needs
 
-enum-known-status : tie.Need-enum-known-status
-enum-known-status c = search needs
+enum-known-stepped : tie.Need-enum-known-stepped
+enum-known-stepped c = search needs
 
 enum-told : tie.Need-enum-told
 enum-told c = search needs
 
-missing-requires : tie.Need-missing-requires
-missing-requires c κs = search needs
+enum-told-2 : tie.Need-enum-told-2
+enum-told-2 c = search needs
 
 same-length : tie.Need-same-length
 same-length c = search needs
 
 returns : tie.Need-returns
-returns c = search exists-missing
+returns c = search own-ended
+
+same-length-2 : tie.Need-same-length-2
+same-length-2 c = search needs
 
 returns-2 : tie.Need-returns-2
-returns-2 c = search exists-failed
+returns-2 c = search own-temperror
 
-part-requires : tie.Need-part-requires
-part-requires c κs = search needs
-
-void-requires : tie.Need-void-requires
-void-requires c κs = search needs
+same-length-3 : tie.Need-same-length-3
+same-length-3 c = search needs
 
 returns-3 : tie.Need-returns-3
-returns-3 c = search exists-void
-
-returns-4 : tie.Need-returns-4
-returns-4 c = search exists-some
+returns-3 c = search exists-items
 
 pub ask-exists-spec : {M : Type 1} → statement M
 ask-exists-spec =
     tie.close
     (tie.spec
-    find-requires
-    enum-known-status
+    ask-requires
+    enum-known-stepped
     enum-told
-    missing-requires
+    enum-told-2
     same-length
     returns
+    same-length-2
     returns-2
-    part-requires
-    void-requires
-    returns-3
-    returns-4)
+    same-length-3
+    returns-3)

@@ -1,70 +1,58 @@
 -- `mechanism_lookups::ask_mx` meets its contract. From the laws of Replies.
-use Rattle.mechanism_lookups.proofs.Laws.Replies.{mx-missing, mx-failed, mx-void, mx-many, mx-hosts}
+use Rattle.mechanism_lookups.proofs.Laws.Replies.{own-ended, own-temperror, own-items}
 use borrow.Author.Needs.{needs}
 use Rattle.mechanism_lookups.proofs.ask_mx.Statement.{statement}
 use Rattle.mechanism_lookups.proofs.ask_mx.Tie as tie
 
-find-requires : tie.Need-find-requires
-find-requires c κs = search needs
+ask-requires : tie.Need-ask-requires
+ask-requires c κs = search needs
 
-enum-known-status : tie.Need-enum-known-status
-enum-known-status c = search needs
+enum-known-stepped : tie.Need-enum-known-stepped
+enum-known-stepped c = search needs
 
 enum-told : tie.Need-enum-told
 enum-told c = search needs
 
-missing-requires : tie.Need-missing-requires
-missing-requires c κs = search needs
+enum-known-start : tie.Need-enum-known-start
+enum-known-start c = search needs
+
+part-requires : tie.Need-part-requires
+part-requires c κs = search needs
+
+ask-items-requires : tie.Need-ask-items-requires
+ask-items-requires c κs = search needs
 
 same-length : tie.Need-same-length
 same-length c = search needs
 
 returns : tie.Need-returns
-returns c = search mx-missing
-
-returns-2 : tie.Need-returns-2
-returns-2 c = search mx-failed
-
-part-requires : tie.Need-part-requires
-part-requires c κs = search needs
-
-void-requires : tie.Need-void-requires
-void-requires c κs = search needs
-
-returns-3 : tie.Need-returns-3
-returns-3 c = search mx-void
-
-count-requires : tie.Need-count-requires
-count-requires c κs = search needs
-
-returns-4 : tie.Need-returns-4
-returns-4 c = search mx-many
-
-ask-hosts-requires : tie.Need-ask-hosts-requires
-ask-hosts-requires c κs = search needs
+returns c = search own-ended
 
 same-length-2 : tie.Need-same-length-2
 same-length-2 c = search needs
 
-returns-5 : tie.Need-returns-5
-returns-5 c = search mx-hosts
+returns-2 : tie.Need-returns-2
+returns-2 c = search own-temperror
+
+same-length-3 : tie.Need-same-length-3
+same-length-3 c = search needs
+
+returns-3 : tie.Need-returns-3
+returns-3 c = search own-items
 
 pub ask-mx-spec : {M : Type 1} → statement M
 ask-mx-spec =
     tie.close
     (tie.spec
-    find-requires
-    enum-known-status
+    ask-requires
+    enum-known-stepped
     enum-told
-    missing-requires
+    enum-known-start
+    part-requires
+    ask-items-requires
     same-length
     returns
-    returns-2
-    part-requires
-    void-requires
-    returns-3
-    count-requires
-    returns-4
-    ask-hosts-requires
     same-length-2
-    returns-5)
+    returns-2
+    same-length-3
+    returns-3)

@@ -32,7 +32,7 @@ use Rattle.rules.specs.Tree.{Reply, failed, items, Table, Check}
 use Rattle.rules.proofs.Laws.Alike.{Alike, alike-give, alike-ask, alike-cond, alike-bind}
 use Rattle.rules.proofs.Laws.Reversed.{reversed-ok}
 use Rattle.rules.proofs.Laws.Askable.{NamingOk, question-ok, ReplyFits, Fitting, names-ok, host-ok, hosts-ok}
-use Rattle.rules.specs.Mechanisms.{Mail, Match, yes, no, stop, Step, step, matched, addressKind, includesClient, anyMatches, withValid, validated, namesOf, givesChosen, pReply, pValue, givesExpansion, expanded, givesName, target, targetOr, most-lookups, most-voids, most-hosts, begun, voided, counting, atTarget, targetStep, countedStep, orVoid, onMatch, untilMatch, aReply, askA, aStep, existsReply, askExists, existsStep, byPreference, askHost, mxItems, mxReply, askMx, mxStep, nameReply, askName, ptrReply, askPtr, ptrStep}
+use Rattle.rules.specs.Mechanisms.{Mail, Match, yes, no, stop, Step, step, matched, addressKind, includesClient, anyMatches, withValid, validated, namesOf, givesChosen, pReply, pValue, givesExpansion, expanded, givesName, target, targetOr, most-lookups, most-voids, most-hosts, begun, voided, counting, atTarget, targetStep, countedStep, voidStep, ownReply, ownQuestion, onMatch, untilMatch, askA, aStep, askExists, existsStep, byPreference, askHost, mxItems, askMx, mxStep, askName, askPtr, ptrStep}
 use Rattle.rules.specs.Evaluation.{Failing, Result, ended, Sub, includeMatch, checkTarget, begunCheck, includeOf, includeStep, having, lengthFor, networkStep, plainStep, mechanismStep, termStep, signResult, modifierOf, failingAt, signed, noneIsPermerror, redirectOf, noMatch, matchResult, afterStep, tryTerms, termsOf, readOutcome, Selection, ends, one, textReply, recordLookup, afterLookup, checkName, check, givesShown, explained, explainReply, explainName, explanation, most-text, shown}
 
 -- the counts k of a question, or of a term that lets the check go on, after the counts c: none falls, and none that was within its bound passes it
@@ -211,32 +211,32 @@ module _ (t : Table) (Sound : Type 0) (fits : Sound → Fitting t) (c : Counts) 
     matched-fine : (found : Bool) → Fine (StepKept c) (matched found k)
     matched-fine found = alike-cond found (λ _. step-fine yes) (λ _. step-fine no)
 
-    orVoid-fine : (ds : List (List ℕ)) {rest : Check Step} → Fine (StepKept c) rest → Fine (StepKept c) (orVoid k ds rest)
-    unfolding orVoid MatchKept
-    orVoid-fine [] h = alike-cond (ltb (k .voids) most-voids) (λ e. alike-give (bounded-voided b (ltb-true (k .voids) most-voids e))) (λ _. alike-give (third b))
-    orVoid-fine (d ∷ ds) h = h
+    -- a question of a, mx, ptr or exists
+    void-fine : Fine (StepKept c) (voidStep k)
+    unfolding voidStep MatchKept
+    void-fine = alike-cond (ltb (k .voids) most-voids) (λ e. alike-give (bounded-voided b (ltb-true (k .voids) most-voids e))) (λ _. alike-give (third b))
+
+    own-fine : {kind : ℕ} {n : List ℕ} → AskedKind kind → Askable n → (m : Match) {rest : List (List ℕ) → Check Step}
+        → ((ds : List (List ℕ)) → t kind n ≡ present (items ds) → Fine (StepKept c) (rest ds)) → Fine (StepKept c) (ownQuestion m k kind n rest)
+    unfolding ownReply
+    own-fine {kind} {n} q h m {rest} f = alike-ask (asked q h) reply
+      where
+        reply : (r : Reply) → t kind n ≡ present r → Fine (StepKept c) (ownReply m k rest r)
+        reply failed e = step-fine m
+        reply (items []) e = void-fine
+        reply (items (d ∷ ds)) e = f (d ∷ ds) e
 
     -- what a asks of a name, a host of mx and a name of ptr
     module _ (client : Address) where
       askA-fine : (n : ℕ) (m : List ℕ) → Askable m → Fine (StepKept c) (askA client n k m)
-      unfolding askA aReply
-      askA-fine n m h = alike-ask (asked (of-address client) h) (λ r _. reply r)
-        where
-          reply : (r : Reply) → Fine (StepKept c) (aReply client n k r)
-          reply failed = step-fine (stop 5)
-          reply (items ds) = orVoid-fine ds (matched-fine (anyMatches client n ds))
+      askA-fine n m h = own-fine (of-address client) h (stop 5) (λ ds _. matched-fine (anyMatches client n ds))
 
       pub host-fine : (n : ℕ) (d : List ℕ) → (Sound → isItem 15 d ≡ true) → Fine (StepKept c) (askHost client n d k)
       unfolding askHost
       host-fine n d h = alike-cond (eqb (length d) 2) (λ _. step-fine no) (λ e. askA-fine n (drop 2 d) (λ s. host-ok d (h s) e))
 
       pub name-fine : (m n : List ℕ) → Askable n → Fine (StepKept c) (askName client m n k)
-      unfolding askName nameReply
-      name-fine m n h = alike-ask (asked (of-address client) h) (λ r _. reply r)
-        where
-          reply : (r : Reply) → Fine (StepKept c) (nameReply client m k n r)
-          reply failed = step-fine no
-          reply (items ds) = orVoid-fine ds (matched-fine (includesClient client (items ds) && atOrBelow n m))
+      name-fine m n h = own-fine (of-address client) h no (λ ds _. matched-fine (includesClient client (items ds) && atOrBelow n m))
 
   -- the hosts of mx and the names of ptr
   pub hosts-fine : (client : Address) (n : ℕ) (ds : List (List ℕ)) → (Sound → all (isItem 15) ds ≡ true)
@@ -251,30 +251,20 @@ module _ (t : Table) (Sound : Type 0) (fits : Sound → Fitting t) (c : Counts) 
     -- what exists, mx and ptr ask of a name m
     module _ (client : Address) (m : List ℕ) (h : Askable m) where
       askExists-fine : Fine (StepKept c) (askExists k m)
-      unfolding askExists existsReply
-      askExists-fine = alike-ask (asked k b of-a h) (λ r _. reply r)
-        where
-          reply : (r : Reply) → Fine (StepKept c) (existsReply k r)
-          reply failed = step-fine k b (stop 5)
-          reply (items ds) = orVoid-fine k b ds (step-fine k b yes)
+      askExists-fine = own-fine k b of-a h (stop 5) (λ ds _. step-fine k b yes)
 
       askMx-fine : (n : ℕ) → Fine (StepKept c) (askMx client n k m)
-      unfolding askMx mxReply mxItems
-      askMx-fine n = alike-ask (asked k b of-mx h) (λ r e. reply r (λ s. fits s 15 m r e))
-        where
-          reply : (r : Reply) → (Sound → ReplyFits 15 r) → Fine (StepKept c) (mxReply client n k r)
-          reply failed f = step-fine k b (stop 5)
-          reply (items ds) f =
-              orVoid-fine k b ds
-              (alike-cond (leb (length ds) most-hosts) (λ _. hosts-fine client n (byPreference ds) (λ s. hosts-ok ds (f s)) k b) (λ _. step-fine k b (stop 6)))
+      unfolding mxItems
+      askMx-fine n =
+          own-fine k b of-mx h (stop 5)
+          (λ ds e. alike-cond (leb (length ds) most-hosts)
+          (λ _. hosts-fine client n (byPreference ds) (λ s. hosts-ok ds (fits s 15 m (items ds) e)) k b) (λ _. step-fine k b (stop 6)))
 
       askPtr-fine : Fine (StepKept c) (askPtr client k m)
-      unfolding askPtr ptrReply namesOf
-      askPtr-fine = alike-ask (asked k b of-ptr (λ _. reversed-ok client)) (λ r e. reply r (λ s. names-ok r (fits s 12 _ r e)))
-        where
-          reply : (r : Reply) → (Sound → all isTableName (namesOf r) ≡ true) → Fine (StepKept c) (ptrReply client m k r)
-          reply failed f = step-fine k b no
-          reply (items ds) f = orVoid-fine k b ds (names-fine client m (namesOf (items ds)) f k b)
+      unfolding namesOf
+      askPtr-fine =
+          own-fine k b of-ptr (λ _. reversed-ok client) no
+          (λ ds e. names-fine client m (namesOf (items ds)) (λ s. names-ok (items ds) (fits s 12 _ (items ds) e)) k b)
 
     having-fine : {A : Type 0} (x : Optional A) {go : A → Check Step} → ((a : A) → Fine (StepKept c) (go a)) → Fine (StepKept c) (having x go k)
     unfolding having
