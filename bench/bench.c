@@ -1,4 +1,5 @@
-/* Times evaluations, and readings of records, through talavorn.h; where libspf2 was there to build with, the same questions through libspf2 over its in-memory zone.
+/* Times evaluations, explanations, and readings of records, through talavorn.h; where libspf2 was there to build with, the same questions through libspf2
+ * over its in-memory zone.
  *
  * bench                      one round: every case once; a line each, with the case's word and the microseconds of one evaluation, ours and libspf2's
  * bench CASE TIMES           one case by its number, so often, and nothing else: for a profiler
@@ -22,11 +23,10 @@ static const double SECONDS = 0.03; /* of processor time that a case takes at le
 static const char reference[] = "v=spf1 ip4:192.0.2.0/24 a mx include:b.example -all";
 static const uint8_t some_address[4] = { 198, 51, 100, 1 };
 
-static void make_reference(struct table *t, int unused)
+static void make_with(struct table *t, const char *record)
 {
     static const uint8_t b[4] = { 198, 51, 100, 2 };
-    (void)unused;
-    add_text(t, "example.com", reference);
+    add_text(t, "example.com", record);
     add_entry(t, 1, "example.com");
     add_item(t, some_address, 4);
     add_entry(t, 15, "example.com");
@@ -34,6 +34,20 @@ static void make_reference(struct table *t, int unused)
     add_entry(t, 1, "mx.example.com");
     add_item(t, b, 4);
     add_text(t, "b.example", "v=spf1 ip4:203.0.113.0/24 -all");
+}
+
+static void make_reference(struct table *t, int unused)
+{
+    (void)unused;
+    make_with(t, reference);
+}
+
+/* The reference record with an explanation, and its text. */
+static void make_explained(struct table *t, int unused)
+{
+    (void)unused;
+    make_with(t, "v=spf1 ip4:192.0.2.0/24 a mx include:b.example -all exp=why.%{d}");
+    add_text(t, "why.example.com", "%{i} may not send as %{s}: see http://www.%{d}/why");
 }
 
 /* Includes that don't match. */
@@ -149,6 +163,7 @@ static void make_bad_term(struct table *t, int size)
 static struct table table, zone;
 
 static int evaluate(int i);
+static int explain(int i);
 static int play(int i);
 static int read_record(int i);
 static int ask_libspf2(int i);
@@ -160,7 +175,7 @@ static const struct {
     uint8_t client[4];
     uint8_t number;
     int libspf2;        /* whether libspf2 is asked too */
-    int (*call)(int);   /* one evaluation, all rounds from an empty table, or one reading of the record */
+    int (*call)(int);   /* one evaluation, perhaps with its explanation, all rounds from an empty table, or one reading of the record */
 } cases[] = {
     { "first", "first match: pass", make_reference, 0, { 192, 0, 2, 1 }, TALAVORN_PASS, 1, evaluate },
     { "include", "include match: pass", make_reference, 0, { 203, 0, 113, 1 }, TALAVORN_PASS, 1, evaluate },
@@ -183,17 +198,34 @@ static const struct {
     { "read-refused", "refused record read: 32", make_refused, 0, { 0 }, TALAVORN_BAD_TERM, 0, read_record },
     { "read-length", "length of 33 read: 32", make_bad_length, 0, { 0 }, TALAVORN_BAD_TERM, 0, read_record },
     { "read-term", "bad term of 4,000 bytes read: 32", make_bad_term, 4000, { 0 }, TALAVORN_BAD_TERM, 0, read_record },
+    { "exp-result", "final -all with exp, the result: fail", make_explained, 0, { 10, 0, 0, 1 }, TALAVORN_FAIL, 0, evaluate },
+    { "exp-text", "the same, result and text: fail", make_explained, 0, { 10, 0, 0, 1 }, TALAVORN_FAIL, 0, explain },
 };
 enum { CASES = sizeof cases / sizeof *cases };
 
-static uint8_t name[253], text[500];
+static uint8_t name[253];
 static size_t values[TALAVORN_VALUES];
 
+/* The first call. No case wants the text of its fail. */
 static int evaluate(int i)
 {
 #define TEXT(s) (const uint8_t *)(s), sizeof(s) - 1
     return talavorn_evaluate(cases[i].client, 4, TEXT("example.com"), TEXT("user@example.com"), TEXT("mail.example.com"), TEXT("mx.relay.example"), 1700000000,
-                             table.bytes, table.size, name, sizeof name, text, sizeof text, values);
+                             table.bytes, table.size, name, sizeof name, values);
+}
+
+/* Both calls: a fail and its text. */
+static int explain(int i)
+{
+    static uint8_t wanted[253], text[500];
+    size_t made[TALAVORN_EXPLAIN_VALUES];
+    int number = evaluate(i);
+    if (number != TALAVORN_FAIL)
+        return number;
+    number = talavorn_explain(cases[i].client, 4, name, values[TALAVORN_LENGTH], TEXT("user@example.com"), TEXT("mail.example.com"), TEXT("mx.relay.example"),
+                              1700000000, table.bytes, table.size, values[TALAVORN_EXP_PLACE], values[TALAVORN_EXP_LENGTH], wanted, sizeof wanted, text,
+                              sizeof text, made);
+    return made[TALAVORN_EXPLAIN_LENGTH] == 0 ? -1 : number;
 }
 
 /* What a relay does that begins with an empty table: it evaluates, asks for what is wanting, adds the answer and evaluates again, up to the result. Its
@@ -203,7 +235,7 @@ static int play(int i)
     int number;
     table.size = 0;
     while ((number = evaluate(i)) == TALAVORN_WANTING)
-        if (!copy_entry(&table, &zone, values[0], name, values[3]))
+        if (!copy_entry(&table, &zone, values[TALAVORN_KIND], name, values[TALAVORN_LENGTH]))
             return -1;
     return number;
 }

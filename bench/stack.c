@@ -1,5 +1,5 @@
-/* Measures the stack that an evaluation uses, on the inputs that need most: a thread's stack is filled with a pattern, and what an evaluation has left
- * of it is counted. */
+/* Measures the stack that an evaluation uses, and the making of a fail's text, on the inputs that need most: a thread's stack is filled with a pattern, and
+ * what a call has left of it is counted. */
 #define _GNU_SOURCE
 #include <pthread.h>
 #include <stdio.h>
@@ -19,13 +19,24 @@ static void *nothing(void *unused)
     return unused;
 }
 
+static uint8_t name[253], client[4] = { 10, 0, 0, 1 };
+static size_t values[TALAVORN_VALUES];
+
 static void *evaluate(void *unused)
 {
-    static uint8_t name[253], text[500], client[4] = { 10, 0, 0, 1 };
-    static size_t values[TALAVORN_VALUES];
 #define TEXT(s) (const uint8_t *)(s), strlen(s)
     talavorn_evaluate(client, 4, TEXT("d0.example"), TEXT("user@example.com"), TEXT(helo), TEXT("r.example"), 7, table.bytes, table.size, name, sizeof name,
-                      text, sizeof text, values);
+                      values);
+    return unused;
+}
+
+/* The text of the fail that was evaluated last. */
+static void *explain(void *unused)
+{
+    static uint8_t wanted[253], text[500];
+    static size_t made[TALAVORN_EXPLAIN_VALUES];
+    talavorn_explain(client, 4, name, values[TALAVORN_LENGTH], TEXT("user@example.com"), TEXT(helo), TEXT("r.example"), 7, table.bytes, table.size,
+                     values[TALAVORN_EXP_PLACE], values[TALAVORN_EXP_LENGTH], wanted, sizeof wanted, text, sizeof text, made);
     return unused;
 }
 
@@ -67,30 +78,35 @@ static void make(int depth, const char *next, const char *begin, const char *fil
     add_text(&table, name, record);
 }
 
-static void show(const char *what)
+static void show(void *(*start)(void *), const char *what)
 {
-    printf("%-60s %8zu\n", what, touched(evaluate) - touched(nothing));
+    printf("%-60s %8zu\n", what, touched(start) - touched(nothing));
 }
 
 int main(void)
 {
-    static char labels[256], begin[128] = "v=spf1 exists:";
+    static char labels[256], begin[128] = "v=spf1 exists:", exp[128] = "v=spf1 -all exp=";
     printf("%-60s %8s\n", "stack, the deepest inputs", "bytes");
     make(0, "", "v=spf1 -all", " ");
-    show("no terms but -all");
+    show(evaluate, "no terms but -all");
     make(0, "", "v=spf1", " a");
-    show("a record of 2,045 terms");
+    show(evaluate, "a record of 2,045 terms");
     make(10, "include:", "v=spf1", " a");
-    show("the same behind ten includes");
+    show(evaluate, "the same behind ten includes");
     make(10, "redirect=", "v=spf1", " a");
-    show("the same behind ten redirects");
+    show(evaluate, "the same behind ten redirects");
     for (int i = 0; i < 127; i++)
         strcat(labels, "x.");
     strcat(labels, "y");
     helo = labels;
-    for (int i = 0; i < 16; i++)
+    for (int i = 0; i < 16; i++) {
         strcat(begin, "%{h}");
+        strcat(exp, "%{h}");
+    }
     make(9, "redirect=", begin, " ");
-    show("a name of 4,080 bytes and 2,033 labels, behind nine redirects");
+    show(evaluate, "a name of 4,080 bytes and 2,033 labels, behind nine redirects");
+    make(0, "", exp, " ");
+    show(evaluate, "the same in exp, the result");
+    show(explain, "the same in exp, the text");
     return 0;
 }

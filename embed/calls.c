@@ -464,6 +464,19 @@ static struct talavorn_answer answered(void)
     return talavorn_check(&mail, table, size);
 }
 
+/* Adds the items to the table as the answer to what the text of a fail wants, and makes it. */
+static struct talavorn_answer explained(void)
+{
+    struct talavorn_mail mail = usual_mail();
+    struct talavorn_answer failed = talavorn_check(&mail, table, size), a;
+    char text[501];
+    a = talavorn_fail_text(&mail, &failed, table, size, text);
+    if (a.number != TALAVORN_WANTING
+        || talavorn_add(&a, 0, &items, table, sizeof table, &size) != 0)
+        expect(0, "an addition");
+    return talavorn_fail_text(&mail, &failed, table, size, text);
+}
+
 /* What a check answers once the TXT question of example.com has this text. */
 static struct talavorn_answer checked(const char *record)
 {
@@ -478,12 +491,13 @@ static void checks(void)
     struct talavorn_mail mail = usual_mail();
     struct talavorn_answer a = talavorn_check(&mail, NULL, 0);
     expect(a.number == TALAVORN_WANTING && a.kind == TALAVORN_TYPE_TXT && a.name_len == 11
-               && strcmp(a.name, "example.com") == 0 && a.text_len == 0 && a.text[0] == 0
-               && a.place == 0 && a.lookups == 0 && a.voids == 0,
+               && strcmp(a.name, "example.com") == 0 && a.text_len == 0 && a.exp_place == 0
+               && a.exp_len == 0 && a.place == 0 && a.lookups == 0 && a.voids == 0,
            "the first question");
     a = checked("v=spf1 ip4:192.0.2.129 -all");
     expect(a.number == TALAVORN_PASS && a.kind == 0 && a.place == 0 && a.name_len == 0
-               && a.text_len == 0 && a.lookups == 0,
+               && a.name[0] == 0 && a.text_len == 0 && a.exp_place == 0 && a.exp_len == 0
+               && a.lookups == 0,
            "a pass");
     a = checked("v=spf1 a -all");
     expect(a.number == TALAVORN_WANTING && a.kind == TALAVORN_TYPE_A && a.lookups == 1
@@ -491,12 +505,56 @@ static void checks(void)
            "a's question");
     talavorn_add(&a, 0, NULL, table, sizeof table, &size);
     a = talavorn_check(&mail, table, size);
-    expect(a.number == TALAVORN_FAIL && a.text_len == 0 && a.lookups == 1 && a.voids == 1,
+    expect(a.number == TALAVORN_FAIL && a.text_len == 0 && a.exp_place == 0 && a.exp_len == 0
+               && a.name_len == 11 && strcmp(a.name, "example.com") == 0 && a.lookups == 1
+               && a.voids == 1,
            "a void answer");
     a = talavorn_check(&mail, TEXT(GONE GONE));
-    expect(a.number == TALAVORN_REPEATED_ENTRY && a.place == 17 && a.kind == 0, "a repeated entry");
+    expect(a.number == TALAVORN_REPEATED_ENTRY && a.place == 17 && a.kind == 0 && a.name_len == 0,
+           "a repeated entry");
     mail.sender = talavorn_text("");
     expect(talavorn_check(&mail, NULL, 0).number == TALAVORN_BAD_SENDER, "an empty sender");
+}
+
+/* The text of a fail, through the wrapper. */
+static void fail_texts(void)
+{
+    struct talavorn_mail mail = usual_mail();
+    struct talavorn_answer a = checked("v=spf1 a -all exp=why.%{d}"), t;
+    char text[502];
+    memset(text, 'x', sizeof text);
+    talavorn_add(&a, 0, NULL, table, sizeof table, &size);
+    a = talavorn_check(&mail, table, size);
+    expect(a.number == TALAVORN_FAIL && a.exp_place == 37 && a.exp_len == 8 && a.text_len == 0
+               && a.lookups == 1 && a.voids == 1,
+           "a fail that has an explanation");
+    t = talavorn_fail_text(&mail, &a, table, size, text);
+    expect(t.number == TALAVORN_WANTING && t.kind == TALAVORN_TYPE_TXT && t.name_len == 15
+               && strcmp(t.name, "why.example.com") == 0 && t.text_len == 0 && text[0] == 0
+               && t.place == 0 && t.exp_place == 0 && t.exp_len == 0 && t.lookups == 1
+               && t.voids == 1,
+           "the explanation's question");
+    begin_items(512);
+    talavorn_item_txt(&items, talavorn_text("%{c} is not ours"));
+    expect(talavorn_add(&t, 0, &items, table, sizeof table, &size) == 0, "its answer");
+    t = talavorn_fail_text(&mail, &a, table, size, text);
+    expect(t.number == TALAVORN_FAIL && t.text_len == 23
+               && strcmp(text, "192.0.2.129 is not ours") == 0 && text[501] == 'x' && t.kind == 0
+               && t.name_len == 0 && t.name[0] == 0 && t.place == 0 && t.lookups == 1
+               && t.voids == 1,
+           "the text");
+    a.exp_place++;
+    t = talavorn_fail_text(&mail, &a, table, size, text);
+    expect(t.number == TALAVORN_BAD_EXP && t.text_len == 0 && text[0] == 0 && t.lookups == 0
+               && t.voids == 0,
+           "another place");
+    a.exp_place = a.exp_len = 0;
+    memset(text, 'x', sizeof text);
+    t = talavorn_fail_text(&mail, &a, table, size, text);
+    expect(t.number == TALAVORN_FAIL && t.text_len == 0 && text[0] == 0 && text[1] == 'x',
+           "no place");
+    t = talavorn_fail_text(&mail, &a, TEXT(GONE GONE), text);
+    expect(t.number == TALAVORN_REPEATED_ENTRY && t.place == 17, "the same, and a repeated entry");
 }
 
 /* An entry of type SPF may be added, and is ignored. */
@@ -560,13 +618,469 @@ static void odd_answers(void)
     checked("v=spf1 -all exp=why.example");
     begin_items(sizeof buffer);
     talavorn_item_txt(&items, talavorn_bytes(text, sizeof text));
-    a = answered();
+    a = explained();
     expect(a.number == TALAVORN_FAIL && a.text_len == 0, "a long explanation");
     memcpy(text, "v=spf1 ", 7);
     begin_items(sizeof buffer);
     talavorn_item_txt(&items, talavorn_bytes(text, sizeof text));
     size = 0;
     expect(answered().number == TALAVORN_TEMPERROR, "a long record");
+}
+
+/* What the two calls of a check are given under trial, besides the table, and what they are lent:
+ * more bytes than they are told of. */
+static struct talavorn_mail given;
+static uint8_t lent_name[300], lent_text[600];
+static size_t name_room, text_room, values[TALAVORN_VALUES + 1];
+
+/* The usual mail, an empty table and buffers that are just large enough. */
+static void begin_check(void)
+{
+    given = usual_mail();
+    name_room = 253;
+    text_room = 500;
+    begin_with("", 0);
+}
+
+static void fill_lent(void)
+{
+    memset(lent_name, 0xee, sizeof lent_name);
+    memset(lent_text, 0xee, sizeof lent_text);
+    for (size_t i = 0; i <= TALAVORN_VALUES; i++)
+        values[i] = 77;
+}
+
+/* The first call. */
+static uint8_t first(void)
+{
+    fill_lent();
+    return talavorn_evaluate(
+        given.client.at, given.client.len, given.domain.at, given.domain.len, given.sender.at,
+        given.sender.len, given.helo.at, given.helo.len, given.receiver.at, given.receiver.len,
+        given.seconds, table, size, lent_name, name_room, values);
+}
+
+/* The second call, for a domain and the place and length of an exp argument. */
+static uint8_t second(const char *domain, size_t at, size_t len)
+{
+    fill_lent();
+    return talavorn_explain(
+        given.client.at, given.client.len, domain, strlen(domain), given.sender.at,
+        given.sender.len, given.helo.at, given.helo.len, given.receiver.at, given.receiver.len,
+        given.seconds, table, size, at, len, lent_name, name_room, lent_text, text_room, values);
+}
+
+/* Whether a text stands at the front of a lent buffer, and no byte behind it was written. */
+static int holds(const uint8_t *lent, size_t len, const char *s)
+{
+    size_t i = strlen(s);
+    int front = memcmp(lent, s, i) == 0;
+    while (i < len && lent[i] == 0xee)
+        i++;
+    return front && i == len;
+}
+
+/* Whether the name and text buffers hold these and nothing else. */
+static int lent(const char *name, const char *text)
+{
+    return holds(lent_name, sizeof lent_name, name) && holds(lent_text, sizeof lent_text, text);
+}
+
+/* What the first call left: values and name. */
+static int left(
+    size_t kind, size_t lookups, size_t voids, const char *name, size_t exp_place, size_t exp_len)
+{
+    const size_t expected[TALAVORN_VALUES + 1] = {
+        kind, lookups, voids, strlen(name), exp_place, exp_len, 77
+    };
+    return memcmp(values, expected, sizeof values) == 0 && lent(name, "");
+}
+
+/* What the second call left: kind or place, length, name and text. */
+static int made(size_t kind, const char *name, const char *text)
+{
+    return values[0] == kind && values[1] == strlen(name) + strlen(text) && values[2] == 77
+           && lent(name, text);
+}
+
+/* Appends a TXT entry with one text. */
+static void put_text(const char *name, const char *s)
+{
+    begin_items(sizeof buffer);
+    talavorn_item_txt(&items, talavorn_text(s));
+    if (append(TALAVORN_TYPE_TXT, 0, name, strlen(name), items.bytes, items.len, 65535) != 0)
+        expect(0, name);
+}
+
+/* Appends an entry without items. */
+static void put_status(uint16_t kind, uint8_t status, const char *name)
+{
+    if (append(kind, status, name, strlen(name), NULL, 0, 65535) != 0)
+        expect(0, name);
+}
+
+/* A table of one TXT entry for example.com. Its text begins at 19. */
+static void begin_record(const char *record)
+{
+    begin_check();
+    put_text("example.com", record);
+}
+
+/* Everything is wrong, and what was refused is put right: each number and their order. */
+static void evaluation_refusals(void)
+{
+    static char domain[256];
+    memset(domain, 'x', sizeof domain);
+    begin_check();
+    given.client = talavorn_bytes(client, 3);
+    given.domain = talavorn_bytes(domain, 256);
+    given.sender = talavorn_text("");
+    given.helo = given.receiver = talavorn_text("a b");
+    name_room = 252;
+    size = 65536;
+#define REFUSED(number, at, what) expect(first() == (number) && left(at, 0, 0, "", 0, 0), what)
+    REFUSED(TALAVORN_BAD_ADDRESS, 0, "a client of 3 octets");
+    given.client = talavorn_bytes(client6, 15);
+    REFUSED(TALAVORN_BAD_ADDRESS, 0, "a client of 15 octets");
+    given.client = talavorn_bytes(client, 4);
+    REFUSED(TALAVORN_BAD_SENDER, 0, "no sender");
+    given.sender = talavorn_text("user@example.com");
+    REFUSED(TALAVORN_BAD_HOST, 0, "a space in HELO");
+    given.helo = talavorn_text("");
+    REFUSED(TALAVORN_BAD_HOST, 0, "a space in the receiver");
+    given.receiver = talavorn_text("");
+    REFUSED(TALAVORN_LONG_DOMAIN, 0, "a domain of 256 bytes");
+    given.domain.len = 255;
+    REFUSED(TALAVORN_SMALL_BUFFER, 0, "a name buffer of 252 bytes");
+    name_room = 253;
+    REFUSED(TALAVORN_LONG_TABLE, 0, "a table of 65,536 bytes");
+    size = 65535;
+    REFUSED(TALAVORN_BAD_ENTRY, 0, "a table of other bytes");
+    begin_with(TEXT(GONE "\1\0"));
+    REFUSED(TALAVORN_BAD_ENTRY, 17, "a malformed entry");
+    begin_with(TEXT(GONE GONE "\1\0"));
+    REFUSED(TALAVORN_REPEATED_ENTRY, 17, "an entry twice, before a malformed one");
+    begin_with(TEXT(GONE));
+    expect(first() == TALAVORN_NONE && left(0, 0, 0, "", 0, 0), "a malformed domain");
+#undef REFUSED
+}
+
+static void explanation_refusals(void)
+{
+    static char domain[257];
+    memset(domain, 'x', 256);
+    begin_check();
+    given.client = talavorn_bytes(client, 3);
+    given.sender = talavorn_text("");
+    given.helo = given.receiver = talavorn_text("a b");
+    name_room = 252;
+    text_room = 499;
+    size = 65536;
+#define REFUSED(number, at, what) \
+    expect(second(domain, 35, 9) == (number) && made(at, "", ""), what " of the second call"); \
+    expect(second(domain, 0, 0) == (number) && made(at, "", ""), what " without exp")
+    REFUSED(TALAVORN_BAD_ADDRESS, 0, "a client of 3 octets");
+    given.client = talavorn_bytes(client6, 15);
+    REFUSED(TALAVORN_BAD_ADDRESS, 0, "a client of 15 octets");
+    given.client = talavorn_bytes(client, 4);
+    REFUSED(TALAVORN_BAD_SENDER, 0, "no sender");
+    given.sender = talavorn_text("user@example.com");
+    REFUSED(TALAVORN_BAD_HOST, 0, "a space in HELO");
+    given.helo = talavorn_text("");
+    REFUSED(TALAVORN_BAD_HOST, 0, "a space in the receiver");
+    given.receiver = talavorn_text("");
+    REFUSED(TALAVORN_LONG_DOMAIN, 0, "a domain of 256 bytes");
+    domain[255] = 0;
+    REFUSED(TALAVORN_SMALL_BUFFER, 0, "name and text buffers that are too small");
+    text_room = 500;
+    REFUSED(TALAVORN_SMALL_BUFFER, 0, "a name buffer of 252 bytes");
+    name_room = 253;
+    text_room = 499;
+    REFUSED(TALAVORN_SMALL_BUFFER, 0, "a text buffer of 499 bytes");
+    text_room = 500;
+    REFUSED(TALAVORN_LONG_TABLE, 0, "a table of 65,536 bytes");
+    size = 65535;
+    REFUSED(TALAVORN_BAD_ENTRY, 0, "a table of other bytes");
+    begin_with(TEXT(GONE "\1\0"));
+    REFUSED(TALAVORN_BAD_ENTRY, 17, "a malformed entry");
+    begin_with(TEXT(GONE GONE "\1\0"));
+    REFUSED(TALAVORN_REPEATED_ENTRY, 17, "an entry twice, before a malformed one");
+    begin_with(TEXT(GONE));
+    expect(second(domain, 35, 9) == TALAVORN_BAD_EXP && made(0, "", ""),
+           "a malformed domain of the second call");
+    expect(second(domain, 0, 0) == TALAVORN_FAIL && made(0, "", ""), "the same without exp");
+#undef REFUSED
+}
+
+/* Results with the failing record's domain, and where its exp argument stands. */
+static void failing_records(void)
+{
+    begin_record("v=spf1 -all exp=e.example");
+    expect(first() == TALAVORN_FAIL && left(0, 0, 0, "example.com", 35, 9), "exp's argument");
+    name_room = sizeof lent_name;
+    expect(first() == TALAVORN_FAIL && left(0, 0, 0, "example.com", 35, 9), "a longer name buffer");
+    begin_record("v=spf1 eXp=E.Example -all");
+    expect(first() == TALAVORN_FAIL && left(0, 0, 0, "example.com", 30, 9), "exp before -all");
+    begin_record("v=spf1 -all");
+    expect(first() == TALAVORN_FAIL && left(0, 0, 0, "example.com", 0, 0), "no exp");
+    begin_record("v=spf1 -all exp=a..b");
+    expect(first() == TALAVORN_FAIL && left(0, 0, 0, "example.com", 35, 4), "a malformed target");
+    begin_record("v=spf1 -all exp=%{p}.x");
+    expect(first() == TALAVORN_FAIL && left(0, 0, 0, "example.com", 35, 6), "a target with p");
+    begin_check();
+    put_status(TALAVORN_TYPE_A, TALAVORN_NO_SUCH_NAME, "a");
+    put_text("example.com", "v=spf1 -all exp=e.example");
+    expect(first() == TALAVORN_FAIL && left(0, 0, 0, "example.com", 42, 9),
+           "a record behind an entry of 7 bytes");
+    begin_record("v=spf1 exists:g.x -all exp=e.example");
+    put_status(TALAVORN_TYPE_A, TALAVORN_ANSWERED, "g.x");
+    expect(first() == TALAVORN_FAIL && left(0, 1, 1, "example.com", 46, 9), "a fail with counts");
+    begin_record("v=spf1 redirect=B.x exp=a.a");
+    put_text("b.x", "v=spf1 -all exp=c.c");
+    expect(first() == TALAVORN_FAIL && left(0, 1, 0, "b.x", 73, 3), "a redirect");
+    begin_record("v=spf1 redirect=b.x");
+    put_text("b.x", "v=spf1 redirect=C.Y. exp=a.a");
+    put_text("c.y", "v=spf1 -all");
+    expect(first() == TALAVORN_FAIL && left(0, 2, 0, "c.y", 0, 0), "two redirects");
+    begin_record("v=spf1 -include:b.x exp=a.a");
+    put_text("b.x", "v=spf1 +all exp=c.c");
+    expect(first() == TALAVORN_FAIL && left(0, 1, 0, "example.com", 43, 3),
+           "an include that matches");
+    begin_record("v=spf1 include:b.x -all exp=a.a");
+    put_text("b.x", "v=spf1 -all exp=c.c");
+    expect(first() == TALAVORN_FAIL && left(0, 1, 0, "example.com", 47, 3),
+           "an include that doesn't match");
+    begin_record("v=spf1 -include:b.x");
+    put_text("b.x", "v=spf1 redirect=c.y exp=a.a");
+    put_text("c.y", "v=spf1 +all exp=c.c");
+    expect(first() == TALAVORN_FAIL && left(0, 2, 0, "example.com", 0, 0),
+           "a redirect in an include");
+}
+
+/* Other answers of the first call: without a domain, and never for the explanation. */
+static void other_results(void)
+{
+    static const struct {
+        const char *record;
+        uint8_t number;
+    } results[] = {
+        { "some text", TALAVORN_NONE },
+        { "v=spf1 ?all exp=e.example", TALAVORN_NEUTRAL },
+        { "v=spf1 +all exp=e.example", TALAVORN_PASS },
+        { "v=spf1 ~all exp=e.example", TALAVORN_SOFTFAIL },
+        { "v=spf1 -all exp=e.example exp=e.example", TALAVORN_PERMERROR },
+    };
+    for (size_t i = 0; i < sizeof results / sizeof *results; i++) {
+        begin_record(results[i].record);
+        expect(first() == results[i].number && left(0, 0, 0, "", 0, 0), results[i].record);
+    }
+    begin_check();
+    put_status(TALAVORN_TYPE_TXT, TALAVORN_FAILED, "example.com");
+    expect(first() == TALAVORN_TEMPERROR && left(0, 0, 0, "", 0, 0), "a failed record");
+    begin_check();
+    expect(first() == TALAVORN_WANTING && left(TALAVORN_TYPE_TXT, 0, 0, "example.com", 0, 0),
+           "the record's question");
+    begin_record("v=spf1 a:G.x -all exp=e.example");
+    expect(first() == TALAVORN_WANTING && left(TALAVORN_TYPE_A, 1, 0, "g.x", 0, 0), "a question");
+}
+
+#define REVERSE "129.2.0.192.in-addr.arpa"
+
+/* Texts and questions of the second call. */
+static void explanations(void)
+{
+    begin_record("v=spf1 -all exp=e.example");
+#define ASKS(domain, what) \
+    expect(second(domain, 35, 9) == TALAVORN_WANTING \
+               && made(TALAVORN_TYPE_TXT, "e.example", ""), \
+           what)
+    ASKS("example.com", "the explanation's question");
+    ASKS("Example.COM.", "the domain in upper case and with a dot");
+    name_room = sizeof lent_name;
+    text_room = sizeof lent_text;
+    ASKS("example.com", "longer buffers");
+    begin_record("v=spf1 -all exp=e.example");
+    put_text("e.example", "%{d} is not %{o}: %{c} %{h} %{r} %{t}");
+#define MAKES(domain, text, what) \
+    expect(second(domain, 35, 9) == TALAVORN_FAIL && made(0, "", text), what)
+    MAKES("Example.COM.", "example.com is not example.com: 192.0.2.129 h.example unknown 7",
+          "a text");
+    given.client = talavorn_bytes(mapped, 16);
+    MAKES("example.com", "example.com is not example.com: 192.0.2.129 h.example unknown 7",
+          "a text for a mapped client");
+    given.client = talavorn_bytes(client6, 16);
+    given.sender = talavorn_text("u@b.x");
+    MAKES("example.com", "example.com is not b.x: 2001:1db8:0:0:0:0:0:1 h.example unknown 7",
+          "a text for another client");
+    expect(second("example.com", 0, 0) == TALAVORN_FAIL && made(0, "", ""), "no exp: no text");
+    begin_record("v=spf1 -all exp=a..b");
+    expect(second("example.com", 35, 4) == TALAVORN_FAIL && made(0, "", ""),
+           "the text of a malformed target");
+    begin_record("v=spf1 redirect=B.x exp=a.a");
+    put_text("b.x", "v=spf1 -all exp=why.%{d}");
+    expect(second("b.x", 73, 8) == TALAVORN_WANTING && made(TALAVORN_TYPE_TXT, "why.b.x", ""),
+           "d of the failing record");
+    expect(second("example.com", 43, 3) == TALAVORN_WANTING && made(TALAVORN_TYPE_TXT, "a.a", ""),
+           "exp of the record before the redirect");
+}
+
+/* Explanations of which no text is made, and those that are just in. */
+static void odd_explanations(void)
+{
+    char text[502];
+    static const char *const bad[] = { "%", "100%", "%{x}", "%{d", "a\tb", "a\x7f", "\xc3\xa4" };
+    for (size_t i = 0; i < sizeof bad / sizeof *bad; i++) {
+        begin_record("v=spf1 -all exp=e.example");
+        put_text("e.example", bad[i]);
+        MAKES("example.com", "", "a text outside the grammar");
+    }
+    for (uint8_t status = 0; status < 4; status++) {
+        if (status == 1)
+            continue;
+        begin_record("v=spf1 -all exp=e.example");
+        put_status(TALAVORN_TYPE_TXT, status, "e.example");
+        MAKES("example.com", "", "a void or failed answer");
+    }
+    begin_record("v=spf1 -all exp=e.example");
+    append(TALAVORN_TYPE_TXT, 0, TEXT("e.example"), TEXT("\1\0a\1\0b"), 65535);
+    MAKES("example.com", "", "two texts");
+    begin_record("v=spf1 -all exp=e.example");
+    put_text("e.example", "");
+    MAKES("example.com", "", "an empty text");
+    memset(text, 'x', 500);
+    strcpy(text + 500, "");
+    begin_record("v=spf1 -all exp=e.example");
+    put_text("e.example", text);
+    MAKES("example.com", text, "a text of 500 bytes");
+    text_room = sizeof lent_text;
+    MAKES("example.com", text, "the same in a longer buffer");
+    strcpy(text + 500, "x");
+    begin_record("v=spf1 -all exp=e.example");
+    put_text("e.example", text);
+    text_room = sizeof lent_text;
+    MAKES("example.com", "", "a text of 501 bytes");
+}
+
+/* p's questions of the target and of the text are the second call's. */
+static void explanations_with_p(void)
+{
+    begin_record("v=spf1 -all exp=%{p}.x");
+#define ASKS_P(kind, name, what) \
+    expect(second("example.com", 35, 6) == TALAVORN_WANTING && made(kind, name, ""), what)
+    ASKS_P(TALAVORN_TYPE_PTR, REVERSE, "p's question for the target");
+    append(TALAVORN_TYPE_PTR, 0, TEXT(REVERSE), TEXT("\x0f\0m.b.example.com"), 65535);
+    ASKS_P(TALAVORN_TYPE_A, "m.b.example.com", "the address of p's name");
+    append(TALAVORN_TYPE_A, 0, TEXT("m.b.example.com"), TEXT("\x04\0\xc0\0\x02\x81"), 65535);
+    ASKS_P(TALAVORN_TYPE_TXT, "m.b.example.com.x", "the text of a target with p");
+    put_text("m.b.example.com.x", "%{p}");
+    expect(second("example.com", 35, 6) == TALAVORN_FAIL && made(0, "", "m.b.example.com"),
+           "a text with p");
+    begin_record("v=spf1 -all exp=e.example");
+    put_text("e.example", "for %{p}");
+    expect(second("example.com", 35, 9) == TALAVORN_WANTING
+               && made(TALAVORN_TYPE_PTR, REVERSE, ""),
+           "p's question for the text");
+    put_status(TALAVORN_TYPE_PTR, TALAVORN_FAILED, REVERSE);
+    MAKES("example.com", "for unknown", "no value of p");
+    expect(first() == TALAVORN_FAIL && left(0, 0, 0, "example.com", 35, 9),
+           "the first call over the table that has grown");
+}
+
+#define NO_EXP(domain, at, len, what) \
+    expect(second(domain, at, len) == TALAVORN_BAD_EXP && made(0, "", ""), what)
+
+/* Places that are an exp argument's, and those that are not. */
+static void exp_places(void)
+{
+    const size_t most = SIZE_MAX;
+    begin_record("v=spf1 -all exp=e.example");
+    NO_EXP("example.com", 0, 9, "place 0");
+    NO_EXP("example.com", 35, 0, "length 0");
+    NO_EXP("example.com", 34, 9, "a place too early");
+    NO_EXP("example.com", 36, 9, "a place too late");
+    NO_EXP("example.com", 35, 8, "a length too short");
+    NO_EXP("example.com", 35, 10, "a length too long");
+    NO_EXP("example.com", 36, 8, "the end of the argument");
+    NO_EXP("example.com", 31, 13, "the whole term");
+    NO_EXP("example.com", 16, 9, "the place in the record");
+    NO_EXP("example.com", 0, 44, "the whole entry");
+    NO_EXP("example.com", 44, 9, "a place behind the table");
+    NO_EXP("example.com", most, 9, "the largest place");
+    NO_EXP("example.com", 35, most, "the largest length");
+    NO_EXP("example.com", most, most, "both");
+    NO_EXP("example.com", most - 34, 79, "a sum beyond the largest number, which leaves 44");
+    NO_EXP("example.com", 35, most - 34, "another, which leaves 0");
+    NO_EXP("example.com..", 35, 9, "two dots");
+    NO_EXP("other.x", 35, 9, "a domain that has no entry");
+    NO_EXP("", 35, 9, "an empty domain");
+    NO_EXP("a..b", 35, 9, "a malformed domain");
+    NO_EXP("sub.example.com", 35, 9, "a domain below");
+    begin_record("v=spf1 +all exp=e.example");
+    expect(first() == TALAVORN_PASS, "a pass");
+    ASKS("example.com", "a record that passes");
+    begin_check();
+    put_text("com", "v=spf1 -all exp=e.example");
+    NO_EXP("com", 27, 9, "a single label");
+    expect(second("com", 0, 0) == TALAVORN_FAIL && made(0, "", ""), "no exp of a single label");
+    expect(second("a..b", 0, 0) == TALAVORN_FAIL && made(0, "", ""), "of a malformed domain");
+    expect(second("", 0, 0) == TALAVORN_FAIL && made(0, "", ""), "of an empty domain");
+    expect(second("other.x", 0, 0) == TALAVORN_FAIL && made(0, "", ""), "of one without entry");
+    size = 0;
+    expect(second("other.x", 0, 0) == TALAVORN_FAIL && made(0, "", ""), "in an empty table");
+}
+
+/* The table decides: other entries before and behind the record, and equal bytes elsewhere. */
+static void exp_tables(void)
+{
+    begin_record("v=spf1 -all exp=e.example");
+    put_text("b.x", "v=spf1 -all exp=e.example");
+    ASKS("example.com", "a table that has grown at its end");
+    NO_EXP("example.com", 71, 9, "the same bytes in another entry");
+    NO_EXP("b.x", 35, 9, "the same bytes in the first entry");
+    expect(second("b.x", 71, 9) == TALAVORN_WANTING && made(TALAVORN_TYPE_TXT, "e.example", ""),
+           "those of its own entry");
+    begin_check();
+    put_status(TALAVORN_TYPE_A, TALAVORN_NO_SUCH_NAME, "a");
+    put_text("example.com", "v=spf1 -all exp=e.example");
+    NO_EXP("example.com", 35, 9, "the place of another table");
+    expect(second("example.com", 42, 9) == TALAVORN_WANTING
+               && made(TALAVORN_TYPE_TXT, "e.example", ""),
+           "that of this table");
+}
+
+/* Records that aren't selected or aren't accepted have no exp argument. */
+static void exp_selection(void)
+{
+#define RECORD "\x19\0v=spf1 -all exp=e.example"
+    begin_check();
+    append(TALAVORN_TYPE_TXT, 0, TEXT("example.com"), TEXT(RECORD "\x0b\0v=spf1 -all"), 65535);
+    NO_EXP("example.com", 35, 9, "two records");
+    begin_check();
+    append(TALAVORN_TYPE_TXT, 0, TEXT("example.com"), TEXT("\4\0text" RECORD), 65535);
+    NO_EXP("example.com", 35, 9, "the place without the text before");
+    expect(second("example.com", 41, 9) == TALAVORN_WANTING
+               && made(TALAVORN_TYPE_TXT, "e.example", ""),
+           "a record behind another text");
+    begin_check();
+    append(TALAVORN_TYPE_SPF, 0, TEXT("example.com"), TEXT(RECORD), 65535);
+    NO_EXP("example.com", 35, 9, "an SPF entry");
+    put_status(TALAVORN_TYPE_TXT, TALAVORN_FAILED, "example.com");
+    NO_EXP("example.com", 35, 9, "a failed answer beside it");
+    begin_check();
+    append(TALAVORN_TYPE_SPF, 0, TEXT("example.com"), TEXT(RECORD), 65535);
+    put_status(TALAVORN_TYPE_TXT, TALAVORN_NO_SUCH_NAME, "example.com");
+    NO_EXP("example.com", 35, 9, "no such name beside it");
+    begin_record("v=spf10 -all exp=e.example");
+    NO_EXP("example.com", 36, 9, "another version");
+    begin_record("v=spf1 -al exp=e.example");
+    NO_EXP("example.com", 34, 9, "a term outside the grammar");
+    begin_record("v=spf1 -all exp=e.example exp=e.example");
+    NO_EXP("example.com", 35, 9, "the first of two exp");
+    NO_EXP("example.com", 49, 9, "the second of two");
+    begin_record("v=spf1 -all x=e.example");
+    NO_EXP("example.com", 33, 9, "another modifier");
+    begin_record("v=spf1 redirect=e.example");
+    NO_EXP("example.com", 35, 9, "redirect's argument");
 }
 
 /* Adds to an empty table of so much room, as the answer to the question for `A a.b`. */
@@ -663,34 +1177,60 @@ static void void_answers(void)
            "p's ten names, all gone");
 }
 
+/* Answers a question of the play below: ten hosts for each MX and PTR, whose addresses are others,
+ * and two records. Answers whether it could. */
+static int ask_for(const struct talavorn_answer *a, const char *record)
+{
+    static const uint8_t other[4] = { 198, 51, 100, 1 };
+    begin_items(sizeof buffer);
+    if (a->kind == TALAVORN_TYPE_A)
+        talavorn_item_a(&items, other);
+    else if (a->kind != TALAVORN_TYPE_TXT)
+        put_ten(a);
+    else if (strcmp(a->name, "example.com") == 0)
+        talavorn_item_txt(&items, talavorn_text(record));
+    else
+        talavorn_item_txt(&items, talavorn_text("not from %{p}"));
+    return !items.unfit && talavorn_add(a, 0, &items, table, sizeof table, &size) == 0;
+}
+
+/* Plays a check of this record, both calls, from an empty table. Leaves how many questions the
+ * first asked, and answers how many the second. */
+static int play(const char *record, struct talavorn_answer *a, int *first, char text[501])
+{
+    struct talavorn_mail mail = usual_mail();
+    struct talavorn_answer t;
+    int second = 0;
+    *first = 0;
+    for (size = 0; (*a = talavorn_check(&mail, table, size)).number == TALAVORN_WANTING; ++*first)
+        if (!ask_for(a, record))
+            return -1;
+    while ((t = talavorn_fail_text(&mail, a, table, size, text)).number == TALAVORN_WANTING) {
+        if (!ask_for(&t, record))
+            return -1;
+        second++;
+    }
+    return second;
+}
+
 /* Ten mx of ten hosts each, one of them with macro p, and an explanation. */
 static void most_questions(void)
 {
-    static const uint8_t other[4] = { 198, 51, 100, 1 };
-    struct talavorn_mail mail = usual_mail();
     struct talavorn_answer a;
-    int questions = 0;
-    for (size = 0; (a = talavorn_check(&mail, table, size)).number == TALAVORN_WANTING;) {
-        begin_items(sizeof buffer);
-        if (a.kind == TALAVORN_TYPE_A)
-            talavorn_item_a(&items, other);
-        else if (a.kind != TALAVORN_TYPE_TXT)
-            put_ten(&a);
-        else if (strcmp(a.name, "example.com") == 0)
-            talavorn_item_txt(&items, talavorn_text(
-                "v=spf1 mx:%{p}.m0.example mx:m1.example mx:m2.example mx:m3.example mx:m4.example "
-                "mx:m5.example mx:m6.example mx:m7.example mx:m8.example mx:m9.example -all "
-                "exp=why.example"));
-        else
-            talavorn_item_txt(&items, talavorn_text("not from %{p}"));
-        if (items.unfit || talavorn_add(&a, 0, &items, table, sizeof table, &size) != 0)
-            break;
-        questions++;
-    }
+    char text[501];
+    int first, second;
+    second = play("v=spf1 mx:%{p}.m0.example mx:m1.example mx:m2.example mx:m3.example "
+                  "mx:m4.example mx:m5.example mx:m6.example mx:m7.example mx:m8.example "
+                  "mx:m9.example -all exp=why.example",
+                  &a, &first, text);
     expect(a.number == TALAVORN_FAIL && a.lookups == 10 && a.voids == 0
-               && strcmp(a.text, "not from unknown") == 0,
+               && strcmp(text, "not from unknown") == 0,
            "the result after the most questions");
-    expect(questions == 123, "123 questions");
+    expect(first == 122 && second == 1, "123 questions");
+    second = play("v=spf1 -all exp=%{p}.example", &a, &first, text);
+    expect(a.number == TALAVORN_FAIL && first == 1 && second == 12
+               && strcmp(text, "not from unknown") == 0,
+           "the most questions of the second call");
 }
 
 int main(void)
@@ -710,8 +1250,19 @@ int main(void)
     item_texts();
     result_names();
     checks();
+    fail_texts();
     spf_entries();
     odd_answers();
+    evaluation_refusals();
+    explanation_refusals();
+    failing_records();
+    other_results();
+    explanations();
+    odd_explanations();
+    explanations_with_p();
+    exp_places();
+    exp_tables();
+    exp_selection();
     wrapped_additions();
     void_answers();
     most_questions();

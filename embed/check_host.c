@@ -1,7 +1,8 @@
 /* Checks a client, through talavorn.h: reads client, domain, sender, HELO, receiver and t from
  * standard input, a line each, then the answer table, and prints number, kind or place and both
- * counts on a line, and for 3 and 7 the text or name on a second. A client or t that cannot be read
- * prints `input`. What it prints is what the proved program check_host prints. */
+ * counts on a line, and for 3 and 7 the text or name on a second. For a fail the number, the kind
+ * and what stands on the second line are those of the second call. A client or t that cannot be
+ * read prints `input`. What it prints is what the proved program check_host prints. */
 #include <stdio.h>
 #include <stdlib.h>
 
@@ -91,7 +92,10 @@ static void check(struct bytes rest)
         .receiver = view(receiver),
         .seconds = seconds,
     };
-    struct talavorn_answer a = talavorn_check(&mail, rest.at, rest.len);
+    char text[501];
+    struct talavorn_answer result = talavorn_check(&mail, rest.at, rest.len), a = result;
+    if (result.number == TALAVORN_FAIL)
+        a = talavorn_fail_text(&mail, &result, rest.at, rest.len, text);
     printf("%u ", a.number);
     if (a.number == TALAVORN_WANTING)
         printf("%u", a.kind);
@@ -101,7 +105,7 @@ static void check(struct bytes rest)
         putchar('.');
     printf(" %u %u\n", a.lookups, a.voids);
     if (a.number == TALAVORN_FAIL)
-        puts(a.text);
+        puts(text);
     if (a.number == TALAVORN_WANTING)
         puts(a.name);
 }

@@ -1,11 +1,15 @@
 // Checks a client, through talavorn.rs: reads client, domain, sender, HELO, receiver and t from
 // standard input, a line each, then the answer table, and prints number, kind or place and both
-// counts on a line, and for 3 and 7 the text or name on a second. A client or t that cannot be read
-// prints `input`. What it prints is what the proved program check_host prints.
+// counts on a line, and for 3 and 7 the text or name on a second. For a fail the number, the kind
+// and what stands on the second line are those of the second call. A client or t that cannot be
+// read prints `input`. What it prints is what the proved program check_host prints.
 mod talavorn;
 
 use std::io::{Read, Write};
-use talavorn::{evaluate, read_address, Mail, FAIL, WANTING};
+use talavorn::{
+    evaluate, explain, read_address, Answer, Counts, Explanation, Mail, Question, Refusal, FAIL,
+    WANTING,
+};
 
 // Takes a line off the front of what is left; one that is missing is empty.
 fn take_line<'a>(rest: &mut &'a [u8]) -> &'a [u8] {
@@ -34,6 +38,31 @@ fn read_number(s: &[u8]) -> Option<u64> {
     if s.is_empty() { None } else { Some(value) }
 }
 
+// What is printed: number, kind or place, counts, and a second line.
+type Shown = (u8, Option<usize>, Counts, Option<Vec<u8>>);
+
+fn wanting(question: Question, counts: Counts) -> Shown {
+    (WANTING, Some(question.kind.into()), counts, Some(question.name))
+}
+
+fn refused(refusal: Refusal) -> Shown {
+    let place = matches!(refusal.number, 25 | 26).then_some(refusal.place);
+    (refusal.number, place, Counts { lookups: 0, voids: 0 }, None)
+}
+
+fn check(mail: &Mail, table: &[u8]) -> Shown {
+    match evaluate(mail, table) {
+        Answer::Decided(number, counts) => (number, None, counts, None),
+        Answer::Wanting(question, counts) => wanting(question, counts),
+        Answer::Refused(refusal) => refused(refusal),
+        Answer::Fail(failing, counts) => match explain(mail, &failing, table) {
+            Explanation::Text(text) => (FAIL, None, counts, Some(text)),
+            Explanation::Wanting(question) => wanting(question, counts),
+            Explanation::Refused(refusal) => refused(refusal),
+        },
+    }
+}
+
 fn main() -> std::io::Result<()> {
     let mut input = Vec::new();
     std::io::stdin().read_to_end(&mut input)?;
@@ -48,18 +77,12 @@ fn main() -> std::io::Result<()> {
     let (Some(client), Some(seconds)) = (read_address(client), read_number(t)) else {
         return out.write_all(b"input\n");
     };
-    let a = evaluate(&Mail { client: &client, domain, sender, helo, receiver, seconds }, rest);
-    let [place, lookups, voids, length] = a.values;
-    match a.number {
-        WANTING | 25 | 26 => writeln!(out, "{} {place} {lookups} {voids}", a.number)?,
-        number => writeln!(out, "{number} . {lookups} {voids}")?,
-    }
-    if a.number == FAIL {
-        out.write_all(&a.text[..length])?;
-        out.write_all(b"\n")?;
-    }
-    if a.number == WANTING {
-        out.write_all(&a.name[..length])?;
+    let mail = Mail { client: &client, domain, sender, helo, receiver, seconds };
+    let (number, place, Counts { lookups, voids }, line) = check(&mail, rest);
+    let place = place.map_or(".".to_string(), |n| n.to_string());
+    writeln!(out, "{number} {place} {lookups} {voids}")?;
+    if let Some(bytes) = line {
+        out.write_all(&bytes)?;
         out.write_all(b"\n")?;
     }
     Ok(())

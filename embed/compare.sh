@@ -19,11 +19,21 @@ repeat() { i=0; while [ "$i" -lt "$1" ]; do printf '%s' "$2"; i=$((i + 1)); done
 # a TXT entry of example.com with the record `v=spf1 -all`, and one of status 3
 record() { printf '\034\000\020\000\000\013example.com\013\000v=spf1 -all'; }
 gone() { printf '\017\000\020\000\003\013example.com'; }
+# one with an explanation behind a void answer, that answer, and the explanation's text
+explained() {
+    printf '\065\000\020\000\000\013example.com'
+    printf '\044\000v=spf1 exists:g.x -all exp=e.example'
+    printf '\007\000\001\000\000\003g.x'
+}
+text() { printf '\027\000\020\000\000\011e.example\010\000for %%{d}'; }
 
 cp crates/check_host/stdin "$dir/stored"
 : >"$dir/empty"
 usual >"$dir/no_table"
 { usual; record; } >"$dir/fail"
+{ usual; explained; } >"$dir/fail_wanting_text"
+{ usual; explained; text; } >"$dir/fail_with_text"
+{ usual; explained; text; record; } >"$dir/fail_repeated"
 { usual; gone; } >"$dir/none"
 { usual; record; gone; } >"$dir/repeated"
 { usual; record; printf '\001'; } >"$dir/malformed"

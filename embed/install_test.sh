@@ -34,34 +34,76 @@ cp relay.c "$dir"
 (cd "$dir" && build $cc -std=c99 $flags relay.c $libs -o relay)
 "$dir/relay" >"$dir/printed"
 cat >"$dir/expected" <<'END'
+a relay that sends the text
 client 192.0.2.1
   TXT example.com
   TXT _spf.example.net
   pass, lookups 1, voids 0
+  questions: 2
 client 198.51.100.7
   TXT example.com
   TXT _spf.example.net
   MX example.com
   A mail.example.com
   pass, lookups 2, voids 0
+  questions: 4
 client 203.0.113.9
   TXT example.com
   TXT _spf.example.net
   MX example.com
   A mail.example.com
   A gone.example.com
-  TXT why.example.com
   fail, lookups 2, voids 1
+  TXT why.example.com
   the domain example.com explains: 203.0.113.9 may not send mail for example.com
+  questions: 6
 client 2001:db8::1
   TXT example.com
   TXT _spf.example.net
   MX example.com
   AAAA mail.example.com
   AAAA gone.example.com
-  TXT why.example.com
   fail, lookups 2, voids 2
+  TXT why.example.com
   the domain example.com explains: 2001:db8:0:0:0:0:0:1 may not send mail for example.com
+  questions: 6
+a relay that sends no text
+client 192.0.2.1
+  TXT example.com
+  TXT _spf.example.net
+  pass, lookups 1, voids 0
+  questions: 2
+client 198.51.100.7
+  TXT example.com
+  TXT _spf.example.net
+  MX example.com
+  A mail.example.com
+  pass, lookups 2, voids 0
+  questions: 4
+client 203.0.113.9
+  TXT example.com
+  TXT _spf.example.net
+  MX example.com
+  A mail.example.com
+  A gone.example.com
+  fail, lookups 2, voids 1
+  questions: 5
+client 2001:db8::1
+  TXT example.com
+  TXT _spf.example.net
+  MX example.com
+  AAAA mail.example.com
+  AAAA gone.example.com
+  fail, lookups 2, voids 2
+  questions: 5
+client 203.0.113.9, parked for the explanation alone: no text is sent
+  fail, lookups 2, voids 1
+  questions: 0
+client 203.0.113.9, parked for the explanation alone: the text is sent
+  fail, lookups 2, voids 1
+  TXT why.example.com
+  the domain example.com explains: 203.0.113.9 may not send mail for example.com
+  questions: 1
 END
 diff "$dir/expected" "$dir/printed"
 echo 'relay.c: built with pkg-config, prints what it should'
@@ -84,10 +126,14 @@ int main()
     if (a.number != TALAVORN_WANTING || std::strcmp(a.name, "example.com") != 0)
         return 1;
     talavorn_items items = talavorn_items_in(buffer, sizeof buffer);
-    talavorn_item_txt(&items, talavorn_text("v=spf1 ip4:192.0.2.0/24 -all"));
+    talavorn_item_txt(&items, talavorn_text("v=spf1 -ip4:192.0.2.0/24"));
     if (talavorn_add(&a, TALAVORN_ANSWERED, &items, table, sizeof table, &size) != 0)
         return 1;
-    return std::strcmp(talavorn_result_name(talavorn_check(&mail, table, size).number), "pass");
+    char text[501];
+    a = talavorn_check(&mail, table, size);
+    if (talavorn_fail_text(&mail, &a, table, size, text).text_len != 0 || text[0] != 0)
+        return 1;
+    return std::strcmp(talavorn_result_name(a.number), "fail");
 }
 END
 # shellcheck disable=SC2086

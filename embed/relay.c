@@ -1,5 +1,8 @@
-/* What a relay does: checks four clients from an empty table each. Each question that is wanting is
- * printed and asked, here of a little zone in place of the DNS. Then the result is printed. */
+/* What a relay does that sends the domain's explanation, and what one does that never sends it:
+ * each checks four clients from an empty table each. Each question that is wanting is printed and
+ * asked, here of a little zone in place of the DNS. Then the result is printed, and how many
+ * questions were asked. At the end both take up a letter that lacks the explanation's answer alone.
+ */
 #include <stdio.h>
 
 #include <talavorn.h>
@@ -63,23 +66,78 @@ static const char *type_name(uint16_t type)
     }
 }
 
-/* Checks a mail from an empty table, asking for whatever is wanting. */
-static struct talavorn_answer check(const struct talavorn_mail *mail)
+/* A letter: what is checked, and its table, which is all that is kept while it is parked. */
+struct letter {
+    struct talavorn_mail mail;
+    uint8_t client[16], table[65535];
+    size_t size;
+    unsigned asked;
+};
+
+/* Asks for what is wanting and adds the answer to the letter's table; returns whether it could. */
+static int ask_for(struct letter *l, const struct talavorn_answer *wanting)
 {
-    static uint8_t table[65535], buffer[65535]; /* a pair for each thread */
-    size_t size = 0;
-    for (;;) {
-        struct talavorn_answer a = talavorn_check(mail, table, size);
-        if (a.number != TALAVORN_WANTING)
-            return a;
-        struct talavorn_items items = talavorn_items_in(buffer, sizeof buffer);
-        unsigned rcode = ask(a.name, a.kind, &items);
-        printf("  %s %s\n", type_name(a.kind), a.name);
-        if (talavorn_add(&a, rcode, &items, table, sizeof table, &size) != 0) {
+    static uint8_t buffer[65535]; /* one for each thread */
+    struct talavorn_items items = talavorn_items_in(buffer, sizeof buffer);
+    unsigned rcode = ask(wanting->name, wanting->kind, &items);
+    printf("  %s %s\n", type_name(wanting->kind), wanting->name);
+    l->asked++;
+    return talavorn_add(wanting, rcode, &items, l->table, sizeof l->table, &l->size) == 0;
+}
+
+/* The result. Nothing is asked for the explanation. */
+static struct talavorn_answer decide(struct letter *l)
+{
+    struct talavorn_answer a;
+    while ((a = talavorn_check(&l->mail, l->table, l->size)).number == TALAVORN_WANTING)
+        if (!ask_for(l, &a)) {
             a.number = TALAVORN_TEMPERROR; /* nothing was added: the table is full */
-            return a;
+            break;
         }
+    return a;
+}
+
+/* The text of a fail, empty where there is none. */
+static void explain(struct letter *l, const struct talavorn_answer *failed, char text[501])
+{
+    struct talavorn_answer a;
+    do
+        a = talavorn_fail_text(&l->mail, failed, l->table, l->size, text);
+    while (a.number == TALAVORN_WANTING && ask_for(l, &a));
+}
+
+/* Decides a letter, and makes the text if this relay sends it. */
+static void handle(struct letter *l, int sends_text)
+{
+    char text[501] = "";
+    struct talavorn_answer a;
+    l->asked = 0;
+    a = decide(l);
+    if (20 <= a.number) {
+        printf("  no result: refused, number %u\n", a.number);
+        return;
     }
+    printf("  %s, lookups %u, voids %u\n", talavorn_result_name(a.number), a.lookups, a.voids);
+    if (a.number == TALAVORN_FAIL && sends_text)
+        explain(l, &a, text);
+    if (*text)
+        printf("  the domain %s explains: %s\n", a.name, text);
+    printf("  questions: %u\n", l->asked);
+}
+
+static void begin(struct letter *l, const char *client)
+{
+    size_t family = talavorn_read_address(client, strlen(client), l->client);
+    struct talavorn_mail mail = {
+        .client = talavorn_bytes(l->client, family),
+        .domain = talavorn_text("example.com"),
+        .sender = talavorn_text("user@example.com"),
+        .helo = talavorn_text("mail.example.com"),
+        .receiver = talavorn_text("mx.relay.example"),
+        .seconds = 1700000000,
+    };
+    l->mail = mail;
+    l->size = 0;
 }
 
 int main(void)
@@ -87,26 +145,19 @@ int main(void)
     static const char *const clients[] = {
         "192.0.2.1", "198.51.100.7", "203.0.113.9", "2001:db8::1"
     };
-    for (size_t i = 0; i < sizeof clients / sizeof *clients; i++) {
-        uint8_t octets[16];
-        size_t family = talavorn_read_address(clients[i], strlen(clients[i]), octets);
-        struct talavorn_mail mail = {
-            .client = talavorn_bytes(octets, family),
-            .domain = talavorn_text("example.com"),
-            .sender = talavorn_text("user@example.com"),
-            .helo = talavorn_text("mail.example.com"),
-            .receiver = talavorn_text("mx.relay.example"),
-            .seconds = 1700000000,
-        };
-        printf("client %s\n", clients[i]);
-        struct talavorn_answer a = check(&mail);
-        if (20 <= a.number) {
-            printf("  no result: refused, number %u\n", a.number);
-            continue;
+    static struct letter letters[sizeof clients / sizeof *clients];
+    for (int sends_text = 1; 0 <= sends_text; sends_text--) {
+        puts(sends_text ? "a relay that sends the text" : "a relay that sends no text");
+        for (size_t i = 0; i < sizeof clients / sizeof *clients; i++) {
+            printf("client %s\n", clients[i]);
+            begin(&letters[i], clients[i]);
+            handle(&letters[i], sends_text);
         }
-        printf("  %s, lookups %u, voids %u\n", talavorn_result_name(a.number), a.lookups, a.voids);
-        if (a.text_len != 0)
-            printf("  the domain example.com explains: %s\n", a.text);
     }
+    /* the second relay left no answer for the explanation in the tables */
+    printf("client %s, parked for the explanation alone: no text is sent\n", clients[2]);
+    handle(&letters[2], 0);
+    printf("client %s, parked for the explanation alone: the text is sent\n", clients[2]);
+    handle(&letters[2], 1);
     return 0;
 }

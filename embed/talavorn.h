@@ -111,7 +111,7 @@ enum {
 
 /* ---- 4  Numbers ------------------------------------------------------------------------------ */
 
-/* What talavorn_evaluate returns. */
+/* What talavorn_evaluate returns, and 3 and 7 of these talavorn_explain. */
 enum {
     TALAVORN_NONE = 0,
     TALAVORN_NEUTRAL = 1,
@@ -129,7 +129,10 @@ enum {
  *     21  check MAIL FROM again with an empty HELO; for HELO and for an empty MAIL FROM, none
  *     22  none
  * The others are up to the caller: temperror, and fix the caller; but for 21 of the receiver check
- * again with an empty one. */
+ * again with an empty one.
+ * A refusal of talavorn_explain doesn't change the result, which is fail: send no text, and fix the
+ * caller. What talavorn_evaluate gave with its 3 isn't refused if the other arguments are the same
+ * and the table is as it was, or grown at its end by talavorn_append_entry. */
 enum {
     TALAVORN_BAD_SENDER = 20,       /* sender not 1 to 320 bytes of 32 to 126 */
     TALAVORN_BAD_HOST = 21,         /* HELO or receiver over 255 bytes, or a byte not 33 to 126 */
@@ -138,6 +141,7 @@ enum {
     TALAVORN_LONG_TABLE = 24,       /* table over 65,535 bytes, or over its buffer */
     TALAVORN_BAD_ENTRY = 25,        /* entry of the table malformed, or a 513th */
     TALAVORN_REPEATED_ENTRY = 26,   /* kind and name of an entry stand in the table before it */
+    TALAVORN_BAD_EXP = 28,          /* place and size that aren't an exp argument's; see the call */
     TALAVORN_LONG_RECORD = 30,      /* record over 4,096 bytes */
     TALAVORN_NO_VERSION = 31,       /* record without `v=spf1` and then a space or the end */
     TALAVORN_BAD_TERM = 32,         /* term outside the grammar */
@@ -153,17 +157,23 @@ enum {
 
 /* ---- 5  The calls ---------------------------------------------------------------------------- */
 
+/* A check is two calls: talavorn_evaluate gives the result, and for fail talavorn_explain makes the
+ * text. A relay that never sends the text makes the first call alone, and none of its letters waits
+ * for an explanation. */
+
 /* Where what talavorn_evaluate writes stands in `values`. */
 enum {
     TALAVORN_KIND = 0,              /* 7: the DNS type to ask. 25, 26: the place. Otherwise 0 */
     TALAVORN_PLACE = 0,
     TALAVORN_LOOKUPS = 1,           /* lookups begun, 0 to 10 */
     TALAVORN_VOIDS = 2,             /* void answers met, 0 to 3; the third gives 6 */
-    TALAVORN_LENGTH = 3,            /* 3: the text's length. 7: the name's length. Otherwise 0 */
-    TALAVORN_VALUES = 4
+    TALAVORN_LENGTH = 3,            /* 7: the name's length. 3: the domain's length. Otherwise 0 */
+    TALAVORN_EXP_PLACE = 4,         /* 3: the place of exp's argument in the table. Otherwise 0 */
+    TALAVORN_EXP_LENGTH = 5,        /* 3: its length. Otherwise 0. Both are 0 without exp */
+    TALAVORN_VALUES = 6
 };
 
-/* Evaluates a domain for a client: check_host().
+/* Evaluates a domain for a client: check_host() but for the explanation.
  *
  * client    4 or 16 octets. An IPv4-mapped IPv6 address counts as IPv4
  * domain    the domain of MAIL FROM, as given: one trailing dot is dropped and A to Z are lowered.
@@ -174,37 +184,43 @@ enum {
  * seconds   the time, in seconds since 1970; only macro t uses it
  * table     the answers so far
  * name      at least 253 bytes
- * text      at least 500 bytes
  *
  * For an empty MAIL FROM, and to check HELO, domain is the HELO name, and sender is `postmaster@`
  * and the HELO name. RFC 7208 recommends the HELO check (2.3); MAIL FROM is checked, too, unless
  * HELO's result already decided (2.4).
  *
  * Tests in this order, and returns the first that holds, with counts of 0 and nothing written to
- * name and text:
+ * name:
  *     90  client isn't 4 or 16 octets
- *     20  sender, 21 helo or receiver, 22 domain, 23 name or text buffer, 24 table
+ *     20  sender, 21 helo or receiver, 22 domain, 23 name buffer, 24 table
  *     25 or 26, whichever has the earlier place in the table, 25 if equal; the place in values[0]
  * Otherwise returns
- *     0 to 6  the result, with both counts. For 3, and only then, text is written: the explanation
- *             at its front, values[3] bytes, 0 to 500. The domain's owner wrote it: say so in the
- *             reply (6.2)
+ *     0 to 6  the result, with both counts
+ *     3       has, besides, what talavorn_explain makes the text from. The failing record's domain
+ *             is written at the front of name, values[3] bytes, 3 to 253: lowered and without a
+ *             trailing dot, as macro d shows it. The failing record is the one whose mechanism
+ *             matched: behind redirects the last one, and never an included one. The argument of
+ *             its exp, all that follows `exp=`, is the values[5] bytes of the table from the place
+ *             values[4] on; both are 0 where it has no exp, and only there
  *     7       a question is needed that has no entry: its kind, the DNS type to ask (A, PTR, MX,
  *             TXT or AAAA), is in values[0], and its name is written at the front of name,
  *             values[3] bytes, 1 to 253. The counts are those so far. Ask the DNS, add an entry for
  *             this kind and name, and call again
- * All of values is written by every call.
+ * Only 3 and 7 write to name. All of values is written by every call.
+ *
+ * No question is for the explanation: neither its TXT question nor macro p's for it.
  *
  * A void answer is an entry of status 3, or of status 0 without items, for a question of a, mx, ptr
  * or exists; the addresses of mx hosts and ptr names are such questions. It counts each time it is
  * met, and the third in a check gives 6 at once: no later host or name is asked. Not counted are
  * TXT, and the questions of macro p.
  *
- * A caller who begins with an empty table and adds what is wanted gets 7 at most 123 times:
+ * A caller who begins with an empty table and adds what is wanted gets 7 at most 123 times, from
+ * talavorn_evaluate and then talavorn_explain together:
  *       1  the TXT question of the domain
  *     110  ten lookups, 11 each: MX or PTR and 10 addresses; any other lookup asks once
  *      11  macro p: PTR and 10 addresses, the same questions for each use
- *       1  the TXT question of the explanation
+ *       1  the TXT question of the explanation, which talavorn_explain alone asks
  * This is counted from the rules, not proved. */
 uint8_t talavorn_evaluate(
     const void *client, size_t client_len,
@@ -215,8 +231,60 @@ uint8_t talavorn_evaluate(
     uint64_t seconds,
     const void *table, size_t table_len,
     void *name, size_t name_len,
+    size_t values[6]);
+
+/* Where what talavorn_explain writes stands in `values`. */
+enum {
+    TALAVORN_EXPLAIN_KIND = 0,      /* 7: the DNS type to ask. 25, 26: the place. Otherwise 0 */
+    TALAVORN_EXPLAIN_PLACE = 0,
+    TALAVORN_EXPLAIN_LENGTH = 1,    /* 3: the text's length. 7: the name's length. Otherwise 0 */
+    TALAVORN_EXPLAIN_VALUES = 2
+};
+
+/* Makes the text of a fail, the domain's explanation, from what talavorn_evaluate gave with its 3.
+ *
+ * domain    the failing record's, as talavorn_evaluate wrote it to its name buffer; one trailing
+ *           dot would be dropped and A to Z lowered
+ * place, size  values[4] and values[5] of talavorn_evaluate: exp's argument in the table
+ * name      at least 253 bytes. NOT the buffer in which the domain stands, which is read while name
+ *           is written: lend another one, or copy the domain
+ * text      at least 500 bytes
+ * client, sender, helo, receiver, seconds, table  as for talavorn_evaluate
+ *
+ * Tests in this order, and returns the first that holds, with nothing written to name and text:
+ *     90  client isn't 4 or 16 octets
+ *     20  sender, 21 helo or receiver, 22 domain, 23 name or text buffer, 24 table
+ *     25 or 26, whichever has the earlier place in the table, 25 if equal; the place in values[0]
+ *     28  place and size aren't both 0, and aren't the place and length of the exp argument of a
+ *         record that is selected for the domain in this table and is within the grammar. The
+ *         record needn't have failed. A malformed or single-label domain has none
+ * Otherwise returns
+ *     3  the text is written at the front of text, values[1] bytes, 0 to 500. It is empty where
+ *        place and size are both 0, whatever domain and table are, and where exp's target is
+ *        malformed, its TXT question has failed or hasn't exactly one text, or that text is outside
+ *        the grammar, or expands to over 500 bytes or to a byte that isn't 32 to 126. The domain's
+ *        owner wrote it: say so in the reply (6.2)
+ *     7  a question is needed that has no entry, as for talavorn_evaluate: TXT, or for macro p PTR,
+ *        A or AAAA. Its kind is in values[0], and its name is written at the front of name,
+ *        values[1] bytes, 1 to 253. Add the answer, and call again
+ * 3 writes to text only, and 7 to name only. All of values is written by every call. There are no
+ * counts: an explanation counts nothing.
+ *
+ * The place belongs to the table that it was given with. A table that has grown at its end keeps
+ * every place, so that 7 is answered by adding an entry. In one that has changed before it the
+ * argument stands elsewhere: that gives 28, and talavorn_evaluate gives the new place. */
+uint8_t talavorn_explain(
+    const void *client, size_t client_len,
+    const void *domain, size_t domain_len,
+    const void *sender, size_t sender_len,
+    const void *helo, size_t helo_len,
+    const void *receiver, size_t receiver_len,
+    uint64_t seconds,
+    const void *table, size_t table_len,
+    size_t place, size_t size,
+    void *name, size_t name_len,
     void *text, size_t text_len,
-    size_t values[4]);
+    size_t values[2]);
 
 /* Appends an entry to a table.
  *
@@ -363,22 +431,34 @@ uint8_t talavorn_read_address(const void *text, size_t text_len, uint8_t octets[
 
 /* ---- 6  The wrapper --------------------------------------------------------------------------
  *
- * One check, from an empty table:
+ * One check, from an empty table. A relay that never sends the text needs this much:
  *
  *     struct talavorn_answer a;
- *     while ((a = talavorn_check(&mail, table, size)).number == TALAVORN_WANTING) {
- *         struct talavorn_items items = talavorn_items_in(buffer, sizeof buffer);
- *         unsigned rcode = ask(a.name, a.kind, &items);
- *         if (talavorn_add(&a, rcode, &items, table, sizeof table, &size) != 0) {
+ *     while ((a = talavorn_check(&mail, table, size)).number == TALAVORN_WANTING)
+ *         if (!ask_for(&a)) {
  *             a.number = TALAVORN_TEMPERROR;
  *             break;
  *         }
- *     }
  *     if (20 <= a.number)
  *         refused(a.number);
  *
- * where `ask` asks the DNS, calls talavorn_item_a and so on for each record, and returns the RCODE;
- * and `refused` does what section 4 says. */
+ * One that sends the text goes on from a fail, with the same table:
+ *
+ *     struct talavorn_answer t;
+ *     char text[501] = "";
+ *     if (a.number == TALAVORN_FAIL)
+ *         do
+ *             t = talavorn_fail_text(&mail, &a, table, size, text);
+ *         while (t.number == TALAVORN_WANTING && ask_for(&t));
+ *
+ * where `ask_for(w)` answers what is wanting, and says whether it could:
+ *
+ *     struct talavorn_items items = talavorn_items_in(buffer, sizeof buffer);
+ *     unsigned rcode = ask(w->name, w->kind, &items);
+ *     return talavorn_add(w, rcode, &items, table, sizeof table, &size) == 0;
+ *
+ * `ask` asks the DNS, calls talavorn_item_a and so on for each record, and returns the RCODE; and
+ * `refused` does what section 4 says. */
 
 /* Bytes to be read. */
 struct talavorn_view {
@@ -412,15 +492,19 @@ struct talavorn_mail {
 
 /* What is answered. */
 struct talavorn_answer {
-    uint8_t number;                 /* what talavorn_evaluate returned */
+    uint8_t number;                 /* what the call returned */
     uint16_t kind;                  /* 7: the DNS type to ask; otherwise 0 */
     size_t place;                   /* 25, 26: the place in the table; otherwise 0 */
     unsigned lookups, voids;
-    size_t name_len, text_len;      /* 7: the name's length. 3: the text's length. Otherwise 0 */
-    char name[254], text[501];      /* with a final 0, too */
+    size_t exp_place, exp_len;      /* talavorn_check's 3: exp's argument in the table, 0 and 0 for
+                                       none; otherwise 0 */
+    size_t text_len;                /* talavorn_fail_text's 3: the text's length; otherwise 0 */
+    size_t name_len;                /* the length of the name; 0 where there is none */
+    char name[254];                 /* 7: the name to ask. talavorn_check's 3: the failing record's
+                                       domain. With a final 0, too */
 };
 
-/* talavorn_evaluate over these two. */
+/* talavorn_evaluate over these two: the result. */
 static inline struct talavorn_answer talavorn_check(
     const struct talavorn_mail *mail, const void *table, size_t table_len)
 {
@@ -431,16 +515,51 @@ static inline struct talavorn_answer talavorn_check(
         mail->client.at, mail->client.len, mail->domain.at, mail->domain.len,
         mail->sender.at, mail->sender.len, mail->helo.at, mail->helo.len,
         mail->receiver.at, mail->receiver.len, mail->seconds, table, table_len,
-        a.name, sizeof a.name - 1, a.text, sizeof a.text - 1, values);
+        a.name, sizeof a.name - 1, values);
+    if (a.number == TALAVORN_WANTING)
+        a.kind = (uint16_t)values[TALAVORN_KIND];
+    else
+        a.place = values[TALAVORN_PLACE];
     a.lookups = (unsigned)values[TALAVORN_LOOKUPS];
     a.voids = (unsigned)values[TALAVORN_VOIDS];
+    a.name_len = values[TALAVORN_LENGTH];
+    a.exp_place = values[TALAVORN_EXP_PLACE];
+    a.exp_len = values[TALAVORN_EXP_LENGTH];
+    return a;
+}
+
+/* talavorn_explain over these: the text of a fail, with a final 0 in `text`, which is "" for any
+ * number but 3.
+ *
+ * mail      the one that was checked
+ * failed    talavorn_check's answer, with the number 3
+ * table     the table of that check, or one that has grown at its end since
+ *
+ * The counts of 3 and 7 are those of `failed`: both answers together are a whole check_host(). */
+static inline struct talavorn_answer talavorn_fail_text(
+    const struct talavorn_mail *mail, const struct talavorn_answer *failed, const void *table,
+    size_t table_len, char text[501])
+{
+    struct talavorn_answer a;
+    size_t values[TALAVORN_EXPLAIN_VALUES];
+    memset(&a, 0, sizeof a);
+    a.number = talavorn_explain(
+        mail->client.at, mail->client.len, failed->name, failed->name_len,
+        mail->sender.at, mail->sender.len, mail->helo.at, mail->helo.len,
+        mail->receiver.at, mail->receiver.len, mail->seconds, table, table_len,
+        failed->exp_place, failed->exp_len, a.name, sizeof a.name - 1, text, 500, values);
     if (a.number == TALAVORN_WANTING) {
-        a.kind = (uint16_t)values[TALAVORN_KIND];
-        a.name_len = values[TALAVORN_LENGTH];
+        a.kind = (uint16_t)values[TALAVORN_EXPLAIN_KIND];
+        a.name_len = values[TALAVORN_EXPLAIN_LENGTH];
     } else {
-        a.place = values[TALAVORN_PLACE];
-        a.text_len = values[TALAVORN_LENGTH];
+        a.place = values[TALAVORN_EXPLAIN_PLACE];
+        a.text_len = values[TALAVORN_EXPLAIN_LENGTH];
     }
+    if (a.number == TALAVORN_WANTING || a.number == TALAVORN_FAIL) {
+        a.lookups = failed->lookups;
+        a.voids = failed->voids;
+    }
+    text[a.text_len] = 0;
     return a;
 }
 
@@ -592,7 +711,7 @@ static inline void talavorn_item_txt(struct talavorn_items *items, struct talavo
 /* Adds the answer to the question that a check wanted to the table in the first *size bytes of a
  * buffer.
  *
- * asked     an answer of talavorn_check with the number 7
+ * asked     an answer of talavorn_check or talavorn_fail_text with the number 7
  * rcode     the reply's RCODE; TALAVORN_FAILED where there was no reply
  * items     the reply's records, used for RCODE 0 only; NULL for none
  *

@@ -36,8 +36,20 @@ unsafe extern "C" {
         seconds: u64,
         table: *const u8, table_len: usize,
         name: *mut u8, name_len: usize,
+        values: *mut [usize; 6],
+    ) -> u8;
+    fn talavorn_explain(
+        client: *const u8, client_len: usize,
+        domain: *const u8, domain_len: usize,
+        sender: *const u8, sender_len: usize,
+        helo: *const u8, helo_len: usize,
+        receiver: *const u8, receiver_len: usize,
+        seconds: u64,
+        table: *const u8, table_len: usize,
+        place: usize, size: usize,
+        name: *mut u8, name_len: usize,
         text: *mut u8, text_len: usize,
-        values: *mut [usize; 4],
+        values: *mut [usize; 2],
     ) -> u8;
     fn talavorn_append_entry(
         kind: u16, status: u8,
@@ -62,36 +74,69 @@ pub struct Mail<'a> {
     pub seconds: u64,
 }
 
+/// Lookups begun, 0 to 10, and void answers met, 0 to 3: those without items to the questions of a,
+/// mx, ptr and exists, mx hosts' and ptr names' addresses included. The third gives `PERMERROR`.
+#[derive(Clone, Copy, Debug, PartialEq)]
+pub struct Counts {
+    pub lookups: usize,
+    pub voids: usize,
+}
+
+/// A question that has no entry in the table: ask the DNS, append an entry for this kind and name,
+/// and call again.
+#[derive(Clone, Debug, PartialEq)]
+pub struct Question {
+    /// The DNS type to ask.
+    pub kind: u16,
+    pub name: Vec<u8>,
+}
+
+/// Which record failed: what `explain` makes the text from.
+#[derive(Clone, Debug, PartialEq)]
+pub struct Failing {
+    /// Its domain, as macro d shows it: lowered and without a trailing dot.
+    pub domain: Vec<u8>,
+    /// The place and the length of its exp argument in the table, 0 and 0 where it has no exp. They
+    /// belong to that table: one that has grown at its end keeps every place.
+    pub place: usize,
+    pub size: usize,
+}
+
 /// What an evaluation answers.
-pub struct Answer {
-    /// A result, `WANTING` or a refusal.
-    pub number: u8,
-    /// - `[0]`: `WANTING`: the DNS type to ask. 25 and 26: the place in the table. Otherwise 0.
-    /// - `[1]`: lookups begun, 0 to 10.
-    /// - `[2]`: void answers met, 0 to 3: those without items to the questions of a, mx, ptr and
-    ///   exists, mx hosts' and ptr names' addresses included. The third gives 6.
-    /// - `[3]`: `WANTING`: the length of the name. `FAIL`: the length of the text. Otherwise 0.
-    pub values: [usize; 4],
-    /// `WANTING`: the name to ask, the first `values[3]` bytes.
-    pub name: [u8; 253],
-    /// `FAIL`: the explanation, the first `values[3]` bytes, written by the domain's owner.
-    pub text: [u8; 500],
+#[derive(Clone, Debug, PartialEq)]
+pub enum Answer {
+    /// Every result but fail: `NONE`, `NEUTRAL`, `PASS`, `SOFTFAIL`, `TEMPERROR` or `PERMERROR`.
+    Decided(u8, Counts),
+    /// Fail. Its text, for a relay that sends one, is up to `explain`.
+    Fail(Failing, Counts),
+    /// The counts are those so far. No question is for the text of a fail.
+    Wanting(Question, Counts),
+    Refused(Refusal),
+}
+
+/// What an explanation answers. A refusal doesn't change the result, which is fail.
+#[derive(Clone, Debug, PartialEq)]
+pub enum Explanation {
+    /// The text, 0 to 500 bytes, written by the domain's owner.
+    Text(Vec<u8>),
+    Wanting(Question),
+    Refused(Refusal),
 }
 
 /// A refusal: its number, and for 25 and 26 the place in the table.
-#[derive(Debug, PartialEq)]
+#[derive(Clone, Debug, PartialEq)]
 pub struct Refusal {
     pub number: u8,
     pub place: usize,
 }
 
 // Every slice is valid, a lent one overlaps nothing, and the library asks for nothing else: so the
-// three functions below are safe.
+// four functions below are safe.
 
 /// Evaluates a domain for a client over a table of DNS answers.
 pub fn evaluate(mail: &Mail, table: &[u8]) -> Answer {
-    let mut a = Answer { number: 0, values: [0; 4], name: [0; 253], text: [0; 500] };
-    a.number = unsafe {
+    let (mut name, mut values) = ([0; 253], [0; 6]);
+    let number = unsafe {
         talavorn_evaluate(
             mail.client.as_ptr(), mail.client.len(),
             mail.domain.as_ptr(), mail.domain.len(),
@@ -100,12 +145,48 @@ pub fn evaluate(mail: &Mail, table: &[u8]) -> Answer {
             mail.receiver.as_ptr(), mail.receiver.len(),
             mail.seconds,
             table.as_ptr(), table.len(),
-            a.name.as_mut_ptr(), a.name.len(),
-            a.text.as_mut_ptr(), a.text.len(),
-            &mut a.values,
+            name.as_mut_ptr(), name.len(),
+            &mut values,
         )
     };
-    a
+    let [first, lookups, voids, length, place, size] = values;
+    let (counts, written) = (Counts { lookups, voids }, name[..length].to_vec());
+    match number {
+        FAIL => Answer::Fail(Failing { domain: written, place, size }, counts),
+        NONE..=PERMERROR => Answer::Decided(number, counts),
+        WANTING => Answer::Wanting(Question { kind: first as u16, name: written }, counts),
+        _ => Answer::Refused(Refusal { number, place: first }),
+    }
+}
+
+/// Makes the text of a fail over the table of the evaluation that failed, or one that has grown at
+/// its end since. In one that has changed before the exp argument it is refused with 28: evaluate
+/// again. Of the mail the domain isn't used: `failing` has the one that counts.
+pub fn explain(mail: &Mail, failing: &Failing, table: &[u8]) -> Explanation {
+    let (mut name, mut text, mut values) = ([0; 253], [0; 500], [0; 2]);
+    let number = unsafe {
+        talavorn_explain(
+            mail.client.as_ptr(), mail.client.len(),
+            failing.domain.as_ptr(), failing.domain.len(),
+            mail.sender.as_ptr(), mail.sender.len(),
+            mail.helo.as_ptr(), mail.helo.len(),
+            mail.receiver.as_ptr(), mail.receiver.len(),
+            mail.seconds,
+            table.as_ptr(), table.len(),
+            failing.place, failing.size,
+            name.as_mut_ptr(), name.len(),
+            text.as_mut_ptr(), text.len(),
+            &mut values,
+        )
+    };
+    let [first, length] = values;
+    match number {
+        FAIL => Explanation::Text(text[..length].to_vec()),
+        WANTING => {
+            Explanation::Wanting(Question { kind: first as u16, name: name[..length].to_vec() })
+        }
+        _ => Explanation::Refused(Refusal { number, place: first }),
+    }
 }
 
 /// Appends an entry to the table in the first `size` bytes of a buffer, and moves `size` on.
@@ -158,18 +239,73 @@ mod tests {
         seconds: 7,
     };
 
+    const NO_COUNTS: Counts = Counts { lookups: 0, voids: 0 };
+    const EXPLAINED: &[u8] = b"\x2a\0\x10\0\0\x0bexample.com\x19\0v=spf1 -all exp=e.example";
+
+    fn question(name: &[u8]) -> Question {
+        Question { kind: TYPE_TXT, name: name.to_vec() }
+    }
+
+    fn failing(domain: &[u8], place: usize, size: usize) -> Failing {
+        Failing { domain: domain.to_vec(), place, size }
+    }
+
+    fn refused(number: u8, place: usize) -> Refusal {
+        Refusal { number, place }
+    }
+
     #[test]
     fn an_answer_is_added_and_found() {
         let (mut table, mut size) = ([0xeeu8; 40], 0);
         let a = evaluate(&MAIL, &table[..size]);
-        assert_eq!((a.number, a.values), (WANTING, [TYPE_TXT as usize, 0, 0, 11]));
-        let name = &a.name[..11];
+        assert_eq!(a, Answer::Wanting(question(b"example.com"), NO_COUNTS));
+        let Answer::Wanting(q, _) = a else { return };
         let record = b"\x0b\0v=spf1 -all";
-        let added = append_entry(TYPE_TXT, ANSWERED, name, record, &mut table, &mut size);
+        let added = append_entry(q.kind, ANSWERED, &q.name, record, &mut table, &mut size);
         assert_eq!((added, size), (Ok(()), 30));
         assert_eq!(&table[..30], b"\x1c\0\x10\0\0\x0bexample.com\x0b\0v=spf1 -all");
         assert_eq!(&table[30..], [0xee; 10]);
-        assert_eq!(evaluate(&MAIL, &table[..size]).number, FAIL);
+        let a = evaluate(&MAIL, &table[..size]);
+        assert_eq!(a, Answer::Fail(failing(b"example.com", 0, 0), NO_COUNTS));
+    }
+
+    #[test]
+    fn each_result_has_its_case() {
+        let decided = |number, lookups, voids| Answer::Decided(number, Counts { lookups, voids });
+        let pass: &[u8] = b"\x1c\0\x10\0\0\x0bexample.com\x0b\0v=spf1 +all";
+        assert_eq!(evaluate(&MAIL, pass), decided(PASS, 0, 0));
+        let void = b"\x1c\0\x10\0\0\x0bexample.com\x0b\0v=spf1 a ~a\x0f\0\x01\0\x03\x0bexample.com";
+        assert_eq!(evaluate(&MAIL, void), decided(NEUTRAL, 2, 2));
+        assert_eq!(evaluate(&Mail { domain: b"com", ..MAIL }, b""), decided(NONE, 0, 0));
+        let twice = [pass, pass].concat();
+        assert_eq!(evaluate(&MAIL, &twice), Answer::Refused(refused(26, 30)));
+        assert_eq!(evaluate(&Mail { client: &[], ..MAIL }, b""), Answer::Refused(refused(90, 0)));
+    }
+
+    #[test]
+    fn a_fail_is_explained() {
+        let f = failing(b"example.com", 35, 9);
+        assert_eq!(evaluate(&MAIL, EXPLAINED), Answer::Fail(f.clone(), NO_COUNTS));
+        assert_eq!(explain(&MAIL, &f, EXPLAINED), Explanation::Wanting(question(b"e.example")));
+        let text = b"\x21\0\x10\0\0\x09e.example\x12\0%{d} sends no %{l}";
+        let table = [EXPLAINED, text].concat();
+        let sends_no_user = Explanation::Text(b"example.com sends no user".to_vec());
+        assert_eq!(explain(&Mail { domain: b"", ..MAIL }, &f, &table), sends_no_user);
+        let none = failing(b"example.com", 0, 0);
+        assert_eq!(explain(&MAIL, &none, &table), Explanation::Text(Vec::new()));
+    }
+
+    #[test]
+    fn an_explanation_is_refused() {
+        let explained = |f: &Failing, table: &[u8]| explain(&MAIL, f, table);
+        let f = failing(b"example.com", 35, 9);
+        let twice = [EXPLAINED, EXPLAINED].concat();
+        assert_eq!(explained(&f, &twice), Explanation::Refused(refused(26, 44)));
+        assert_eq!(explained(&f, b""), Explanation::Refused(refused(28, 0)));
+        let moved = [b"\x05\0\x01\0\x03\x01a", EXPLAINED].concat();
+        assert_eq!(explained(&f, &moved), Explanation::Refused(refused(28, 0)));
+        let long = failing(&[b'x'; 256], 0, 0);
+        assert_eq!(explained(&long, EXPLAINED), Explanation::Refused(refused(22, 0)));
     }
 
     #[test]

@@ -20,3 +20,5 @@ pub mod Covering
 pub mod Rules
 -- Places: an entry's name and its items' bytes as parts of the table.
 pub mod Places
+-- Standing: where items stand in a table.
+pub mod Standing

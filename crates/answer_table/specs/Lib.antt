@@ -7,6 +7,8 @@ pub mod Numbers
 pub mod Answers
 -- Lookup: the entry of a kind and a name.
 pub mod Lookup
+-- Standing: where an item stands in a table.
+pub mod Standing
 -- Reader: the entries and items of a table, read as the code reads them; the laws tie it to the productions.
 pub mod Reader
 -- Marks: the bits that are set for the pairs that a check has met.

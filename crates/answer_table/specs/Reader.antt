@@ -1,5 +1,5 @@
 -- The table as the code reads it: total on any bytes. The laws say that on an accepted table this is what the productions say.
-use Prim.Native.Nat.{ℕ, zero, suc, _+_, _-_, _*_, min}
+use Prim.Native.Nat.{ℕ, zero, suc, _+_, _-_, _*_, _<_, min}
 use mathlib.Core.List.{List, [], _∷_}
 use mathlib.Core.Bool.{Bool, true, false, cond, _&&_}
 use lib.ListN.{length, take, drop}
@@ -141,3 +141,8 @@ checkFrom (suc f) t i count =
 
 unfoldable pub checkTable : List ℕ → TableAnswer
 checkTable t = cond (ltb most-bytes (length t)) TooLong (checkFrom (suc (length t)) t 0 0)
+
+-- the places at which the items of a list begin, one after the other; the last is the end
+pub data Starts (s : List ℕ) : ℕ → Type 0 where
+  first : Starts s 0
+  next : {i : ℕ} → Starts s i → i < length s → Starts s (nextItem s i)

@@ -1,7 +1,6 @@
 -- What an input of the check program means: "The other program reads client (written as for ip4 or ip6), domain, sender, HELO, receiver and t, a line
 -- each, then the table."
 use Prim.Native.Nat.{ℕ}
-use mathlib.Core.Path.{_≡_}
 use mathlib.Core.List.{List}
 use Rattle.text.specs.Decimal.{readDecimal}
 use Rattle.text.specs.declared.decimal.Number.{Number}
@@ -10,12 +9,9 @@ use Rattle.address.specs.declared.Address.{Address}
 use Rattle.networks.specs.Reader6.{readAddress}
 use Rattle.networks.specs.declared.Network.{Network}
 use Rattle.networks.specs.declared.Network.the-variants.{Is, NoNetwork}
-use Rattle.evaluation.specs.declared.Answer.{Answer}
-use Rattle.evaluation.specs.Numbers.{Outcome, Says}
+use Rattle.evaluation.specs.Numbers.{Outcome}
 use Rattle.evaluation.specs.Evaluating.{evaluated}
 use Rattle.text.specs.Fields.{afterFields, field}
-use Rattle.check_input.specs.declared.InputAnswer.{InputAnswer}
-use Rattle.check_input.specs.declared.InputAnswer.the-variants.{Unreadable, Evaluated}
 
 -- what an input comes to: "an unreadable client or t", or what its evaluation comes to
 pub data InputOutcome : Type 0 where
@@ -37,8 +33,3 @@ checkedLines client domain sender helo receiver seconds table name text =
 unfoldable pub checkedInput : (input name text : List ℕ) → InputOutcome
 checkedInput input name text =
     checkedLines (field 10 0 input) (field 10 1 input) (field 10 2 input) (field 10 3 input) (field 10 4 input) (field 10 5 input) (afterFields 10 6 input) name text
-
--- the answer and both lent buffers afterwards: an unreadable input keeps every byte of them
-unfoldable pub SaysInput : InputOutcome → InputAnswer → (name name′ text text′ : List ℕ) → Type 0
-SaysInput unreadable r name name′ text text′ = (r ≡ Unreadable) × (name′ ≡ name) × (text′ ≡ text)
-SaysInput (evaluates o) r name name′ text text′ = (answer : Answer) × (r ≡ Evaluated answer) × Says o answer name name′ text text′

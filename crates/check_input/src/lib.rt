@@ -1,12 +1,25 @@
 // The check of an input: client, domain, sender, HELO, receiver and t, a line each, and then the answer table; and the lines that answer it.
 ghost use Prim.Native.Nat.{_≤_};
-ghost use lib.ListN.{length};
-ghost use Rattle.check_input.specs.Input.{checkedLines, checkedInput, SaysInput};
-ghost use Rattle.check_input.specs.Lines.{linesOf, answered, Stands};
+ghost use lib.ListN.{length, replicate};
+ghost use Rattle.text.specs.Writing.{Wrote};
+ghost use Rattle.evaluation.specs.Evaluating.{evaluated};
+ghost use Rattle.evaluation.specs.Second.{lent};
+ghost use Rattle.evaluation.specs.Together.{oneGave};
+ghost use Rattle.check_input.specs.Input.{checkedLines};
+ghost use Rattle.check_input.specs.Lines.{givenLines, linesOf, answered, Stands, WritesAfterFail};
+use address::Address;
 use domain::MOST_NAME;
 use evaluation::Answer;
 use evaluation::evaluate;
+use evaluation::explaining;
+use evaluation::explaining::Explanation;
+use lines::put_line;
+use lines::put_named;
+use lines::put_number;
+use lines::put_placed;
 use networks::Network;
+use rules::Counts;
+use text::bytes::part;
 use text::decimal;
 use text::decimal::Number;
 use text::fields::after_fields;
@@ -15,14 +28,112 @@ use text::fields::field;
 pub mod keeping;
 pub mod lines;
 
-// What an input is answered: that its client or t can't be read, or what the evaluation answers.
-pub enum InputAnswer {
-    Unreadable,
-    Evaluated(Answer),
+// The second call, after a fail of the domain's record: writes its number, text or question with the counts of the first, or a refusal with counts of 0.
+fn answer_fail(
+    client: Address,
+    domain: &[u8],
+    sender: &[u8],
+    helo: &[u8],
+    receiver: &[u8],
+    seconds: u64,
+    table: &[u8],
+    place: usize,
+    size: usize,
+    counts: Counts,
+    out: &mut [u8],
+) -> usize
+    ensures { λ r. ⌜ WritesAfterFail (lent client (now (domain .entry)) (now (sender .entry)) (now (helo .entry)) (now (receiver .entry)) seconds (now (table .entry)) place size (replicate 253 0) (replicate 500 0)) counts (now (out .entry)) (now (out .exit)) r ⌝ }
+{
+    let none = Counts {
+        lookups: 0,
+        voids: 0,
+    };
+    let mut name = [0u8; MOST_NAME];
+    let mut text = [0u8; 500];
+    match explaining::explain(
+        client,
+        domain,
+        sender,
+        helo,
+        receiver,
+        seconds,
+        table,
+        place,
+        size,
+        &mut name,
+        &mut text,
+    ) {
+        Explanation::Text(n) => {
+            let next = put_number(3, counts, out, 0);
+            put_line(part(&text, 0, n), out, next)
+        }
+        Explanation::Wanting { kind, length: n } => {
+            put_named(kind, counts, part(&name, 0, n), out, 0)
+        }
+        Explanation::Refused(number) => put_number(number, none, out, 0),
+        Explanation::RefusedAt { number, at } => put_placed(number, at as u64, none, out, 0),
+    }
+}
+
+// Both calls: writes what they give together.
+fn answer_calls(
+    client: Address,
+    domain: &[u8],
+    sender: &[u8],
+    helo: &[u8],
+    receiver: &[u8],
+    seconds: u64,
+    table: &[u8],
+    out: &mut [u8],
+) -> usize
+    ensures { λ r. ⌜ Wrote (givenLines (oneGave (evaluated client (now (domain .entry)) (now (sender .entry)) (now (helo .entry)) (now (receiver .entry)) seconds (now (table .entry)) (replicate 253 0) (replicate 500 0)))) (now (out .entry)) 0 (now (out .exit)) r ⌝ }
+{
+    let none = Counts {
+        lookups: 0,
+        voids: 0,
+    };
+    let mut name = [0u8; MOST_NAME];
+    match evaluate(
+        client,
+        domain,
+        sender,
+        helo,
+        receiver,
+        seconds,
+        table,
+        &mut name,
+    ) {
+        Answer::Decided { value, counts } => put_number(value, counts, out, 0),
+        Answer::Fail {
+            counts,
+            domain: n,
+            place,
+            length: size,
+        } => answer_fail(
+            client,
+            part(&name, 0, n),
+            sender,
+            helo,
+            receiver,
+            seconds,
+            table,
+            place,
+            size,
+            counts,
+            out,
+        ),
+        Answer::Wanting {
+            kind,
+            length: n,
+            counts,
+        } => put_named(kind, counts, part(&name, 0, n), out, 0),
+        Answer::Refused(number) => put_number(number, none, out, 0),
+        Answer::RefusedAt { number, at } => put_placed(number, at as u64, none, out, 0),
+    }
 }
 
 // Checks with client and t as they are written.
-pub fn check_lines(
+fn answer_lines(
     client: &[u8],
     domain: &[u8],
     sender: &[u8],
@@ -30,36 +141,17 @@ pub fn check_lines(
     receiver: &[u8],
     seconds: &[u8],
     table: &[u8],
-    name: &mut [u8],
-    text: &mut [u8],
-) -> InputAnswer
-    ensures { λ r. ⌜ SaysInput (checkedLines (now (client .entry)) (now (domain .entry)) (now (sender .entry)) (now (helo .entry)) (now (receiver .entry)) (now (seconds .entry)) (now (table .entry)) (now (name .entry)) (now (text .entry))) r (now (name .entry)) (now (name .exit)) (now (text .entry)) (now (text .exit)) ⌝ }
+    out: &mut [u8],
+) -> usize
+    ensures { λ r. ⌜ Wrote (linesOf (checkedLines (now (client .entry)) (now (domain .entry)) (now (sender .entry)) (now (helo .entry)) (now (receiver .entry)) (now (seconds .entry)) (now (table .entry)) (replicate 253 0) (replicate 500 0))) (now (out .entry)) 0 (now (out .exit)) r ⌝ }
 {
     let Network::Is(a) = networks::read_address(client) else {
-        return InputAnswer::Unreadable;
+        return put_line(b"input", out, 0);
     };
     let Number::Value(t) = decimal::read_decimal(seconds, 18446744073709551615) else {
-        return InputAnswer::Unreadable;
+        return put_line(b"input", out, 0);
     };
-    let answer = evaluate(a, domain, sender, helo, receiver, t, table, name, text);
-    InputAnswer::Evaluated(answer)
-}
-
-// Checks a whole input.
-pub fn check_input(input: &[u8], name: &mut [u8], text: &mut [u8]) -> InputAnswer
-    ensures { λ r. ⌜ SaysInput (checkedInput (now (input .entry)) (now (name .entry)) (now (text .entry))) r (now (name .entry)) (now (name .exit)) (now (text .entry)) (now (text .exit)) ⌝ }
-{
-    check_lines(
-        field(input, 10, 0),
-        field(input, 10, 1),
-        field(input, 10, 2),
-        field(input, 10, 3),
-        field(input, 10, 4),
-        field(input, 10, 5),
-        after_fields(input, 10, 6),
-        name,
-        text,
-    )
+    answer_calls(a, domain, sender, helo, receiver, t, table, out)
 }
 
 // Checks a whole input and writes what the program prints, which never has more than 600 bytes.
@@ -67,8 +159,14 @@ pub fn answer_input(input: &[u8], out: &mut [u8]) -> usize
     requires { ⌜ 600 ≤ length (now out) ⌝ }
     ensures { λ r. ⌜ Stands (linesOf (answered (now (input .entry)))) (now (out .entry)) (now (out .exit)) r ⌝ }
 {
-    let mut name = [0u8; MOST_NAME];
-    let mut text = [0u8; 500];
-    let answer = check_input(input, &mut name, &mut text);
-    lines::put_answer(answer, &name, &text, out, 0)
+    answer_lines(
+        field(input, 10, 0),
+        field(input, 10, 1),
+        field(input, 10, 2),
+        field(input, 10, 3),
+        field(input, 10, 4),
+        field(input, 10, 5),
+        after_fields(input, 10, 6),
+        out,
+    )
 }

@@ -63,7 +63,7 @@ pub fn includes_client(client: Address, status: u8, items: &[u8]) -> bool
     any_matches(client, width(client), items)
 }
 
-// Writes the name of a question that has no answer.
+// Writes a name at the front of a name buffer: that of a question that has no answer, or a failing record's domain.
 pub fn want(name: &[u8], out: &mut [u8])
     ensures { λ _. ⌜ now (out .exit) ≡ overwritten (now (name .entry)) (now (out .entry)) ⌝ }
 {

@@ -1,7 +1,19 @@
 -- What the parts of a check answer, for private functions.
-use Prim.Native.Nat.{ℕ}
+use Prim.Native.Nat.{ℕ, _+_, _^_, _≤_, _<_}
+use mathlib.Core.Path.{_≡_}
+use mathlib.Core.List.{List}
 use mathlib.Core.Bool.{cond}
 use lib.Dec.{eqb}
+use lib.ListN.{length}
+use Rattle.text.specs.Texts.{bytes}
+use Rattle.address.specs.declared.Address.{Address}
+use Rattle.domain.specs.Names.{labelCount}
+use Rattle.answer_table.specs.Layout.{Entry, kind-txt}
+use Rattle.answer_table.specs.Answers.{Encoded}
+use Rattle.answer_table.specs.Standing.{ItemAt}
+use Rattle.records.specs.Reader.{after-version}
+use Rattle.records.specs.Opening.{Passing, argumentIn}
+use Rattle.records.specs.declared.opening.Modifier.{Modifier}
 use Rattle.records.specs.declared.Term.{Term}
 use Rattle.rules.specs.declared.Counts.{Counts}
 use Rattle.rules.specs.declared.Ending.{Ending}
@@ -10,8 +22,13 @@ use Rattle.rules.specs.declared.Matched.{Matched}
 use Rattle.rules.specs.declared.Stepped.{Stepped}
 use Rattle.rules.specs.declared.Span.{Span}
 use Rattle.rules.specs.declared.Checked.{Checked}
+use Rattle.rules.specs.Tree.{run}
+use Rattle.rules.specs.Tables.{tableIn}
+use Rattle.rules.specs.Evaluation.{one, modifierOf, termsOf, recordLookup, noCounts}
+use Rattle.rules.specs.Exp.{ExpAt}
+use Rattle.rules.specs.Outcomes.{Settles, spanOf, ExpStands, FailingIn}
 
--- a result without an explanation, and a question without an entry
+-- a result that no record's sign gives, and a question without an entry
 abbrev pub endedOf : ℕ → Counts → Checked
 endedOf v c = record { ending = Ending.Result v; counts = c; failing = FailingPlace.Nowhere }
 
@@ -31,12 +48,41 @@ signOf (Term.Redirect from to) = 0
 signOf (Term.Explanation from to) = 0
 signOf (Term.Unknown name to) = 0
 
--- a matching term's result, and for a fail where its explanation is
-unfoldable pub signedOf : ℕ → Span → Span → ℕ → Counts → Checked
-signedOf sign domain text first c =
+-- a matching term's result, and for a fail the record that failed
+unfoldable pub signedOf : ℕ → Span → Modifier → Counts → Checked
+signedOf sign domain exp c =
     cond (eqb sign 43) (endedOf 2 c)
-    (cond (eqb sign 45) (record { ending = Ending.Result 3; counts = c; failing = FailingPlace.In domain text first })
+    (cond (eqb sign 45) (record { ending = Ending.Result 3; counts = c; failing = FailingPlace.In domain exp })
     (cond (eqb sign 126) (endedOf 4 c) (endedOf 1 c)))
+
+-- where a modifier's argument stands in the table, by its place in a record that begins at a place of the table
+unfoldable pub inTable : Modifier → ℕ → Modifier
+inTable Modifier.Absent start = Modifier.Absent
+inTable (Modifier.Part from to) start = Modifier.Part (start + from) (start + to)
+
+-- these places are numbers of the machine
+unfoldable pub FitsTable : Modifier → ℕ → Type 0
+FitsTable Modifier.Absent start = Unit {0}
+FitsTable (Modifier.Part from to) start = (from ≤ to) × (start + to < 2 ^ 63)
+
+-- the record of a domain, which record lookup selected: where both stand in the table
+pub record SelectedAt (t : List ℕ) (domain text : Span) : Type 0 where
+  pub labels : 1 < labelCount (spanOf t domain)
+  pub short : length (spanOf t domain) ≤ 253
+  pub selected : Settles (run (tableIn t) (recordLookup (spanOf t domain) noCounts)) (one (spanOf t text))
+  pub stands : (es : List Entry) → Encoded t es → ItemAt t kind-txt (spanOf t domain) (spanOf t text) (text .from)
+
+-- the terms of that record from a place on are to be tried: all before pass, and its redirect and exp stand at the given places
+pub record Underway (client : Address) (t : List ℕ) (domain text : Span) (redirect exp : Modifier) (start : ℕ) : Type 0 where
+  pub passing : Passing client (spanOf t text) after-version start
+  pub redirects : argumentIn (spanOf t text) redirect ≡ modifierOf (bytes "redirect") (termsOf (spanOf t text) after-version)
+  pub explains : argumentIn t exp ≡ modifierOf (bytes "exp") (termsOf (spanOf t text) after-version)
+  pub failing : FailingIn t domain exp
+
+-- where the exp argument of a domain's record stands, if it has one
+unfoldable pub FindsExp : (t d : List ℕ) → Modifier → Type 0
+FindsExp t d Modifier.Absent = (p : ℕ) (x : List ℕ) → ExpAt t d p x → ⊥
+FindsExp t d (Modifier.Part from to) = ExpStands t d (Modifier.Part from to)
 
 -- a redirect's result
 unfoldable pub redirectedBy : Ending → Checked → Checked

@@ -1,5 +1,6 @@
 -- Demand 3 as one statement about the calls read_record, read_term, argument and evaluate: for any answers that meet what their `ensures` promise
--- (`ReadsRecord`, `ReadsTerm`, `ReadsArgument`, `Evaluates`). The promises determine the answers, so no reader is named.
+-- (`ReadsRecord`, `ReadsTerm`, `ReadsArgument`, `Evaluates`). The promises determine the answers, so no reader is named. W-203 amends the house rules: "In
+-- demand 3 .. evaluation means the first call."
 use Prim.Native.Nat.{ℕ, _≤_}
 use mathlib.Core.Path.{_≡_}
 use mathlib.Core.List.{List}
@@ -14,7 +15,8 @@ use Rattle.rules.specs.Results.{result-permerror}
 use Rattle.rules.specs.Evaluation.{noCounts}
 use Rattle.rules.specs.Reached.{Selects, Reaches}
 use Rattle.evaluation.specs.declared.Answer.{Answer}
-use Rattle.evaluation.specs.Answers.{Lent, Handed, handed, mailIn, tableOf, Fit, Evaluates}
+use Rattle.rules.specs.Tables.{tableOf}
+use Rattle.evaluation.specs.First.{Lent, Handed, handed, mailIn, Fit, Evaluates}
 
 -- of any text s, and of any answers of the reading calls for it
 pub record Demand3 (s : List ℕ) (calls : Calls s) : Type 0 where
@@ -23,8 +25,8 @@ pub record Demand3 (s : List ℕ) (calls : Calls s) : Type 0 where
   pub reads : Claim s calls
   -- A text that is refused is never evaluated. For all arguments that fit, every accepted table and whatever `evaluate` hands back then: whichever
   -- check selects the text, the outermost, an include's or a redirect's at any depth, the answer is permerror with the counts k that the evaluation
-  -- had just then, and both buffers are as they were.
+  -- had just then, and the buffer is as it was.
   pub never : (number place : ℕ) → calls .record-answer ≡ RecordAnswer.Refused number place
       → (a : Lent) (h : Handed) → Evaluates a h → Fit a → (es : List Entry) → length (a .table) ≤ most-bytes → Encoded (a .table) es
       → (e : List ℕ) (k : Counts) → Reaches (tableOf es) (mailIn a) (normal (a .domain)) noCounts e k → Selects (tableOf es) e s
-      → h ≡ handed (Answer.Decided result-permerror k 0) (a .name) (a .text)
+      → h ≡ handed (Answer.Decided result-permerror k) (a .name)

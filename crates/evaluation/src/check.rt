@@ -5,22 +5,20 @@ ghost use lib.ListN.{length};
 ghost use Rattle.domain.specs.Normal.{name};
 ghost use Rattle.records.specs.Numbers.{saidOf};
 ghost use Rattle.records.specs.Reader.{readRecord};
-ghost use Rattle.records.specs.Opening.{Passing};
+ghost use Rattle.records.specs.Opening.{argumentIn};
 ghost use Rattle.rules.specs.Tree.{run};
 ghost use Rattle.rules.specs.Tables.{tableIn};
-ghost use Rattle.rules.specs.Evaluation.{begunCheck, includeStep, termStep, modifierOf, noMatch, tryTerms, termsOf, readOutcome, whole};
+ghost use Rattle.rules.specs.Evaluation.{begunCheck, includeStep, termStep, noMatch, tryTerms, termsOf, readOutcome, whole};
 ghost use Rattle.rules.specs.Outcomes.{mailOf, spanOf, SaysStep, SaysCheck};
-ghost use Rattle.evaluation.specs.Checks.{endedOf, wantingOf, signOf, signedOf, redirectedOf, includedNow, includedOf};
-ghost use Rattle.text.specs.Texts.{bytes};
+ghost use Rattle.evaluation.specs.Checks.{endedOf, wantingOf, signOf, signedOf, inTable, FitsTable, SelectedAt, Underway, redirectedOf, includedNow, includedOf};
+ghost use Rattle.records.specs.Reader.{after-version};
 use address::Address;
 use domain::MOST_NAME;
 use mechanisms::Tried;
-use record_lookup::modifiers;
-use record_lookup::modifiers::Modifier;
-use records::AFTER_VERSION;
 use records::Term;
 use records::TermAnswer;
 use records::opening;
+use records::opening::Modifier;
 use records::opening::Opening;
 use rules::Checked;
 use rules::Counts;
@@ -33,7 +31,7 @@ use rules::Stepped;
 use rules::Target;
 use text::bytes;
 
-// A result without an explanation.
+// A result that no record's sign gives.
 pub fn ended(value: u8, counts: Counts) -> Checked
     ensures { λ r. ⌜ r ≡ endedOf value counts ⌝ }
 {
@@ -103,9 +101,9 @@ fn sign_of(term: Term) -> u8
     }
 }
 
-// The result of a sign, and for a fail where its explanation is.
-fn sign_result(sign: u8, domain: Span, text: Span, first: usize, counts: Counts) -> Checked
-    ensures { λ r. ⌜ r ≡ signedOf sign domain text first counts ⌝ }
+// The result of a sign, and for a fail the record that failed.
+fn sign_result(sign: u8, domain: Span, exp: Modifier, counts: Counts) -> Checked
+    ensures { λ r. ⌜ r ≡ signedOf sign domain exp counts ⌝ }
 {
     if sign == 43 {
         return ended(2, counts);
@@ -114,11 +112,7 @@ fn sign_result(sign: u8, domain: Span, text: Span, first: usize, counts: Counts)
         return Checked {
             ending: Ending::Result(3),
             counts,
-            failing: FailingPlace::In {
-                domain,
-                text,
-                terms: first,
-            },
+            failing: FailingPlace::In { domain, exp },
         };
     }
     if sign == 126 {
@@ -128,10 +122,24 @@ fn sign_result(sign: u8, domain: Span, text: Span, first: usize, counts: Counts)
 }
 
 // A matching term gives its sign's result.
-fn signed(term: Term, domain: Span, text: Span, first: usize, counts: Counts) -> Checked
-    ensures { λ r. ⌜ r ≡ signedOf (signOf term) domain text first counts ⌝ }
+fn signed(term: Term, domain: Span, exp: Modifier, counts: Counts) -> Checked
+    ensures { λ r. ⌜ r ≡ signedOf (signOf term) domain exp counts ⌝ }
 {
-    sign_result(sign_of(term), domain, text, first, counts)
+    sign_result(sign_of(term), domain, exp, counts)
+}
+
+// Where a modifier's argument stands in the table, by its place in a record that begins at a place of the table.
+pub fn in_table(m: Modifier, start: usize) -> Modifier
+    requires { ⌜ FitsTable m start ⌝ }
+    ensures { λ r. ⌜ r ≡ inTable m start ⌝ }
+{
+    match m {
+        Modifier::Absent => Modifier::Absent,
+        Modifier::Part { from, to } => Modifier::Part {
+            from: start + from,
+            to: start + to,
+        },
+    }
 }
 
 // The check of a domain: "A malformed or single-label domain gives none"; its record is looked up.
@@ -152,9 +160,12 @@ pub fn check_domain(
     if domain::count_labels(domain) <= 1 {
         return ended(0, counts);
     }
-    match record_lookup::select_record(table, domain, counts, out) {
+    match record_lookup::select_record(table, domain) {
         Selected::Ends(value) => ended(value, counts),
-        Selected::Wanting { kind, length: n } => wanting(kind, n, counts),
+        Selected::Missing => {
+            client_match::want(domain, out);
+            wanting(16, domain.len(), counts)
+        }
         Selected::One {
             domain: place,
             text,
@@ -186,12 +197,17 @@ fn evaluate_record(
     counts: Counts,
     out: &mut [u8],
 ) -> Checked
-    requires { ⌜ (length (now sender) ≤ 320) × (length (spanOf (now table) domain) ≤ 253) × (counts .lookups ≤ 10) × (counts .voids ≤ 2) ⌝ }
+    requires { ⌜ (length (now sender) ≤ 320) × (counts .lookups ≤ 10) × (counts .voids ≤ 2) × SelectedAt (now table) domain text ⌝ }
     ensures { λ r. ⌜ SaysCheck (now (table .entry)) (run (tableIn (now (table .entry))) (readOutcome (mailOf client (now (sender .entry)) (now (helo .entry)) (now (receiver .entry)) seconds) (whole (mailOf client (now (sender .entry)) (now (helo .entry)) (now (receiver .entry)) seconds)) (spanOf (now (table .entry)) domain) (spanOf (now (table .entry)) text) (readRecord (spanOf (now (table .entry)) text)) counts)) r (now (out .entry)) (now (out .exit)) ⌝ }
 {
-    match opening::open_record(bytes::part(table, text.from, text.to), client) {
+    let reading = opening::open_record(bytes::part(table, text.from, text.to), client);
+    let opening = reading.opening;
+    let modifiers = reading.modifiers;
+    let redirect = modifiers.redirect;
+    let exp = modifiers.exp;
+    match opening {
         Opening::Refused { number: _, at: _ } => ended(6, counts),
-        Opening::Matched { sign } => sign_result(sign, domain, text, AFTER_VERSION, counts),
+        Opening::Matched { sign } => { sign_result(sign, domain, in_table(exp, text.from), counts) }
         Opening::Open { at } => try_terms(
             client,
             sender,
@@ -201,7 +217,8 @@ fn evaluate_record(
             table,
             domain,
             text,
-            AFTER_VERSION,
+            redirect,
+            in_table(exp, text.from),
             at,
             counts,
             out,
@@ -209,7 +226,7 @@ fn evaluate_record(
     }
 }
 
-// The terms of a record from `first` on, from left to right; those up to `start` are known to pass.
+// The terms of a record, from left to right; those up to `start` are known to pass. `redirect` stands in the record and `exp` in the table.
 fn try_terms(
     client: Address,
     sender: &[u8],
@@ -219,13 +236,14 @@ fn try_terms(
     table: &[u8],
     domain: Span,
     text: Span,
-    first: usize,
+    redirect: Modifier,
+    exp: Modifier,
     start: usize,
     counts: Counts,
     out: &mut [u8],
 ) -> Checked
-    requires { ⌜ (length (now sender) ≤ 320) × (length (spanOf (now table) domain) ≤ 253) × (counts .lookups ≤ 10) × (counts .voids ≤ 2) × Passing client (spanOf (now table) text) first start ⌝ }
-    ensures { λ r. ⌜ SaysCheck (now (table .entry)) (run (tableIn (now (table .entry))) (tryTerms (mailOf client (now (sender .entry)) (now (helo .entry)) (now (receiver .entry)) seconds) (whole (mailOf client (now (sender .entry)) (now (helo .entry)) (now (receiver .entry)) seconds)) (spanOf (now (table .entry)) domain) (termsOf (spanOf (now (table .entry)) text) first) (termsOf (spanOf (now (table .entry)) text) first) counts)) r (now (out .entry)) (now (out .exit)) ⌝ }
+    requires { ⌜ (length (now sender) ≤ 320) × (counts .lookups ≤ 10) × (counts .voids ≤ 2) × Underway client (now table) domain text redirect exp start ⌝ }
+    ensures { λ r. ⌜ SaysCheck (now (table .entry)) (run (tableIn (now (table .entry))) (tryTerms (mailOf client (now (sender .entry)) (now (helo .entry)) (now (receiver .entry)) seconds) (whole (mailOf client (now (sender .entry)) (now (helo .entry)) (now (receiver .entry)) seconds)) (spanOf (now (table .entry)) domain) (termsOf (spanOf (now (table .entry)) text) after-version) (termsOf (spanOf (now (table .entry)) text) after-version) counts)) r (now (out .entry)) (now (out .exit)) ⌝ }
 {
     let s = bytes::part(table, text.from, text.to);
     let mut at = start;
@@ -246,7 +264,7 @@ fn try_terms(
                 table,
                 domain,
                 s,
-                first,
+                redirect,
                 so_far,
                 out,
             );
@@ -268,7 +286,7 @@ fn try_terms(
         let matched = step.matched;
         match matched {
             Matched::Yes => {
-                return signed(term, domain, text, first, c);
+                return signed(term, domain, exp, c);
             }
             Matched::Stop(ending) => {
                 return Checked {
@@ -292,13 +310,13 @@ fn try_terms(
         table,
         domain,
         s,
-        first,
+        redirect,
         so_far,
         out,
     )
 }
 
-// No term matches: the redirect, or neutral. `s` is the record.
+// No term matches: the redirect of the record `s`, or neutral.
 fn no_match(
     client: Address,
     sender: &[u8],
@@ -308,14 +326,14 @@ fn no_match(
     table: &[u8],
     domain: Span,
     s: &[u8],
-    first: usize,
+    redirect: Modifier,
     counts: Counts,
     out: &mut [u8],
 ) -> Checked
     requires { ⌜ (length (now sender) ≤ 320) × (length (spanOf (now table) domain) ≤ 253) × (counts .lookups ≤ 10) × (counts .voids ≤ 2) ⌝ }
-    ensures { λ r. ⌜ SaysCheck (now (table .entry)) (run (tableIn (now (table .entry))) (noMatch (mailOf client (now (sender .entry)) (now (helo .entry)) (now (receiver .entry)) seconds) (whole (mailOf client (now (sender .entry)) (now (helo .entry)) (now (receiver .entry)) seconds)) (spanOf (now (table .entry)) domain) (modifierOf (bytes "redirect") (termsOf (now (s .entry)) first)) counts)) r (now (out .entry)) (now (out .exit)) ⌝ }
+    ensures { λ r. ⌜ SaysCheck (now (table .entry)) (run (tableIn (now (table .entry))) (noMatch (mailOf client (now (sender .entry)) (now (helo .entry)) (now (receiver .entry)) seconds) (whole (mailOf client (now (sender .entry)) (now (helo .entry)) (now (receiver .entry)) seconds)) (spanOf (now (table .entry)) domain) (argumentIn (now (s .entry)) redirect) counts)) r (now (out .entry)) (now (out .exit)) ⌝ }
 {
-    let Modifier::Part { from, to } = modifiers::find_redirect(s, first) else {
+    let Modifier::Part { from, to } = redirect else {
         return ended(1, counts);
     };
     let o = begin_check(

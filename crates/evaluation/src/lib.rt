@@ -1,4 +1,4 @@
-// The evaluation: whether a client may send for a domain, or the one question that is missing.
+// An evaluation in two calls: whether a client may send for a domain, or the one question that is missing; and then, for a fail, its explanation.
 ghost use Prim.Native.Nat.{_≤_};
 ghost use mathlib.Core.Path.{_≡_};
 ghost use mathlib.Core.Bool.{_&&_};
@@ -6,31 +6,38 @@ ghost use lib.ListN.{length};
 ghost use Rattle.rules.specs.Tree.{run};
 ghost use Rattle.rules.specs.Tables.{tableIn};
 ghost use Rattle.macros.specs.Expansion.{isHost};
-ghost use Rattle.rules.specs.Evaluation.{evaluation, verdict};
-ghost use Rattle.rules.specs.Outcomes.{mailOf, SaysCheck};
-ghost use Rattle.evaluation.specs.Numbers.{settles, Says};
-ghost use Rattle.evaluation.specs.Evaluating.{refusalOf, evaluated};
-ghost use Rattle.evaluation.specs.Answers.{lent, handed, Evaluates};
+ghost use Rattle.rules.specs.Evaluation.{evaluation};
+ghost use Rattle.rules.specs.Outcomes.{mailOf, SaysCheck, FailingAt};
+ghost use Rattle.evaluation.specs.Evaluating.{refusalOf};
+ghost use Rattle.evaluation.specs.First.{lent, handed, finished, Says, Decides, Evaluates};
 use address::Address;
 use answer_table::TableAnswer;
 use domain::MOST_NAME;
 use domain::Name;
 use macros::values;
+use records::opening::Modifier;
 use rules::Checked;
 use rules::Counts;
 use rules::Ending;
-use rules::Explained;
+use rules::FailingPlace;
 use text::bytes;
 
 mod check;
+pub mod explaining;
 
-// What an evaluation answers.
+// What the first call answers.
 pub enum Answer {
-    // 0 to 6, both counts, and the length of the text, which only a fail has.
+    // 0 to 6 but 3, and both counts.
     Decided {
         value: u8,
         counts: Counts,
-        text: usize,
+    },
+    // 3: both counts, the length of the failing record's domain, and the place and length of its exp argument in the table, 0 and 0 where it has none.
+    Fail {
+        counts: Counts,
+        domain: usize,
+        place: usize,
+        length: usize,
     },
     // 7: the kind of the question that has no entry, the length of its name, and the counts so far.
     Wanting {
@@ -57,25 +64,15 @@ fn are_hosts(helo: &[u8], receiver: &[u8]) -> bool
     false
 }
 
-// 20 to 23 in that order; 0 where the arguments fit.
-fn refusal(
-    domain: &[u8],
-    sender: &[u8],
-    helo: &[u8],
-    receiver: &[u8],
-    name: usize,
-    text: usize,
-) -> u8
-    ensures { λ r. ⌜ r ≡ refusalOf (now (domain .entry)) (now (sender .entry)) (now (helo .entry)) (now (receiver .entry)) name text ⌝ }
+// 20 to 23 in that order, 23 for a name buffer's length; 0 where the arguments fit.
+fn refusal(domain: &[u8], sender: &[u8], helo: &[u8], receiver: &[u8], name: usize) -> u8
+    ensures { λ r. ⌜ r ≡ refusalOf (now (domain .entry)) (now (sender .entry)) (now (helo .entry)) (now (receiver .entry)) name ⌝ }
 {
     if values::is_sender(sender) {
         if are_hosts(helo, receiver) {
             if values::is_short(domain) {
                 if MOST_NAME <= name {
-                    if 500 <= text {
-                        return 0;
-                    }
-                    return 23;
+                    return 0;
                 }
                 return 23;
             }
@@ -121,7 +118,33 @@ fn check_given(
     }
 }
 
-// The check and then, for a fail, its explanation.
+// The answer with a result; for a fail the failing record's domain is written.
+fn finish(table: &[u8], value: u8, counts: Counts, failing: FailingPlace, name: &mut [u8]) -> Answer
+    requires { ⌜ FailingAt (now table) failing ⌝ }
+    ensures { λ r. ⌜ Says (finished (now (table .entry)) value counts failing) r (now (name .entry)) (now (name .exit)) ⌝ }
+{
+    let FailingPlace::In { domain, exp } = failing else {
+        return Answer::Decided { value, counts };
+    };
+    let d = bytes::part(table, domain.from, domain.to);
+    client_match::want(d, name);
+    match exp {
+        Modifier::Absent => Answer::Fail {
+            counts,
+            domain: d.len(),
+            place: 0,
+            length: 0,
+        },
+        Modifier::Part { from, to } => Answer::Fail {
+            counts,
+            domain: d.len(),
+            place: from,
+            length: to - from,
+        },
+    }
+}
+
+// The check of a domain and its answer.
 fn decide(
     client: Address,
     sender: &[u8],
@@ -131,10 +154,9 @@ fn decide(
     table: &[u8],
     domain: &[u8],
     name: &mut [u8],
-    text: &mut [u8],
 ) -> Answer
     requires { ⌜ length (now sender) ≤ 320 ⌝ }
-    ensures { λ r. ⌜ Says (settles (run (tableIn (now (table .entry))) (verdict (mailOf client (now (sender .entry)) (now (helo .entry)) (now (receiver .entry)) seconds) (now (domain .entry))))) r (now (name .entry)) (now (name .exit)) (now (text .entry)) (now (text .exit)) ⌝ }
+    ensures { λ r. ⌜ Decides (now (table .entry)) (run (tableIn (now (table .entry))) (evaluation (mailOf client (now (sender .entry)) (now (helo .entry)) (now (receiver .entry)) seconds) (now (domain .entry)))) r (now (name .entry)) (now (name .exit)) ⌝ }
 {
     let o = check_given(client, sender, helo, receiver, seconds, table, domain, name);
     let counts = o.counts;
@@ -146,36 +168,12 @@ fn decide(
             length: n,
             counts,
         },
-        Ending::Result(value) => {
-            match explanation::explain(
-                client,
-                sender,
-                helo,
-                receiver,
-                seconds,
-                table,
-                failing,
-                counts,
-                text,
-                name,
-            ) {
-                Explained::Text(n) => Answer::Decided {
-                    value,
-                    counts,
-                    text: n,
-                },
-                Explained::Wanting { kind, length: n } => Answer::Wanting {
-                    kind,
-                    length: n,
-                    counts,
-                },
-            }
-        }
+        Ending::Result(value) => finish(table, value, counts, failing, name),
     }
 }
 
-// Evaluates a domain for a client: 20 to 24 in that order, then 25 or 26, then the evaluation. The name of a wanted question is written at the front
-// of `name`, the explanation of a fail at the front of `text`.
+// The first call: 20 to 24 in that order, then 25 or 26, then the result. The name of a wanted question or the failing record's domain is written at the
+// front of `name`. No question of an explanation is asked.
 pub fn evaluate(
     client: Address,
     domain: &[u8],
@@ -185,12 +183,10 @@ pub fn evaluate(
     seconds: u64,
     table: &[u8],
     name: &mut [u8],
-    text: &mut [u8],
 ) -> Answer
-    ensures { λ r. ⌜ Says (evaluated client (now (domain .entry)) (now (sender .entry)) (now (helo .entry)) (now (receiver .entry)) seconds (now (table .entry)) (now (name .entry)) (now (text .entry))) r (now (name .entry)) (now (name .exit)) (now (text .entry)) (now (text .exit)) ⌝ }
-    ensures { λ r. ⌜ Evaluates (lent client (now (domain .entry)) (now (sender .entry)) (now (helo .entry)) (now (receiver .entry)) seconds (now (table .entry)) (now (name .entry)) (now (text .entry))) (handed r (now (name .exit)) (now (text .exit))) ⌝ }
+    ensures { λ r. ⌜ Evaluates (lent client (now (domain .entry)) (now (sender .entry)) (now (helo .entry)) (now (receiver .entry)) seconds (now (table .entry)) (now (name .entry))) (handed r (now (name .exit))) ⌝ }
 {
-    let number = refusal(domain, sender, helo, receiver, name.len(), text.len());
+    let number = refusal(domain, sender, helo, receiver, name.len());
     if number == 0 {
         return match answer_table::check_table(table) {
             TableAnswer::TooLong => Answer::Refused(24),
@@ -205,7 +201,6 @@ pub fn evaluate(
                 table,
                 domain,
                 name,
-                text,
             ),
         };
     }

@@ -10,8 +10,8 @@ use Rattle.text.specs.Writing.{overwritten}
 use Rattle.macros.specs.declared.Form.{Form}
 use Rattle.rules.specs.declared.Counts.{Counts}
 use Rattle.rules.specs.Tree.{Check, bind}
-use Rattle.rules.specs.Mechanisms.{Mail, pValue, givesExpansion, target}
-use Rattle.rules.specs.Evaluation.{givesShown, explainName}
+use Rattle.rules.specs.Mechanisms.{Mail, pValue, givesExpansion}
+use Rattle.rules.specs.Evaluation.{givesShown}
 
 -- a text at the front of a buffer, and its length
 pub record Shows (s : List ℕ) (n : ℕ) (before after : List ℕ) : Type 0 where
@@ -25,7 +25,3 @@ printed s = cond (all isPrintable s) s []
 -- what a text s with a p macro shows, in the domain d
 unfoldable pub withP : Mail → (d s : List ℕ) → Counts → Check (List ℕ)
 withP mail d s c = bind (bind (pValue (mail .client) d c) (givesExpansion mail d Form.Explanation s)) givesShown
-
--- what the exp of the domain d's record fetches
-unfoldable pub fetched : Mail → (d exp : List ℕ) → Counts → Check (List ℕ)
-fetched mail d exp c = bind (target mail d exp c) (explainName mail d c)

@@ -1,26 +1,24 @@
-// The explanation of a fail: exp of the failing record, one TXT text, expanded. It counts nothing.
+// The explanation that the exp of a record makes: one TXT text, expanded. It counts nothing.
 ghost use Prim.Native.Nat.{_≤_};
 ghost use mathlib.Core.List.{[], _∷_};
 ghost use lib.ListN.{length};
 ghost use Rattle.domain.specs.Normal.{name};
+ghost use Rattle.records.specs.Readings.{present};
 ghost use Rattle.macros.specs.declared.Form.the-variants.{Explanation};
 ghost use Rattle.rules.specs.Tree.{run};
 ghost use Rattle.rules.specs.Tables.{tableIn};
 ghost use Rattle.rules.specs.Mechanisms.{expansion};
 ghost use Rattle.rules.specs.Evaluation.{shown, explained, explainName, explanation};
-ghost use Rattle.rules.specs.Outcomes.{mailOf, failingOf, SaysText};
-ghost use Rattle.explanation.specs.Stages.{Shows, printed, withP, fetched};
+ghost use Rattle.rules.specs.Outcomes.{mailOf, SaysText};
+ghost use Rattle.explanation.specs.Stages.{Shows, printed, withP};
 use address::Address;
 use answer_table::Found;
 use answer_table::items;
 use domain::MOST_NAME;
 use macros::Expanded;
 use macros::Form;
-use record_lookup::modifiers;
-use record_lookup::modifiers::Modifier;
 use rules::Counts;
 use rules::Explained;
-use rules::FailingPlace;
 use rules::PValue;
 use rules::Target;
 use text::bytes;
@@ -226,8 +224,8 @@ fn explain_name(
     Explained::Text(0)
 }
 
-// The explanation that the exp of a domain's record fetches.
-fn fetch(
+// The text that the exp of a domain's record makes, at the front of `text`; nothing is written where it is empty. `spec` is the argument of exp.
+pub fn explain(
     client: Address,
     sender: &[u8],
     helo: &[u8],
@@ -241,7 +239,7 @@ fn fetch(
     out: &mut [u8],
 ) -> Explained
     requires { ⌜ length (now sender) ≤ 320 ⌝ }
-    ensures { λ r. ⌜ SaysText counts (run (tableIn (now (table .entry))) (fetched (mailOf client (now (sender .entry)) (now (helo .entry)) (now (receiver .entry)) seconds) (now (domain .entry)) (now (spec .entry)) counts)) r (now (text .entry)) (now (text .exit)) (now (out .entry)) (now (out .exit)) ⌝ }
+    ensures { λ r. ⌜ SaysText counts (run (tableIn (now (table .entry))) (explanation (mailOf client (now (sender .entry)) (now (helo .entry)) (now (receiver .entry)) seconds) (now (domain .entry)) (present (now (spec .entry))) counts)) r (now (text .entry)) (now (text .exit)) (now (out .entry)) (now (out .exit)) ⌝ }
 {
     let mut target = [0u8; MOST_NAME];
     match target_name::make_target(
@@ -273,51 +271,4 @@ fn fetch(
         Target::Malformed => Explained::Text(0),
         Target::Wanting { kind, length } => Explained::Wanting { kind, length },
     }
-}
-
-// The text of a fail's explanation, at the front of `text`; nothing is written where it is empty.
-pub fn explain(
-    client: Address,
-    sender: &[u8],
-    helo: &[u8],
-    receiver: &[u8],
-    seconds: u64,
-    table: &[u8],
-    failing: FailingPlace,
-    counts: Counts,
-    text: &mut [u8],
-    out: &mut [u8],
-) -> Explained
-    requires { ⌜ length (now sender) ≤ 320 ⌝ }
-    ensures { λ r. ⌜ SaysText counts (run (tableIn (now (table .entry))) (explanation (mailOf client (now (sender .entry)) (now (helo .entry)) (now (receiver .entry)) seconds) (failingOf (now (table .entry)) failing) counts)) r (now (text .entry)) (now (text .exit)) (now (out .entry)) (now (out .exit)) ⌝ }
-{
-    let FailingPlace::In {
-        domain,
-        text: place,
-        terms,
-    } = failing
-    else {
-        return Explained::Text(0);
-    };
-    let first = place.from;
-    let end = place.to;
-    let s = bytes::part(table, first, end);
-    let Modifier::Part { from, to } = modifiers::find_explanation(s, terms) else {
-        return Explained::Text(0);
-    };
-    let start = domain.from;
-    let stop = domain.to;
-    fetch(
-        client,
-        sender,
-        helo,
-        receiver,
-        seconds,
-        table,
-        bytes::part(table, start, stop),
-        bytes::part(s, from, to),
-        counts,
-        text,
-        out,
-    )
 }

@@ -1,5 +1,3 @@
 -- What the contracts of this crate are said in, besides the definitions of the crates below.
--- Picking: the entry that a domain's record is among, and which of its texts are records.
+-- Picking: which of an entry's texts are records, by their places in the table.
 pub mod Picking
--- Modifiers: where a modifier's argument stands in a record.
-pub mod Modifiers

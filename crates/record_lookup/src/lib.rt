@@ -2,19 +2,14 @@
 ghost use mathlib.Core.Path.{_≡_};
 ghost use Rattle.text.specs.Bytes.{part};
 ghost use Rattle.answer_table.specs.Reader.{itemsOf};
-ghost use Rattle.rules.specs.Tree.{run};
-ghost use Rattle.rules.specs.Tables.{tableIn};
-ghost use Rattle.rules.specs.Evaluation.{recordLookup, versioned};
+ghost use Rattle.rules.specs.Evaluation.{versioned};
 ghost use Rattle.rules.specs.Outcomes.{SaysSelection};
 ghost use Rattle.record_lookup.specs.Picking.{oneMore, joined, PickedIs};
 use answer_table::Found;
 use answer_table::items;
-use rules::Counts;
 use rules::Selected;
 use rules::Span;
 use text::bytes;
-
-pub mod modifiers;
 
 // Which of some texts are records: none; several; or one, by its place in the table.
 pub enum Picked {
@@ -46,7 +41,7 @@ fn join_text(table: &[u8], earlier: Picked, from: usize, to: usize) -> Picked
 
 // Which of the items from a place of the table up to another are records.
 fn pick(table: &[u8], start: usize, end: usize) -> Picked
-    ensures { λ r. ⌜ PickedIs (now (table .entry)) (versioned (itemsOf (part (now (table .entry)) start end))) r ⌝ }
+    ensures { λ r. ⌜ PickedIs start (part (now (table .entry)) start end) (versioned (itemsOf (part (now (table .entry)) start end))) r ⌝ }
 {
     let texts = bytes::part(table, start, end);
     let mut at = 0;
@@ -60,15 +55,11 @@ fn pick(table: &[u8], start: usize, end: usize) -> Picked
 }
 
 // The record of a domain, among the texts of its TXT question.
-pub fn select_record(table: &[u8], domain: &[u8], counts: Counts, out: &mut [u8]) -> Selected
-    ensures { λ r. ⌜ SaysSelection counts (now (domain .entry)) (now (table .entry)) (run (tableIn (now (table .entry))) (recordLookup (now (domain .entry)) counts)) r (now (out .entry)) (now (out .exit)) ⌝ }
+pub fn select_record(table: &[u8], domain: &[u8]) -> Selected
+    ensures { λ r. ⌜ SaysSelection (now (domain .entry)) (now (table .entry)) r ⌝ }
 {
     let Found::Entry { status, start, end } = answer_table::find(table, 16, domain) else {
-        client_match::want(domain, out);
-        return Selected::Wanting {
-            kind: 16,
-            length: domain.len(),
-        };
+        return Selected::Missing;
     };
     if status == 2 {
         return Selected::Ends(5);

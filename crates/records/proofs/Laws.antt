@@ -20,6 +20,8 @@ pub mod Beginnings
 pub mod Longest
 -- NextRuns: spaces and then a run of non-spaces, from a place on.
 pub mod NextRuns
+-- Arguments: where a term stands in its record, and the argument of a redirect or an exp.
+pub mod Arguments
 -- Terms: reading one term, against the productions.
 pub mod Terms
 -- Counts: how often a name has stood, against the reader's two flags.
@@ -42,6 +44,10 @@ pub mod Fronts
 pub mod Checking
 -- Pointing: the ways out of the functions that find where 32 points.
 pub mod Pointing
+-- Standing: where the modifier of a name stands, by a reading of its record.
+pub mod Standing
+-- Noting: the modifiers met, with one more term.
+pub mod Noting
 -- Openings: the ways out of the functions that read a record for a client.
 pub mod Openings
 -- OneOpening: a record has one opening for a client.

@@ -11,7 +11,7 @@ pub mod Answers
 pub mod Reader
 -- Beginnings: the longest beginning of a term as the code finds it, and the law that ties it to the productions.
 pub mod Beginnings
--- Opening: a record read for a client: what its leading terms say without a lookup.
+-- Opening: a record read for a client: what its leading terms say without a lookup, and where redirect and exp stand.
 pub mod Opening
 -- Claim: what reading a record and then its terms promise together.
 pub mod Claim

@@ -1,18 +1,26 @@
--- A record read for a client: what its leading terms say without a lookup. The laws tie it to the reading of the record, term after term.
-use Prim.Native.Nat.{ℕ, _+_, _<_}
+-- A record read for a client: what its leading terms say without a lookup, and where its redirect and exp stand. The laws tie it to the reading of the
+-- record, term after term.
+use Prim.Native.Nat.{ℕ, _+_, _≤_, _<_}
 use mathlib.Core.Path.{_≡_}
-use mathlib.Core.List.{List}
-use mathlib.Core.Bool.{false, cond}
+use mathlib.Core.List.{List, [], _∷_, _++_}
+use mathlib.Core.Bool.{Bool, true, false, cond, _&&_, _||_}
 use lib.Dec.{eqb}
 use lib.ListN.{length}
 use Rattle.address.specs.declared.Address.{Address}
 use Rattle.address.specs.Matching.{matchesAt}
+use Rattle.text.specs.Bytes.{part}
+use Rattle.text.specs.Texts.{bytes}
+use Rattle.records.specs.Readings.{Optional, absent, present, Placed}
+use Rattle.records.specs.Answers.{most-bytes}
 use Rattle.records.specs.declared.Term.{Term}
 use Rattle.records.specs.declared.TermAnswer.{TermAnswer}
 use Rattle.records.specs.declared.RecordAnswer.{RecordAnswer}
 use Rattle.records.specs.declared.opening.Unaided.{Unaided}
 use Rattle.records.specs.declared.opening.Opening.{Opening}
-use Rattle.records.specs.Reader.{readTerm, after-version, checkFrom, readRecord}
+use Rattle.records.specs.declared.opening.Modifier.{Modifier}
+use Rattle.records.specs.declared.opening.Modifiers.{Modifiers}
+use Rattle.records.specs.declared.opening.Reading.{Reading}
+use Rattle.records.specs.Reader.{readTerm, isRedirect, isExplanation, after-version, checkFrom, readRecord, Reads}
 
 -- what a term says of a client without a lookup: a network of the client matches, and so does `all`; any other network and a modifier pass. Lookups are
 -- those that count as lookups: "include, a, mx, ptr, exists and a used redirect count one each when begun"
@@ -50,15 +58,71 @@ answerOf (Opening.Matched sign) = RecordAnswer.Accepted after-version
 answerOf (Opening.Open i) = RecordAnswer.Accepted after-version
 answerOf (Opening.Refused number p) = RecordAnswer.Refused number p
 
--- all terms from a place on, checked and led
-pub record Opened (client : Address) (s : List ℕ) (i : ℕ) (o : Opening) : Type 0 where
-  pub checks : (f : ℕ) → length s < f + i → answerOf o ≡ checkFrom f s i false false
-  pub leads : Leads client s i o
+-- Where the argument of a modifier stands: in a reading of the record s, the term of the wanted name has its own place, and its argument x follows the
+-- name and "=". Of two terms of that name, which no accepted record has, it would be the first.
+pub data ModifierAt (s wanted : List ℕ) : List Placed → Modifier → Type 0 where
+  none : ModifierAt s wanted [] Modifier.Absent
+  here : {t : Placed} {ts : List Placed} {x : List ℕ} {from : ℕ} → t .said .name ≡ wanted → t .said .argument ≡ present x
+      → from ≡ t .place + length (wanted ++ bytes "=") → from + length x ≤ length s → part s from (from + length x) ≡ x
+      → ModifierAt s wanted (t ∷ ts) (Modifier.Part from (from + length x))
+  later : {t : Placed} {ts : List Placed} {m : Modifier} → (t .said .name ≡ wanted → ⊥) → ModifierAt s wanted ts m → ModifierAt s wanted (t ∷ ts) m
 
--- what reading a record for a client answers: the record's answer, with 32 at the term's first byte, and its leading terms are as the opening says
-pub record OpeningOf (client : Address) (s : List ℕ) (o : Opening) : Type 0 where
-  pub answer : answerOf o ≡ readRecord s
-  pub leads : Leads client s after-version o
+-- the bytes of a modifier's argument in its record s
+unfoldable pub argumentIn : List ℕ → Modifier → Optional (List ℕ)
+argumentIn s Modifier.Absent = absent
+argumentIn s (Modifier.Part from to) = present (part s from to)
+
+-- redirect and exp of an accepted record, by its reading from a place on
+pub record ModifiersAre (s : List ℕ) (i : ℕ) (m : Modifiers) : Type 0 where
+  pub redirect : (ts : List Placed) → Reads s i ts → ModifierAt s (bytes "redirect") ts (m .redirect)
+  pub exp : (ts : List Placed) → Reads s i ts → ModifierAt s (bytes "exp") ts (m .exp)
+
+abbrev pub Accepts : Opening → Type 0
+Accepts o = answerOf o ≡ RecordAnswer.Accepted after-version
+
+-- all terms from a place on, checked and led
+pub record Opened (client : Address) (s : List ℕ) (i : ℕ) (r : Reading) : Type 0 where
+  pub checks : (f : ℕ) → length s < f + i → answerOf (r .opening) ≡ checkFrom f s i false false
+  pub leads : Leads client s i (r .opening)
+  pub modifiers : Accepts (r .opening) → ModifiersAre s i (r .modifiers)
+
+-- what reading a record for a client answers: the record's answer, with 32 at the term's first byte; its leading terms are as the opening says; and its
+-- redirect and exp stand where the modifiers say
+pub record OpeningOf (client : Address) (s : List ℕ) (r : Reading) : Type 0 where
+  pub answer : answerOf (r .opening) ≡ readRecord s
+  pub leads : Leads client s after-version (r .opening)
+  pub modifiers : Accepts (r .opening) → ModifiersAre s after-version (r .modifiers)
+
+-- the modifiers met so far, and with one more term that begins at a place; for private functions
+abbrev pub noneMet : Modifiers
+noneMet = record { redirect = Modifier.Absent; exp = Modifier.Absent }
+
+unfoldable pub isMet : Modifier → Bool
+isMet Modifier.Absent = false
+isMet (Modifier.Part from to) = true
+
+unfoldable pub repeatedBy : Modifiers → Term → Bool
+repeatedBy m x = (isMet (m .redirect) && isRedirect x) || (isMet (m .exp) && isExplanation x)
+
+unfoldable pub noted : Modifiers → ℕ → Term → Modifiers
+noted m p (Term.Redirect from to) = record { redirect = Modifier.Part (p + from) (p + to); exp = m .exp }
+noted m p (Term.Explanation from to) = record { redirect = m .redirect; exp = Modifier.Part (p + from) (p + to) }
+noted m p (Term.All sign) = m
+noted m p (Term.Include sign from to) = m
+noted m p (Term.A sign from to four six) = m
+noted m p (Term.Mx sign from to four six) = m
+noted m p (Term.Ptr sign from to) = m
+noted m p (Term.Network sign from to a n) = m
+noted m p (Term.Exists sign from to) = m
+noted m p (Term.Unknown name to) = m
+
+-- the places of a redirect or exp that begins at p are numbers of the machine
+pub record NoteFits (p : ℕ) (x : Term) : Type 0 where
+  pub redirect : (from to : ℕ) → x ≡ Term.Redirect from to → (from ≤ to) × (p + to ≤ most-bytes)
+  pub exp : (from to : ℕ) → x ≡ Term.Explanation from to → (from ≤ to) × (p + to ≤ most-bytes)
+
+abbrev pub refusedOf : ℕ → ℕ → Reading
+refusedOf number p = record { opening = Opening.Refused number p; modifiers = noneMet }
 
 -- an opening with one more term, read from i up to next
 unfoldable pub ledBy : Unaided → ℕ → ℕ → Opening

@@ -220,7 +220,8 @@ pub fn read_record(s: &[u8]) -> RecordAnswer
     ensures { λ r. ⌜ r ≡ pointedRecord (now (s .entry)) ⌝ }
     ensures { λ r. ⌜ ReadsRecord (now (s .entry)) r ⌝ }
 {
-    match opening::open_record(s, Address::IPv4(0)) {
+    let opening = opening::open_record(s, Address::IPv4(0)).opening;
+    match opening {
         Opening::Matched { sign: _ } => RecordAnswer::Accepted(AFTER_VERSION),
         Opening::Open { at: _ } => RecordAnswer::Accepted(AFTER_VERSION),
         Opening::Refused { number, at } => RecordAnswer::Refused {

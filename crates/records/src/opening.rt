@@ -1,10 +1,8 @@
 // A record read whole, and for a client: its leading terms are tried that need no lookup, so that they needn't be read again.
 ghost use mathlib.Core.Path.{_≡_};
-ghost use mathlib.Core.Bool.{_&&_, _||_};
 ghost use Prim.Native.Nat.{_≤_};
 ghost use lib.ListN.{length};
-ghost use Rattle.records.specs.Reader.{isRedirect, isExplanation};
-ghost use Rattle.records.specs.Opening.{unaided, ledOn, Opened, OpeningOf};
+ghost use Rattle.records.specs.Opening.{unaided, ledOn, isMet, repeatedBy, NoteFits, noted, refusedOf, Opened, OpeningOf};
 use crate::AFTER_VERSION;
 use crate::MOST_BYTES;
 use crate::Term;
@@ -20,12 +18,30 @@ pub enum Unaided {
     Asks,
 }
 
-// What reading a record for a client answers: the sign of the first term that doesn't pass, if that term matches without a lookup; otherwise the
-// place after the leading terms that pass; or a refusal with its number and place.
+// What the leading terms of a record say to a client: the sign of the first term that doesn't pass, if that term matches without a lookup; otherwise
+// the place after the leading terms that pass; or a refusal with its number and place.
 pub enum Opening {
     Matched { sign: u8 },
     Open { at: usize },
     Refused { number: u8, at: usize },
+}
+
+// Where the argument of a modifier stands, in its record or in a table that has the record; or that the record has no such modifier.
+pub enum Modifier {
+    Absent,
+    Part { from: usize, to: usize },
+}
+
+// Where the arguments of a record's redirect and exp stand.
+pub struct Modifiers {
+    pub redirect: Modifier,
+    pub exp: Modifier,
+}
+
+// What reading a record for a client answers; a refused record has no modifiers.
+pub struct Reading {
+    pub opening: Opening,
+    pub modifiers: Modifiers,
 }
 
 // A network of the client matches, and so does `all`; any other network and a modifier pass.
@@ -98,62 +114,78 @@ fn lead_on(opening: Opening, client: Address, at: usize, next: usize, term: Term
     Opening::Open { at: start }
 }
 
-fn is_redirect(term: Term) -> bool
-    ensures { λ r. ⌜ r ≡ isRedirect term ⌝ }
+// Whether a modifier has been met.
+fn is_met(m: Modifier) -> bool
+    ensures { λ r. ⌜ r ≡ isMet m ⌝ }
 {
-    let Term::Redirect { from: _, to: _ } = term else {
+    let Modifier::Part { from: _, to: _ } = m else {
         return false;
     };
     true
 }
 
-fn is_explanation(term: Term) -> bool
-    ensures { λ r. ⌜ r ≡ isExplanation term ⌝ }
+// Whether a term is a second redirect or a second exp, by those that have stood before it.
+fn repeats(met: Modifiers, term: Term) -> bool
+    ensures { λ r. ⌜ r ≡ repeatedBy met term ⌝ }
 {
-    let Term::Explanation { from: _, to: _ } = term else {
-        return false;
-    };
-    true
+    let redirect = met.redirect;
+    let exp = met.exp;
+    match term {
+        Term::Redirect { from: _, to: _ } => is_met(redirect),
+        Term::Explanation { from: _, to: _ } => is_met(exp),
+        _ => false,
+    }
 }
 
-// Whether two tests hold.
-fn both(a: bool, b: bool) -> bool
-    ensures { λ r. ⌜ r ≡ (a && b) ⌝ }
+// The modifiers met with one more term, which begins at a place.
+fn note(met: Modifiers, place: usize, term: Term) -> Modifiers
+    requires { ⌜ NoteFits place term ⌝ }
+    ensures { λ r. ⌜ r ≡ noted met place term ⌝ }
 {
-    if a {
-        return b;
+    let redirect = met.redirect;
+    let exp = met.exp;
+    match term {
+        Term::Redirect { from, to } => Modifiers {
+            redirect: Modifier::Part {
+                from: place + from,
+                to: place + to,
+            },
+            exp,
+        },
+        Term::Explanation { from, to } => Modifiers {
+            redirect,
+            exp: Modifier::Part {
+                from: place + from,
+                to: place + to,
+            },
+        },
+        _ => met,
     }
-    false
 }
 
-// Whether one of two tests holds.
-fn either(a: bool, b: bool) -> bool
-    ensures { λ r. ⌜ r ≡ (a || b) ⌝ }
+// A refusal.
+fn refused(number: u8, at: usize) -> Reading
+    ensures { λ r. ⌜ r ≡ refusedOf number at ⌝ }
 {
-    if a {
-        return true;
+    Reading {
+        opening: Opening::Refused { number, at },
+        modifiers: Modifiers {
+            redirect: Modifier::Absent,
+            exp: Modifier::Absent,
+        },
     }
-    b
-}
-
-// Whether a term is a second redirect or a second exp, by what has stood before it.
-fn repeats(redirect: bool, explanation: bool, term: Term) -> bool
-    ensures { λ r. ⌜ r ≡ ((redirect && isRedirect term) || (explanation && isExplanation term)) ⌝ }
-{
-    if both(redirect, is_redirect(term)) {
-        return true;
-    }
-    both(explanation, is_explanation(term))
 }
 
 // The terms of a record, from a place on: the earlier of 32 and 33, or accepted.
-fn check_terms(s: &[u8], first: usize, client: Address) -> Opening
+fn check_terms(s: &[u8], first: usize, client: Address) -> Reading
     requires { ⌜ first ≤ length (now s) ⌝ }
     ensures { λ r. ⌜ Opened client (now (s .entry)) first r ⌝ }
 {
     let mut at = first;
-    let mut redirect = false;
-    let mut explanation = false;
+    let mut modifiers = Modifiers {
+        redirect: Modifier::Absent,
+        exp: Modifier::Absent,
+    };
     let mut opening = Opening::Open { at: first };
     while at <= s.len() {
         let answer = next_term(s, at);
@@ -164,33 +196,29 @@ fn check_terms(s: &[u8], first: usize, client: Address) -> Opening
         } = answer
         else {
             let TermAnswer::Refused { number, at: place } = answer else {
-                return opening;
+                return Reading { opening, modifiers };
             };
-            return Opening::Refused { number, at: place };
+            return refused(number, place);
         };
-        if repeats(redirect, explanation, term) {
-            return Opening::Refused {
-                number: 33,
-                at: place,
-            };
+        if repeats(modifiers, term) {
+            return refused(33, place);
         }
-        redirect = either(redirect, is_redirect(term));
-        explanation = either(explanation, is_explanation(term));
+        modifiers = note(modifiers, place, term);
         opening = lead_on(opening, client, at, next, term);
         at = next;
     }
-    opening
+    Reading { opening, modifiers }
 }
 
-// Reads a record for a client: refused as read_record has it, with 32 at the term's first byte, or accepted.
-pub fn open_record(s: &[u8], client: Address) -> Opening
+// Reads a record for a client: refused as read_record has it, with 32 at the term's first byte, or accepted, with the places of its modifiers.
+pub fn open_record(s: &[u8], client: Address) -> Reading
     ensures { λ r. ⌜ OpeningOf client (now (s .entry)) r ⌝ }
 {
     if MOST_BYTES < s.len() {
-        return Opening::Refused { number: 30, at: 0 };
+        return refused(30, 0);
     }
     if has_version(s) {
         return check_terms(s, AFTER_VERSION, client);
     }
-    Opening::Refused { number: 31, at: 0 }
+    refused(31, 0)
 }

@@ -1,10 +1,13 @@
-// The relay: it begins with an empty table, fetches each answer that is missing from the zone, and asks again until the check is decided.
+// The relay: it begins with an empty table, fetches each answer that is missing from the zone, and asks again until the check is decided; for a fail it
+// then asks for the explanation in the same way.
 use address::Address;
 use answer_entry::AppendAnswer;
 use answer_entry::append_entry;
 use answer_table::Found;
 use evaluation::Answer;
 use evaluation::evaluate;
+use evaluation::explaining::Explanation;
+use evaluation::explaining::explain;
 use text::bytes::part;
 
 // The status of what the zone has for a question; a name that it lacks doesn't exist.
@@ -60,42 +63,112 @@ fn print_refused(number: u8) {
     case_support::print_number_line(number as usize);
 }
 
-// Checks with an empty table, adds the zone's answer to each question that is missing, and prints what the check comes to. 130 questions are more than any
-// check of the suite puts.
-pub fn run(zone: &[u8], client: Address, domain: &[u8], sender: &[u8], helo: &[u8]) {
-    let mut table = [0u8; 8192];
+// Asks for the text of a fail over the table that decided it, adds the zone's answer to each question that is missing, and prints the fail and its text.
+// 12 questions are all that an explanation puts: eleven for the p macro and one for the text.
+fn explain_fail(
+    zone: &[u8],
+    client: Address,
+    domain: &[u8],
+    sender: &[u8],
+    helo: &[u8],
+    place: usize,
+    length: usize,
+    table: &mut [u8],
+    decided: usize,
+) {
     let mut name = [0u8; 253];
     let mut text = [0u8; 500];
-    let mut size: usize = 0;
-    let mut budget: usize = 131;
-    while 0 < budget {
-        match evaluate(
+    let mut size = decided;
+    for _ in 0..13usize {
+        match explain(
             client,
             domain,
             sender,
             helo,
             b"",
             0,
-            part(&table, 0, size),
+            part(table, 0, size),
+            place,
+            length,
             &mut name,
             &mut text,
         ) {
-            Answer::Decided {
-                value,
-                counts: _,
-                text: n,
-            } => return print_decided(value, part(&text, 0, n)),
-            Answer::Wanting {
-                kind,
-                length: n,
-                counts: _,
-            } => {
-                size = append_answer(zone, kind, part(&name, 0, n), &mut table, size);
+            Explanation::Text(n) => return print_decided(3, part(&text, 0, n)),
+            Explanation::Wanting { kind, length: n } => {
+                size = append_answer(zone, kind, part(&name, 0, n), table, size);
             }
-            Answer::Refused(number) => return print_refused(number),
-            Answer::RefusedAt { number, at: _ } => return print_refused(number),
+            Explanation::Refused(number) => return print_refused(number),
+            Explanation::RefusedAt { number, at: _ } => return print_refused(number),
         }
-        budget -= 1;
     }
     case_support::print_line(b"undecided");
+}
+
+// Fills an empty table with the zone's answer to each question that the check wants; answers the table's size. 130 questions are more than any check of
+// the suite puts.
+fn collect_answers(
+    zone: &[u8],
+    client: Address,
+    domain: &[u8],
+    sender: &[u8],
+    helo: &[u8],
+    table: &mut [u8],
+) -> usize {
+    let mut name = [0u8; 253];
+    let mut size: usize = 0;
+    for _ in 0..130usize {
+        let Answer::Wanting {
+            kind,
+            length: n,
+            counts: _,
+        } = evaluate(
+            client,
+            domain,
+            sender,
+            helo,
+            b"",
+            0,
+            part(table, 0, size),
+            &mut name,
+        )
+        else {
+            return size;
+        };
+        size = append_answer(zone, kind, part(&name, 0, n), table, size);
+    }
+    size
+}
+
+// Checks over the answers that the zone has for it, and prints what the check comes to.
+pub fn run(zone: &[u8], client: Address, domain: &[u8], sender: &[u8], helo: &[u8]) {
+    let mut table = [0u8; 8192];
+    let mut name = [0u8; 253];
+    let size = collect_answers(zone, client, domain, sender, helo, &mut table);
+    let t = part(&table, 0, size);
+    match evaluate(client, domain, sender, helo, b"", 0, t, &mut name) {
+        Answer::Decided { value, counts: _ } => print_decided(value, b""),
+        Answer::Fail {
+            counts: _,
+            domain: n,
+            place,
+            length,
+        } => explain_fail(
+            zone,
+            client,
+            part(&name, 0, n),
+            sender,
+            helo,
+            place,
+            length,
+            &mut table,
+            size,
+        ),
+        Answer::Wanting {
+            kind: _,
+            length: _,
+            counts: _,
+        } => case_support::print_line(b"undecided"),
+        Answer::Refused(number) => print_refused(number),
+        Answer::RefusedAt { number, at: _ } => print_refused(number),
+    }
 }

@@ -1,4 +1,8 @@
-// The evaluations: over a table that is made, then over the same with an entry for each question that was wanted, damaged now and then.
+// The evaluations: over a table that is made, then over the same with an entry for each question that was wanted, damaged now and then; and after the last
+// one the explanations.
+use crate::explanations;
+use crate::turns;
+use crate::turns::Turn;
 use address::Address;
 use evaluation::Answer;
 use evaluation::evaluate;
@@ -8,7 +12,7 @@ use robustness_inputs::tables;
 use robustness_inputs::tally;
 use text::bytes::part;
 
-// An evaluation that is lent the fronts of two buffers; the seed says how much of them, and the time.
+// An evaluation that is lent the front of a buffer; the seed says how much of it, and the time.
 fn evaluate_front(
     seed: u64,
     client: Address,
@@ -18,35 +22,26 @@ fn evaluate_front(
     receiver: &[u8],
     table: &[u8],
     name: &mut [u8],
-    text: &mut [u8],
 ) -> Answer {
     let name_room = arguments::name_room(seed);
-    let text_room = arguments::text_room(seed);
     let seconds = arguments::pick_seconds(seed);
     if name_room <= name.len() {
-        if text_room <= text.len() {
-            return evaluate(
-                client,
-                domain,
-                sender,
-                helo,
-                receiver,
-                seconds,
-                table,
-                &mut name[..name_room],
-                &mut text[..text_room],
-            );
-        }
-        return Answer::Refused(0);
+        return evaluate(
+            client,
+            domain,
+            sender,
+            helo,
+            receiver,
+            seconds,
+            table,
+            &mut name[..name_room],
+        );
     }
     Answer::Refused(0)
 }
 
 // Where a result is counted besides its number.
-fn place_of(value: u8, lookups: u8, voids: u8, size: usize) -> u8 {
-    if 0 < size {
-        return tally::TEXTS;
-    }
+fn place_of(value: u8, lookups: u8, voids: u8) -> u8 {
     if value == 6 {
         if voids == 3 {
             return tally::VOIDS;
@@ -59,23 +54,41 @@ fn place_of(value: u8, lookups: u8, voids: u8, size: usize) -> u8 {
     tally::OTHERS
 }
 
+// Counts a refusal and folds its number.
+fn note_refusal(number: u8, name: &[u8], counts: &mut [u64], digest: u64) -> u64 {
+    tally::count(counts, tally::EVALUATE, number);
+    tally::count_kept(name, 0, b"", 0, counts);
+    tally::fold_number(digest, number as usize)
+}
+
 fn fold_counts(digest: u64, lookups: u8, voids: u8) -> u64 {
     tally::fold_number(digest, 256 * lookups as usize + voids as usize)
 }
 
-// Counts an answer and folds its number, kind or place, its counts, and what it wrote.
-fn note_answer(answer: Answer, name: &[u8], text: &[u8], counts: &mut [u64], digest: u64) -> u64 {
+// Counts an answer and folds its number, kind or place, its counts, what it wrote, and the place and length of an exp argument.
+fn note_answer(answer: Answer, name: &[u8], counts: &mut [u64], digest: u64) -> u64 {
     match answer {
-        Answer::Decided {
-            value,
-            counts: c,
-            text: n,
-        } => {
+        Answer::Decided { value, counts: c } => {
             tally::count(counts, tally::EVALUATE, value);
-            tally::count(counts, place_of(value, c.lookups, c.voids, n), 0);
-            tally::count_kept(name, 0, text, n, counts);
-            let numbered = tally::fold_number(digest, value as usize);
-            tally::fold_bytes(fold_counts(numbered, c.lookups, c.voids), part(text, 0, n))
+            tally::count(counts, place_of(value, c.lookups, c.voids), 0);
+            tally::count_kept(name, 0, b"", 0, counts);
+            fold_counts(
+                tally::fold_number(digest, value as usize),
+                c.lookups,
+                c.voids,
+            )
+        }
+        Answer::Fail {
+            counts: c,
+            domain: n,
+            place,
+            length,
+        } => {
+            tally::count(counts, tally::EVALUATE, 3);
+            tally::count_kept(name, n, b"", 0, counts);
+            let counted = fold_counts(tally::fold_number(digest, 3), c.lookups, c.voids);
+            let named = tally::fold_bytes(counted, part(name, 0, n));
+            tally::fold_number(tally::fold_number(named, place), length)
         }
         Answer::Wanting {
             kind,
@@ -83,39 +96,18 @@ fn note_answer(answer: Answer, name: &[u8], text: &[u8], counts: &mut [u64], dig
             counts: c,
         } => {
             tally::count(counts, tally::EVALUATE, 7);
-            tally::count_kept(name, n, text, 0, counts);
+            tally::count_kept(name, n, b"", 0, counts);
             let kinded = tally::fold_number(digest, 65536 * 7 + kind as usize);
             tally::fold_bytes(fold_counts(kinded, c.lookups, c.voids), part(name, 0, n))
         }
-        Answer::Refused(number) => {
-            tally::count(counts, tally::EVALUATE, number);
-            tally::count_kept(name, 0, text, 0, counts);
-            tally::fold_number(digest, number as usize)
-        }
+        Answer::Refused(number) => note_refusal(number, name, counts, digest),
         Answer::RefusedAt { number, at } => {
-            tally::count(counts, tally::EVALUATE, number);
-            tally::count_kept(name, 0, text, 0, counts);
-            tally::fold_number(tally::fold_number(digest, number as usize), at)
+            tally::fold_number(note_refusal(number, name, counts, digest), at)
         }
     }
 }
 
-// What a turn leaves: the digest, the table's size, and whether a question was wanting.
-struct Turn {
-    digest: u64,
-    size: usize,
-    wanting: bool,
-}
-
-fn make_turn(digest: u64, size: usize, wanting: bool) -> Turn {
-    Turn {
-        digest,
-        size,
-        wanting,
-    }
-}
-
-// One evaluation over a table of a size, which then has an entry for the question that was wanting.
+// One evaluation over a table of a size, which then has an entry for the question that was wanting; if none was, the explanation.
 fn run_turn(
     seed: u64,
     rooms: u64,
@@ -130,31 +122,34 @@ fn run_turn(
     digest: u64,
 ) -> Turn {
     let mut name = [0u8; 300];
-    let mut text = [0u8; 600];
     tally::fill(&mut name);
-    tally::fill(&mut text);
-    let answer = evaluate_front(
-        rooms,
-        client,
-        domain,
-        sender,
-        helo,
-        receiver,
-        part(table, 0, size),
-        &mut name,
-        &mut text,
-    );
-    let folded = note_answer(answer, &name, &text, counts, digest);
+    let t = part(table, 0, size);
+    let answer = evaluate_front(rooms, client, domain, sender, helo, receiver, t, &mut name);
+    let noted = note_answer(answer, &name, counts, digest);
     let Answer::Wanting {
         kind,
         length: n,
         counts: _,
     } = answer
     else {
-        return make_turn(folded, size, false);
+        let explained = explanations::run(
+            seed,
+            answer,
+            &name,
+            client,
+            domain,
+            sender,
+            helo,
+            receiver,
+            table,
+            size,
+            counts,
+            noted,
+        );
+        return turns::make(explained, size, false);
     };
     let grown = tables::grow(seed, kind, part(&name, 0, n), table, size);
-    make_turn(folded, grown, true)
+    turns::make(noted, grown, true)
 }
 
 // Evaluates until no question is wanting, but not more often than the budget says.

@@ -3,7 +3,9 @@
 // It shows that every call returns and that a call keeps every byte that it does not write. The stored output is the program's own: it says nothing of
 // whether an answer is right, and guards against a change of behaviour that was not meant. Numbers come from a fixed seed, so each run is the same.
 mod checks;
+mod explanations;
 mod readings;
+mod turns;
 
 use address::Address;
 use robustness_inputs::arguments;
@@ -104,9 +106,13 @@ fn print_numbers(call: &[u8], from: u8, to: u8, counts: &[u64], start: u8) {
 fn print_counts(counts: &[u64]) {
     print_numbers(b"evaluate", 0, 8, counts, tally::EVALUATE);
     print_numbers(b"evaluate", 20, 27, counts, tally::EVALUATE);
-    print_count(b"fails with a text", counts, tally::TEXTS);
     print_count(b"permerrors after 10 lookups", counts, tally::TENTHS);
     print_count(b"permerrors after 3 voids", counts, tally::VOIDS);
+    print_number(b"explain", 3, counts, tally::EXPLAIN);
+    print_number(b"explain", 7, counts, tally::EXPLAIN);
+    print_numbers(b"explain", 20, 27, counts, tally::EXPLAIN);
+    print_number(b"explain", 28, counts, tally::EXPLAIN);
+    print_count(b"explanations with a text", counts, tally::TEXTS);
     print_count(b"read_record accepted", counts, tally::RECORD);
     print_numbers(b"read_record", 30, 34, counts, tally::RECORD);
     print_count(b"read_term a term", counts, tally::TERM);

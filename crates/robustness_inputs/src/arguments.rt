@@ -2,6 +2,7 @@
 use crate::random;
 use crate::texts;
 use address::Address;
+use text::writing;
 
 // A client of either family, or an IPv4 one in its mapped form.
 pub fn pick_client(seed: u64) -> Address {
@@ -38,6 +39,25 @@ pub fn put_domain(seed: u64, out: &mut [u8]) -> usize {
         b"A.Example b.example. C.EXAMPLE. E.test D.example mail.A.example C.d.Example. single a..example .a.example %41.example d.example..  a_b.test",
         out,
     )
+}
+
+// The domain for an explanation: that which an evaluation handed out, or rarely another.
+pub fn put_failing(seed: u64, domain: &[u8], out: &mut [u8]) -> usize {
+    if random::chance(seed, 1, 40) {
+        return put_domain(random::draw(seed, 2), out);
+    }
+    writing::put_all(domain, out, 0)
+}
+
+// A place or length for an explanation: that which an evaluation handed out, or rarely the next or the last one, 0, or any number.
+pub fn pick_near(seed: u64, n: usize) -> usize {
+    match random::up_to(seed, 1, 99) {
+        0..=1 => std::num::wrapping_add_u64(n as u64, 1) as usize,
+        2..=3 => std::num::wrapping_add_u64(n as u64, 18446744073709551615) as usize,
+        4 => 0,
+        5 => random::draw(seed, 2) as usize,
+        _ => n,
+    }
 }
 
 pub fn put_sender(seed: u64, out: &mut [u8]) -> usize {

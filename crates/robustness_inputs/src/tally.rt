@@ -3,27 +3,29 @@
 // Where the counts of each call begin: an answer's number is added, and 0 where the answer has none.
 pub const EVALUATE: u8 = 0;
 
+pub const EXPLAIN: u8 = 32;
+
 pub const RECORD: u8 = 64;
 
 pub const TERM: u8 = 128;
 
 pub const EXPAND: u8 = 192;
 
-// Where others stand: the fails with a text; the permerrors after ten lookups and after three void answers; all other results; the reads that answered the
-// end; the calls that kept every byte that they did not write, and those that did not.
-pub const TEXTS: u8 = 50;
+// Where others stand: the explanations that aren't empty; the permerrors after ten lookups and after three void answers; all other results; the reads
+// that answered the end; the calls that kept every byte that they did not write, and those that did not.
+pub const TEXTS: u8 = 100;
 
-pub const TENTHS: u8 = 51;
+pub const TENTHS: u8 = 101;
 
-pub const VOIDS: u8 = 52;
+pub const VOIDS: u8 = 102;
 
-pub const OTHERS: u8 = 53;
+pub const OTHERS: u8 = 103;
 
-pub const ENDS: u8 = 54;
+pub const ENDS: u8 = 104;
 
-pub const KEPT: u8 = 55;
+pub const KEPT: u8 = 105;
 
-pub const CHANGED: u8 = 56;
+pub const CHANGED: u8 = 106;
 
 // The digest of nothing.
 pub const START: u64 = 14695981039346656037;

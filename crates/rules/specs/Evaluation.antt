@@ -25,12 +25,12 @@ use Rattle.rules.specs.Results.{result-none, result-neutral, result-pass
 use Rattle.rules.specs.Tree.{Reply, failed, items, Check, give, ask, bind}
 use Rattle.rules.specs.Mechanisms.{Mail, Match, yes, no, stop, Step, step, matched, target, expanded, counting, aStep, existsStep, mxStep, ptrStep}
 
--- where an explanation is to be fetched: the failing record's domain, and its exp
+-- the record that failed: its domain, and its exp where it has one
 pub record Failing : Type 0 where
   pub domain : List ℕ
-  pub exp : List ℕ
+  pub exp : Optional (List ℕ)
 
--- the result by its number; both counts; for a fail, where its explanation is
+-- the result by its number; both counts; for a fail, the record that failed
 pub record Result : Type 0 where
   pub value : ℕ
   pub counts : Counts
@@ -59,7 +59,7 @@ checkTarget mail sub d spec c = bind (target mail d spec c) (λ t. sub t c)
 unfoldable pub begunCheck : Mail → Sub → List ℕ → List ℕ → Counts → Check Result
 begunCheck mail sub d spec c = counting (ended result-permerror) (checkTarget mail sub d spec) c
 
--- its result's explanation is dropped: a fail through an include fetches no exp
+-- the record that failed is dropped: a fail through an include fetches no exp
 unfoldable pub includeOf : Result → Check Step
 includeOf r = step (includeMatch (r .value)) (r .counts)
 
@@ -117,14 +117,13 @@ unfoldable pub modifierOf : List ℕ → List Placed → Optional (List ℕ)
 modifierOf wanted [] = absent
 modifierOf wanted (t ∷ ts) = cond (same (t .said .name) wanted) (t .said .argument) (modifierOf wanted ts)
 
--- where this record's explanation is, if it has an exp
-unfoldable pub failingAt : List ℕ → Optional (List ℕ) → Optional Failing
-failingAt d absent = absent
-failingAt d (present e) = present (record { domain = d; exp = e })
+-- this record as the one that failed: "exp of the failing record"
+abbrev pub failingAt : List ℕ → Optional (List ℕ) → Failing
+failingAt d exp = record { domain = d; exp = exp }
 
--- a result of this record: "exp of the failing record"
+-- a result of this record. W-203 amends the house rules: every fail names "the failing record's domain", with or without an exp
 unfoldable pub signed : List ℕ → List Placed → ℕ → Counts → Check Result
-signed d all-terms v c = give (record { value = v; counts = c; failing = cond (eqb v result-fail) (failingAt d (modifierOf (bytes "exp") all-terms)) absent })
+signed d all-terms v c = give (record { value = v; counts = c; failing = cond (eqb v result-fail) (present (failingAt d (modifierOf (bytes "exp") all-terms))) absent })
 
 -- redirect: "runs the check on its target with its result, none becoming permerror"
 unfoldable pub noneIsPermerror : Result → Result
@@ -251,12 +250,18 @@ unfoldable pub explainName : Mail → List ℕ → Counts → Naming → Check (
 explainName mail d c malformed = give []
 explainName mail d c (name n) = ask kind-txt n c (explainReply mail d c)
 
--- "Fail at the outermost check, or through redirects only, fetches exp of the failing record"; "It counts nothing, but a missing entry gives 7."
-unfoldable pub explanation : Mail → Optional Failing → Counts → Check (List ℕ)
-explanation mail absent c = give []
-explanation mail (present f) c = bind (target mail (f .domain) (f .exp) c) (explainName mail (f .domain) c)
+-- the text that the exp of the domain d's record makes; without an exp none. "It counts nothing, but a missing entry gives 7."
+unfoldable pub explanation : Mail → List ℕ → Optional (List ℕ) → Counts → Check (List ℕ)
+explanation mail d absent c = give []
+explanation mail d (present exp) c = bind (target mail d exp c) (explainName mail d c)
 
--- the whole answer of an evaluation: the result, both counts, and the text of a fail
+-- "Fail at the outermost check, or through redirects only, fetches exp of the failing record"
+unfoldable pub explanationOf : Mail → Optional Failing → Counts → Check (List ℕ)
+explanationOf mail absent c = give []
+explanationOf mail (present f) c = explanation mail (f .domain) (f .exp) c
+
+-- The whole answer of an evaluation: the result, both counts, and the text of a fail. W-203 amends the house rules: "Split evaluation"; the first call
+-- gives what `evaluation` comes to, the second what `explanation` does, and "Together they give what one gave", which is this.
 pub record Verdict : Type 0 where
   pub value : ℕ
   pub counts : Counts
@@ -265,4 +270,4 @@ pub record Verdict : Type 0 where
 unfoldable pub verdict : Mail → List ℕ → Check Verdict
 verdict mail domain =
     bind (evaluation mail domain)
-    (λ r. bind (explanation mail (r .failing) (r .counts)) (λ x. give (record { value = r .value; counts = r .counts; text = x })))
+    (λ r. bind (explanationOf mail (r .failing) (r .counts)) (λ x. give (record { value = r .value; counts = r .counts; text = x })))

@@ -30,11 +30,11 @@ use Rattle.networks.specs.Reader6.{firstColon, isDoubleColon, doubleColon, read
 use Rattle.records.specs.Grammar.{isQualifier, isReserved, countOf}
 use Rattle.records.specs.Numbers.{saidOf}
 use Rattle.records.specs.Reader.{laterKind, kindOf, specAt, allOf, withSpec, ptrOf, cutOf, hostsCut, hostsAt, withHosts, networkTerm, networkCut, networkBy, mechanismBy, mechanismOf, modifierOf as records-reader-of-modifierOf, tokenOf, tokenAnswer, termFrom, readTerm, isRedirect, isExplanation, checkAfter, checkFrom, hasVersion, readRecord}
-use Rattle.rules.specs.Evaluation.{includeMatch, checkTarget, begunCheck, includeOf, includeStep, lengthFor, networkStep, mechanismStep, termStep, signResult, modifierOf, failingAt, signed, noneIsPermerror, redirectOf, noMatch, afterStep, tryTerms, termsAfter, termsFrom, termsOf, readOutcome, versioned, selection, textReply, recordLookup, afterLookup, checkName, check, evaluation, shown, givesShown, explained, explainReply, explainName, explanation, verdict, having, plainStep, matchResult}
+use Rattle.rules.specs.Evaluation.{includeMatch, checkTarget, begunCheck, includeOf, includeStep, lengthFor, networkStep, mechanismStep, termStep, signResult, modifierOf, signed, noneIsPermerror, redirectOf, noMatch, afterStep, tryTerms, termsAfter, termsFrom, termsOf, readOutcome, versioned, selection, textReply, recordLookup, afterLookup, checkName, check, evaluation, shown, givesShown, explained, explainReply, explainName, explanation, explanationOf, verdict, having, plainStep, matchResult}
 use Rattle.rules.specs.Mechanisms.{addressKind, itemMatches, anyMatches, width, includesClient, withValid, validated, namesOf, holdsName, firstBelow, firstOr, chosen, givesChosen, pReply, pValue, expansion, givesExpansion, expanded, givesName, target, targetOr, counting, voidStep, ownReply, aStep, existsStep, insertHost, byPreference, mxItems, mxStep, ptrStep, atTarget, targetStep, countedStep, onMatch, untilMatch, askHost}
 use Rattle.rules.specs.Tables.{replyBy, replyOf, tableIn}
 use Rattle.rules.specs.Tree.{items, settled, wanting, bind, then, answered, run}
-use Rattle.rules.specs.Zones.{zone, txt, nothing, answer, answer6, decided}
+use Rattle.rules.specs.Zones.{zone, txt, nothing, answer, answer6, decided, result}
 use Rattle.rules.specs.Rules.{Rules}
 
 -- a label of 60 bytes and its dot
@@ -82,7 +82,7 @@ pub record Computed : Type 0 where
   pub rules : Rules
 
 pub computed : Computed
-unfolding zone answer answer6 number within isSpace isNotSpace isNotSlash isUpper isNotUpper isAlpha isDigit isLengthByte isAlphanumeric isHexDigit isVisible isPrintable isLabelByte isNameByte isToplabelByte isMacroLiteral isDelimiter lower decimalFrom decimal isDecimal readDecimal pushed hasNoLeadingZero readNumber same sameWord contains all rightmost grow split isIn text-runs-of-run runEnd trailingStart overwritten bitsOf bits agree matchesAt octetsOf octets valueFrom valueOf fromOctets mappedPrefix clientOctets asClient labels isLabel isName isTableName labelCount atOrBelow withoutDot lowered normal shorterLabels shortened digit numeral inDecimal inHex nibbles hexGroups octetTexts nibbleTexts dotted readable family reversedName partsOf address-text-rows-of-textOf ordered place separatorBefore joinBy separated address-text-rows-of-row isListed reversedIf kept isUnreserved hexDigit escapedByte escaped transformed macros-expansion-of-lastPart senderDomain frontParts localAsWritten localPart receiverName lettersOf letterValue laterValue escapeText pieceText macroText macros-expansion-of-textOf isSender isHost isShort isLetter isPartCount fitted outcome questionName isLiteral isEscape isReverse closedAt delimitersAt reversalAt digitsAt bracesOf pieceOf macroOf piecesAfter piecesFrom pieces endsInMacro isToplabel lastLabel endsInLabel endsRight isMacroString isP anyP scanOf usesP hexValue hexFrom groupsFrom octetAt dotOctetAt readIp4 slashNumber readLength readLength4 readLength6 frontEnd secondLength readDual firstColon isDoubleColon doubleColon readH16 tailOf lastOf networks-reader6-of-lastPart push rowOf readRow readSide addressOf filled fullOf shortOf readIp6 firstOf readAddress octetPairs networkOf isQualifier isReserved countOf saidOf laterKind kindOf specAt allOf withSpec ptrOf cutOf hostsCut hostsAt withHosts networkTerm networkCut networkBy mechanismBy mechanismOf records-reader-of-modifierOf tokenOf tokenAnswer termFrom readTerm isRedirect isExplanation checkAfter checkFrom hasVersion readRecord includeMatch checkTarget begunCheck includeOf includeStep lengthFor networkStep mechanismStep termStep signResult modifierOf failingAt signed noneIsPermerror redirectOf noMatch afterStep tryTerms termsAfter termsFrom termsOf readOutcome versioned selection textReply recordLookup afterLookup checkName check evaluation shown givesShown explained explainReply explainName explanation verdict addressKind itemMatches anyMatches width includesClient withValid validated namesOf holdsName firstBelow firstOr chosen givesChosen pReply pValue expansion givesExpansion expanded givesName target targetOr counting voidStep ownReply aStep existsStep insertHost byPreference mxItems mxStep ptrStep replyBy replyOf tableIn bind then answered run having plainStep matchResult atTarget targetStep countedStep onMatch untilMatch askHost
+unfolding zone answer answer6 result number within isSpace isNotSpace isNotSlash isUpper isNotUpper isAlpha isDigit isLengthByte isAlphanumeric isHexDigit isVisible isPrintable isLabelByte isNameByte isToplabelByte isMacroLiteral isDelimiter lower decimalFrom decimal isDecimal readDecimal pushed hasNoLeadingZero readNumber same sameWord contains all rightmost grow split isIn text-runs-of-run runEnd trailingStart overwritten bitsOf bits agree matchesAt octetsOf octets valueFrom valueOf fromOctets mappedPrefix clientOctets asClient labels isLabel isName isTableName labelCount atOrBelow withoutDot lowered normal shorterLabels shortened digit numeral inDecimal inHex nibbles hexGroups octetTexts nibbleTexts dotted readable family reversedName partsOf address-text-rows-of-textOf ordered place separatorBefore joinBy separated address-text-rows-of-row isListed reversedIf kept isUnreserved hexDigit escapedByte escaped transformed macros-expansion-of-lastPart senderDomain frontParts localAsWritten localPart receiverName lettersOf letterValue laterValue escapeText pieceText macroText macros-expansion-of-textOf isSender isHost isShort isLetter isPartCount fitted outcome questionName isLiteral isEscape isReverse closedAt delimitersAt reversalAt digitsAt bracesOf pieceOf macroOf piecesAfter piecesFrom pieces endsInMacro isToplabel lastLabel endsInLabel endsRight isMacroString isP anyP scanOf usesP hexValue hexFrom groupsFrom octetAt dotOctetAt readIp4 slashNumber readLength readLength4 readLength6 frontEnd secondLength readDual firstColon isDoubleColon doubleColon readH16 tailOf lastOf networks-reader6-of-lastPart push rowOf readRow readSide addressOf filled fullOf shortOf readIp6 firstOf readAddress octetPairs networkOf isQualifier isReserved countOf saidOf laterKind kindOf specAt allOf withSpec ptrOf cutOf hostsCut hostsAt withHosts networkTerm networkCut networkBy mechanismBy mechanismOf records-reader-of-modifierOf tokenOf tokenAnswer termFrom readTerm isRedirect isExplanation checkAfter checkFrom hasVersion readRecord includeMatch checkTarget begunCheck includeOf includeStep lengthFor networkStep mechanismStep termStep signResult modifierOf signed noneIsPermerror redirectOf noMatch afterStep tryTerms termsAfter termsFrom termsOf readOutcome versioned selection textReply recordLookup afterLookup checkName check evaluation shown givesShown explained explainReply explainName explanation explanationOf verdict addressKind itemMatches anyMatches width includesClient withValid validated namesOf holdsName firstBelow firstOr chosen givesChosen pReply pValue expansion givesExpansion expanded givesName target targetOr counting voidStep ownReply aStep existsStep insertHost byPreference mxItems mxStep ptrStep replyBy replyOf tableIn bind then answered run having plainStep matchResult atTarget targetStep countedStep onMatch untilMatch askHost
 computed = record {
   scope = record {
     first-question = refl;
@@ -110,5 +110,6 @@ computed = record {
     p = record { current-domain = refl; after-current-domain = refl; first-below = refl; first = refl; unknown = refl; all-are-asked = refl };
     voids = record { one-host = refl; one-host-of-six = refl; same-host-thrice = refl; third-before-match = refl; third-before-missing = refl; third-of-check = refl; after-mx = refl; failed-host = refl; failed-names = refl; two-names = refl; third-name = refl; p-not-counted = refl; p-before-ptr = refl; include-not-counted = refl };
     explanation = record { missing = refl; through-redirect = refl; through-include = refl; lookup-failed = refl; void = refl; doubled = refl; malformed-text = refl; malformed-name = refl; unprintable = refl; of-500-bytes = refl; of-501-bytes = refl };
+    failing = record { without-exp = refl; not-asked = refl; through-redirect = refl; by-include = refl; p-not-asked = refl; malformed-target = refl };
   };
 }

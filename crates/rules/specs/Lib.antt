@@ -3,6 +3,8 @@
 pub mod Results
 -- Tree: a check as a tree of questions, and what a table settles of it.
 pub mod Tree
+-- Trail: the questions that a check asks.
+pub mod Trail
 -- Tables: an answer table as what it has for each question.
 pub mod Tables
 -- Mechanisms: what each mechanism asks and whether it matches.
@@ -11,10 +13,12 @@ pub mod Mechanisms
 pub mod Preferences
 -- Evaluation: record lookup, terms, include, redirect, and the explanation.
 pub mod Evaluation
--- Outcomes: what the code's answers say of what a table settles.
-pub mod Outcomes
 -- Reached: which checks an evaluation comes to, and when a text is outside the grammar.
 pub mod Reached
+-- Exp: where the exp argument of a domain's record stands in a table.
+pub mod Exp
+-- Outcomes: what the code's answers say of what a table settles.
+pub mod Outcomes
 -- Zones: zones and mails for examples.
 pub mod Zones
 -- Rules: the sentences on evaluation, an example for each.

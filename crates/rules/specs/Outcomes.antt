@@ -1,6 +1,7 @@
 -- What the code's answers say of what a table settles: one definition for each kind of answer, and one for the name buffer. For private functions and
--- between crates: places are left open up to the bytes that stand there, and of a scratch buffer only the front is said. `evaluate` leaves nothing open.
-use Prim.Native.Nat.{ℕ, _≤_}
+-- between crates: where the value of p and a domain's name stand is left open up to the bytes that stand there, and of a scratch buffer only the front is
+-- said. `evaluate` and `explain` leave nothing open.
+use Prim.Native.Nat.{ℕ, _+_, _≤_}
 use mathlib.Core.Path.{_≡_}
 use mathlib.Core.List.{List}
 use lib.ListN.{length, take}
@@ -9,7 +10,12 @@ use Rattle.text.specs.Texts.{bytes}
 use Rattle.text.specs.Writing.{overwritten}
 use Rattle.address.specs.declared.Address.{Address}
 use Rattle.domain.specs.Normal.{Naming, name, malformed}
-use Rattle.records.specs.Readings.{Optional, absent}
+use Rattle.answer_table.specs.Layout.{Entry, kind-txt}
+use Rattle.answer_table.specs.Answers.{Encoded}
+use Rattle.answer_table.specs.Standing.{ItemAt}
+use Rattle.records.specs.Readings.{Optional, absent, present}
+use Rattle.records.specs.Opening.{argumentIn}
+use Rattle.records.specs.declared.opening.Modifier.{Modifier}
 use Rattle.rules.specs.declared.Counts.{Counts}
 use Rattle.rules.specs.declared.Ending.{Ending}
 use Rattle.rules.specs.declared.Matched.{Matched}
@@ -21,9 +27,11 @@ use Rattle.rules.specs.declared.Selected.{Selected}
 use Rattle.rules.specs.declared.FailingPlace.{FailingPlace}
 use Rattle.rules.specs.declared.Checked.{Checked}
 use Rattle.rules.specs.declared.Explained.{Explained}
-use Rattle.rules.specs.Tree.{Settled, settled, wanting}
+use Rattle.rules.specs.Tree.{Settled, settled, wanting, run}
+use Rattle.rules.specs.Tables.{tableIn}
 use Rattle.rules.specs.Mechanisms.{Mail, Match, yes, no, stop, Step}
-use Rattle.rules.specs.Evaluation.{Failing, failingAt, Result, Selection, ends, one, modifierOf, termsOf}
+use Rattle.rules.specs.Evaluation.{Failing, failingAt, Result, Selection, ends, one, recordLookup}
+use Rattle.rules.specs.Exp.{ExpAt}
 
 -- what a table settles a check to, and the question that it lacks for it, with the counts so far
 abbrev pub Settles : {A : Type 0} → Settled A → A → Type 0
@@ -91,22 +99,41 @@ pub record SaysP (c : Counts) (d t : List ℕ) (x : Settled (List ℕ)) (r : PVa
 abbrev pub spanOf : List ℕ → Span → List ℕ
 spanOf t s = part t (s .from) (s .to)
 
+-- where the selected text stands, if the table is one: its bytes, and its place by the productions
+pub record TextAt (d t : List ℕ) (domain text : Span) (s : List ℕ) : Type 0 where
+  pub named : spanOf t domain ≡ d
+  pub bytes-are : spanOf t text ≡ s
+  pub stands : (es : List Entry) → Encoded t es → ItemAt t kind-txt d s (text .from)
+
 unfoldable pub SelectionIs : (d t : List ℕ) → Selection → Selected → Type 0
 SelectionIs d t (ends v) r = r ≡ Selected.Ends v
-SelectionIs d t (one s) r = (domain text : Span) × (r ≡ Selected.One domain text) × (spanOf t domain ≡ d) × (spanOf t text ≡ s)
+SelectionIs d t (one s) r = (domain text : Span) × (r ≡ Selected.One domain text) × TextAt d t domain text s
 
 unfoldable pub SelectedIs : Counts → (d t : List ℕ) → Settled Selection → Selected → Type 0
 SelectedIs c d t (settled s) r = SelectionIs d t s r
-SelectedIs c d t (wanting kind n e) r = (r ≡ Selected.Wanting kind (length n)) × (e ≡ c)
+SelectedIs c d t (wanting kind n e) r = (r ≡ Selected.Missing) × (kind ≡ kind-txt) × (n ≡ d) × (e ≡ c)
 
-pub record SaysSelection (c : Counts) (d t : List ℕ) (x : Settled Selection) (r : Selected) (before after : List ℕ) : Type 0 where
-  pub lookup : SelectedIs c d t x r
-  pub buffer : after ≡ wantedBuffer x before
+-- from any counts, which are only reported
+abbrev pub SaysSelection : (d t : List ℕ) → Selected → Type 0
+SaysSelection d t r = (c : Counts) → SelectedIs c d t (run (tableIn t) (recordLookup d c)) r
 
--- where a fail's explanation is
+-- the record that failed
 unfoldable pub failingOf : List ℕ → FailingPlace → Optional Failing
 failingOf t FailingPlace.Nowhere = absent
-failingOf t (FailingPlace.In domain text terms) = failingAt (spanOf t domain) (modifierOf (bytes "exp") (termsOf (spanOf t text) terms))
+failingOf t (FailingPlace.In domain exp) = present (failingAt (spanOf t domain) (argumentIn t exp))
+
+-- where its exp stands, if the table is one
+unfoldable pub ExpStands : (t d : List ℕ) → Modifier → Type 0
+ExpStands t d Modifier.Absent = Unit {0}
+ExpStands t d (Modifier.Part from to) = (to ≤ length t) × (from + length (part t from to) ≡ to) × ((es : List Entry) → Encoded t es → ExpAt t d from (part t from to))
+
+pub record FailingIn (t : List ℕ) (domain : Span) (exp : Modifier) : Type 0 where
+  pub short : length (spanOf t domain) ≤ 253
+  pub stands : ExpStands t (spanOf t domain) exp
+
+unfoldable pub FailingAt : List ℕ → FailingPlace → Type 0
+FailingAt t FailingPlace.Nowhere = Unit {0}
+FailingAt t (FailingPlace.In domain exp) = FailingIn t domain exp
 
 -- a check
 abbrev pub ResultIs : List ℕ → Result → Checked → Type 0
@@ -118,6 +145,7 @@ CheckedIs t (wanting kind n c) o = (o .ending ≡ Ending.Wanting kind (length n)
 
 pub record SaysCheck (t : List ℕ) (x : Settled Result) (o : Checked) (before after : List ℕ) : Type 0 where
   pub checked : CheckedIs t x o
+  pub placed : FailingAt t (o .failing)
   pub buffer : after ≡ wantedBuffer x before
 
 -- an explanation, written at the front of the text buffer; a question of it has the counts that were handed in

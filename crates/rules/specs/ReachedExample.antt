@@ -25,7 +25,7 @@ use Rattle.records.specs.Answers.{most-bytes}
 use Rattle.records.specs.declared.RecordAnswer.{RecordAnswer}
 use Rattle.records.proofs.Laws.Versions.{version-of}
 use Rattle.records.proofs.Laws.Records.{record-sound, record-complete, reads-one}
-use Rattle.rules.specs.Evaluation.{includeMatch, checkTarget, begunCheck, includeOf, includeStep, having, mechanismStep, termStep, modifierOf, noneIsPermerror, redirectOf, noMatch, afterStep, tryTerms, termsAfter, termsFrom, termsOf, readOutcome, versioned, selection, textReply, recordLookup, afterLookup, checkName, check, evaluation, explanation, verdict, noCounts}
+use Rattle.rules.specs.Evaluation.{includeMatch, checkTarget, begunCheck, includeOf, includeStep, having, mechanismStep, termStep, modifierOf, noneIsPermerror, redirectOf, noMatch, afterStep, tryTerms, termsAfter, termsFrom, termsOf, readOutcome, versioned, selection, textReply, recordLookup, afterLookup, checkName, check, evaluation, explanationOf, verdict, noCounts}
 use Rattle.rules.specs.Mechanisms.{expansion, givesExpansion, expanded, givesName, target, counting}
 use Rattle.rules.specs.Tree.{bind, then, answered, run, items}
 use Rattle.rules.specs.Reached.{none, first, Selects, only, past-term, by-include, by-redirect, Reaches, here, below, Outside, unproduced}
@@ -56,7 +56,7 @@ pub record ReachedCase : Type 0 where
   pub answered : answer rows ≡ decided 6 2 0
 
 pub reached-case : ReachedCase
-unfolding zone answer within isSpace isNotSpace isNotSlash isUpper isNotUpper isAlpha isDigit isLengthByte isAlphanumeric isHexDigit isVisible isPrintable isLabelByte isNameByte isToplabelByte isMacroLiteral isDelimiter lower same sameWord contains all rightmost grow split isIn text-runs-of-run runEnd trailingStart labels isLabel isName isTableName labelCount atOrBelow withoutDot lowered normal shorterLabels shortened separatorBefore joinBy pieceText macros-expansion-of-textOf questionName isLiteral pieceOf piecesAfter piecesFrom pieces endsInMacro isToplabel lastLabel endsInLabel endsRight isMacroString isP anyP usesP isQualifier isReserved saidOf laterKind kindOf specAt allOf withSpec mechanismBy mechanismOf records-reader-of-modifierOf tokenOf tokenAnswer termFrom readTerm isRedirect isExplanation checkAfter checkFrom hasVersion readRecord includeMatch checkTarget begunCheck includeOf includeStep having mechanismStep termStep modifierOf noneIsPermerror redirectOf noMatch afterStep tryTerms termsAfter termsFrom termsOf readOutcome versioned selection textReply recordLookup afterLookup checkName check evaluation explanation verdict expansion givesExpansion expanded givesName target counting bind then answered run
+unfolding zone answer within isSpace isNotSpace isNotSlash isUpper isNotUpper isAlpha isDigit isLengthByte isAlphanumeric isHexDigit isVisible isPrintable isLabelByte isNameByte isToplabelByte isMacroLiteral isDelimiter lower same sameWord contains all rightmost grow split isIn text-runs-of-run runEnd trailingStart labels isLabel isName isTableName labelCount atOrBelow withoutDot lowered normal shorterLabels shortened separatorBefore joinBy pieceText macros-expansion-of-textOf questionName isLiteral pieceOf piecesAfter piecesFrom pieces endsInMacro isToplabel lastLabel endsInLabel endsRight isMacroString isP anyP usesP isQualifier isReserved saidOf laterKind kindOf specAt allOf withSpec mechanismBy mechanismOf records-reader-of-modifierOf tokenOf tokenAnswer termFrom readTerm isRedirect isExplanation checkAfter checkFrom hasVersion readRecord includeMatch checkTarget begunCheck includeOf includeStep having mechanismStep termStep modifierOf noneIsPermerror redirectOf noMatch afterStep tryTerms termsAfter termsFrom termsOf readOutcome versioned selection textReply recordLookup afterLookup checkName check evaluation explanationOf verdict expansion givesExpansion expanded givesName target counting bind then answered run
 reached-case = record {
   reached =
       below (selected (bytes "example.com") _ refl refl refl) (omega arith) (made _ _ (omega arith) refl (step refl (step refl (stop refl))))

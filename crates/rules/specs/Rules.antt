@@ -6,7 +6,8 @@ use lib.ListN.{replicate}
 use Rattle.text.specs.Texts.{bytes}
 use Rattle.rules.specs.Tree.{run}
 use Rattle.rules.specs.Evaluation.{verdict}
-use Rattle.rules.specs.Zones.{Row, zone, txt, row, broken, spf, included, mail, here, elsewhere, here6, elsewhere6, answer, answer6, decided, fails, wants}
+use Rattle.records.specs.Readings.{absent, present}
+use Rattle.rules.specs.Zones.{Row, zone, txt, row, broken, spf, included, mail, here, elsewhere, here6, elsewhere6, answer, answer6, decided, fails, wants, result, failedIn}
 
 -- record lookup
 pub record LookupRules : Type 0 where
@@ -172,6 +173,20 @@ pub record VoidRules : Type 0 where
   -- nor does the TXT question of an include
   pub include-not-counted : answer (spf "v=spf1 ?include:b.example -all" ∷ row 16 "b.example" [] ∷ []) ≡ decided 6 1 0
 
+-- W-203 amends the house rules: "for fail, the failing record's domain .. and .. its exp argument"; "The first never asks for an explanation's TXT"
+pub record FailingRules : Type 0 where
+  pub without-exp : result (spf "v=spf1 -all" ∷ []) ≡ failedIn 0 "example.com" absent
+  pub not-asked : result (spf "v=spf1 -all exp=e.example" ∷ []) ≡ failedIn 0 "example.com" (present (bytes "e.example"))
+  -- through redirects the last record's, lowered
+  pub through-redirect : result (spf "v=spf1 redirect=B.example exp=f.example" ∷ included "v=spf1 -all exp=e.example" ∷ [])
+      ≡ failedIn 1 "b.example" (present (bytes "e.example"))
+  -- for an include that matched, that of the record which has the include
+  pub by-include : result (spf "v=spf1 -include:b.example exp=f.example" ∷ included "v=spf1 +all exp=e.example" ∷ [])
+      ≡ failedIn 1 "example.com" (present (bytes "f.example"))
+  -- nor p's questions for its target, and the argument is handed out as it stands
+  pub p-not-asked : result (spf "v=spf1 -all exp=%{p}.x" ∷ []) ≡ failedIn 0 "example.com" (present (bytes "%{p}.x"))
+  pub malformed-target : result (spf "v=spf1 -all exp=a..b" ∷ []) ≡ failedIn 0 "example.com" (present (bytes "a..b"))
+
 pub record Rules : Type 0 where
   pub lookup : LookupRules
   pub signs : SignRules
@@ -182,3 +197,4 @@ pub record Rules : Type 0 where
   pub p : PRules
   pub voids : VoidRules
   pub explanation : ExplanationRules
+  pub failing : FailingRules

@@ -3,7 +3,7 @@ use Prim.Native.Nat.{ℕ}
 use mathlib.Core.List.{List}
 use mathlib.Core.Bool.{cond}
 use lib.Dec.{eqb}
-use Rattle.answer_table.specs.Layout.{status-failed}
+use Rattle.answer_table.specs.Layout.{Entry, status-failed}
 use Rattle.answer_table.specs.Lookup.{Lookup, lookup}
 use Rattle.answer_table.specs.Reader.{entriesOf}
 use Rattle.records.specs.Readings.{Optional, absent, present}
@@ -16,6 +16,10 @@ replyBy status ds = cond (eqb status status-failed) failed (items ds)
 unfoldable pub replyOf : Lookup → Optional Reply
 replyOf Lookup.absent = absent
 replyOf (Lookup.present e) = present (replyBy (e .status) (e .items))
+
+-- what a list of entries has for each question
+unfoldable pub tableOf : List Entry → Table
+tableOf es kind name = replyOf (lookup kind name es)
 
 -- the table that bytes encode
 unfoldable pub tableIn : List ℕ → Table

@@ -7,10 +7,10 @@ use lib.Dec.{eqb}
 use Rattle.text.specs.Lists.{same}
 use Rattle.text.specs.Texts.{bytes}
 use Rattle.address.specs.declared.Address.the-variants.{IPv4, IPv6}
-use Rattle.records.specs.Readings.{absent, present}
+use Rattle.records.specs.Readings.{Optional, absent, present}
 use Rattle.rules.specs.Tree.{Reply, failed, items, Table, Settled, settled, wanting, run}
 use Rattle.rules.specs.Mechanisms.{Mail}
-use Rattle.rules.specs.Evaluation.{Verdict, verdict}
+use Rattle.rules.specs.Evaluation.{Result, evaluation, Verdict, verdict}
 
 -- a zone: the kind, the name and the answer of each entry
 pub record Row : Type 0 where
@@ -72,6 +72,15 @@ answer rs = run (zone rs) (verdict mail (bytes "example.com"))
 
 unfoldable pub answer6 : List Row → Settled Verdict
 answer6 rs = run (zone rs) (verdict mail6 (bytes "example.com"))
+
+-- what its first call settles
+unfoldable pub result : List Row → Settled Result
+result rs = run (zone rs) (evaluation mail (bytes "example.com"))
+
+-- a fail after so many lookups of the record of a domain with an exp, or without one
+abbrev pub failedIn : ℕ → String → Optional (List ℕ) → Settled Result
+failedIn l d exp =
+    settled (record { value = 3; counts = record { lookups = l; voids = 0 }; failing = present (record { domain = bytes d; exp = exp }) })
 
 -- a number and both counts, without a text
 abbrev pub decided : ℕ → ℕ → ℕ → Settled Verdict

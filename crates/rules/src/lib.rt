@@ -1,4 +1,5 @@
 // The types that an evaluation is said in. This crate has no functions: its specs are the rules of evaluation as definitions, and theorems on them.
+use records::opening::Modifier;
 
 // The lookups begun and the void answers met so far.
 pub struct Counts {
@@ -46,25 +47,21 @@ pub struct Span {
     pub to: usize,
 }
 
-// What record lookup comes to: a result; the record that is selected, where its domain's name and its text stand in the table; or a question without
-// an entry.
+// What record lookup comes to: a result; the record that is selected, where its domain's name and its text stand in the table; or no entry for the
+// domain's TXT question.
 pub enum Selected {
     Ends(u8),
     One { domain: Span, text: Span },
-    Wanting { kind: u16, length: usize },
+    Missing,
 }
 
-// Where a fail's explanation is: nowhere; or in the record whose domain's name and text stand in the table, with its terms from a place on.
+// Which record failed: none; or the one whose domain's name stands in the table, and where in the table the argument of its exp stands.
 pub enum FailingPlace {
     Nowhere,
-    In {
-        domain: Span,
-        text: Span,
-        terms: usize,
-    },
+    In { domain: Span, exp: Modifier },
 }
 
-// What a check comes to, with the counts after it, and for a fail where its explanation is.
+// What a check comes to, with the counts after it, and for a fail which record failed.
 pub struct Checked {
     pub ending: Ending,
     pub counts: Counts,

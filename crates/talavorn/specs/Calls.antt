@@ -25,31 +25,45 @@ use Rattle.records.specs.Numbers.{recordReport, saidOf, termReport}
 use Rattle.records.specs.Answers.{RecordAnswers, TermAnswers}
 use Rattle.records.specs.Beginnings.{pointedTerm, pointedRecord}
 use Rattle.records.specs.declared.TermAnswer.{TermAnswer}
-use Rattle.evaluation.specs.Numbers.{Outcome, refused, answerOf, nameAfter, textAfter}
-use Rattle.evaluation.specs.Answers.{lent, Answers}
+use Rattle.evaluation.specs.First as first
+use Rattle.evaluation.specs.Second as second
 use Rattle.talavorn.specs.declared.numbers.FormAnswer.{FormAnswer}
-use Rattle.talavorn.specs.Numbers.{no-address, no-form, encoded, recordNumbers, tableNumbers, appendedNumbers, expandedNumbers, matchNumber, addressOctets, shapeOf, termNumbers, termOctets}
+use Rattle.talavorn.specs.Numbers.{no-address, no-form, encoded, encodedExplanation, recordNumbers, tableNumbers, appendedNumbers, expandedNumbers, matchNumber, addressOctets, shapeOf, termNumbers, termOctets}
 
--- an evaluation: octets that are no client's are refused before all else
-abbrev pub evaluateFor : FromOctets → (Address → Outcome) → Outcome
-evaluateFor NoAddress f = refused no-address
-evaluateFor (Is a) f = f a
+-- an evaluation, by the table's list of entries: octets that are no client's are refused before all else. What is lent determines what is handed back
+-- (`first-one`, evaluation/proofs/Laws/Deciding.antt)
+pub data EvaluateOutcome (client : FromOctets) (domain sender helo receiver : List ℕ) (seconds : ℕ) (table name : List ℕ) : first.Outcome → Type 0 where
+  no-client : client ≡ NoAddress → EvaluateOutcome client domain sender helo receiver seconds table name (first.refused no-address)
+  for-client : {a : Address} {o : first.Outcome} → client ≡ Is a → first.Answers (first.lent a domain sender helo receiver seconds table name) o
+      → EvaluateOutcome client domain sender helo receiver seconds table name o
 
-pub record EvaluateSays (o : Outcome) (numbers name name′ text text′ : List ℕ) : Type 0 where
-  pub answer : numbers ≡ encoded (answerOf o)
-  pub name-buffer : name′ ≡ nameAfter o name
-  pub text-buffer : text′ ≡ textAfter o text
+pub record EvaluateSays (o : first.Outcome) (numbers name name′ : List ℕ) : Type 0 where
+  pub answer : numbers ≡ encoded (first.answerOf o)
+  pub name-buffer : name′ ≡ first.nameAfter o name
 
--- the same by the table's list of entries
-pub data EvaluateOutcome (client : FromOctets) (domain sender helo receiver : List ℕ) (seconds : ℕ) (table name text : List ℕ) : Outcome → Type 0 where
-  no-client : client ≡ NoAddress → EvaluateOutcome client domain sender helo receiver seconds table name text (refused no-address)
-  for-client : {a : Address} {o : Outcome} → client ≡ Is a → Answers (lent a domain sender helo receiver seconds table name text) o
-      → EvaluateOutcome client domain sender helo receiver seconds table name text o
+pub record EvaluateAnswers (client : FromOctets) (domain sender helo receiver : List ℕ) (seconds : ℕ) (table numbers name name′ : List ℕ) : Type 0 where
+  pub outcome : first.Outcome
+  pub answers : EvaluateOutcome client domain sender helo receiver seconds table name outcome
+  pub says : EvaluateSays outcome numbers name name′
 
-pub record EvaluateAnswers (client : FromOctets) (domain sender helo receiver : List ℕ) (seconds : ℕ) (table numbers name name′ text text′ : List ℕ) : Type 0 where
-  pub outcome : Outcome
-  pub answers : EvaluateOutcome client domain sender helo receiver seconds table name text outcome
-  pub says : EvaluateSays outcome numbers name name′ text text′
+-- an explanation, likewise (`second-one`, evaluation/proofs/Laws/Explaining.antt)
+pub data ExplainOutcome (client : FromOctets) (domain sender helo receiver : List ℕ) (seconds : ℕ) (table : List ℕ) (place size : ℕ) (name text : List ℕ)
+    : second.Outcome → Type 0 where
+  no-client : client ≡ NoAddress → ExplainOutcome client domain sender helo receiver seconds table place size name text (second.refused no-address)
+  for-client : {a : Address} {o : second.Outcome} → client ≡ Is a
+      → second.Answers (second.lent a domain sender helo receiver seconds table place size name text) o
+      → ExplainOutcome client domain sender helo receiver seconds table place size name text o
+
+pub record ExplainSays (o : second.Outcome) (numbers name name′ text text′ : List ℕ) : Type 0 where
+  pub answer : numbers ≡ encodedExplanation (second.answerOf o)
+  pub name-buffer : name′ ≡ second.nameAfter o name
+  pub text-buffer : text′ ≡ second.textAfter o text
+
+pub record ExplainAnswers (client : FromOctets) (domain sender helo receiver : List ℕ) (seconds : ℕ) (table : List ℕ) (place size : ℕ)
+    (numbers name name′ text text′ : List ℕ) : Type 0 where
+  pub outcome : second.Outcome
+  pub answers : ExplainOutcome client domain sender helo receiver seconds table place size name text outcome
+  pub says : ExplainSays outcome numbers name name′ text text′
 
 -- reading a record
 pub record RecordSays (s numbers : List ℕ) : Type 0 where

@@ -13,12 +13,11 @@ use Rattle.answer_table.specs.Numbers.{nowhere, byte, Report as TableReport, ac
 use Rattle.answer_entry.specs.Appending.{Outcome as AppendOutcome, appended, refused as append-refused}
 use Rattle.macros.specs.declared.Form.{Form}
 use Rattle.macros.specs.declared.Expanded.{Expanded}
-use Rattle.records.specs.Readings.{Optional, absent, present}
 use Rattle.records.specs.Numbers.{RecordReport, accepted, refused}
 use Rattle.records.specs.declared.Term.{Term}
 use Rattle.records.specs.declared.TermAnswer.{TermAnswer}
 use Rattle.evaluation.specs.declared.Answer.{Answer}
-use Rattle.evaluation.specs.Numbers.{Report, reported}
+use Rattle.evaluation.specs.declared.explaining.Explanation.{Explanation}
 use Rattle.talavorn.specs.declared.numbers.Shape.{Shape}
 use Rattle.talavorn.specs.declared.numbers.FormAnswer.{FormAnswer}
 
@@ -29,23 +28,21 @@ no-address = 90
 abbrev pub no-form : ℕ
 no-form = 91
 
--- what is absent is handed back as 0
-abbrev pub orZero : Optional ℕ → ℕ
-orZero absent = 0
-orZero (present n) = n
-
--- an evaluation: the result's or refusal's number; kind or place, both counts, and the length of what was written, a result's text or a wanted question's name
-abbrev pub written : Answer → ℕ
-written (Answer.Decided value c n) = n
-written (Answer.Wanting kind n c) = n
-written (Answer.Refused number) = 0
-written (Answer.RefusedAt number place) = 0
-
-abbrev pub row : Report → ℕ → List ℕ
-row r n = r .number ∷ orZero (r .kind-or-place) ∷ r .lookups ∷ r .voids ∷ n ∷ []
-
+-- an evaluation: the result's or refusal's number; kind or place; both counts; the length of the name that was written, a wanted question's or the failing
+-- record's domain; the place and length of its exp argument. 0 for what an answer has not
 unfoldable pub encoded : Answer → List ℕ
-encoded a = row (reported a) (written a)
+encoded (Answer.Decided value c) = value ∷ 0 ∷ c .lookups ∷ c .voids ∷ 0 ∷ 0 ∷ 0 ∷ []
+encoded (Answer.Fail c n place size) = 3 ∷ 0 ∷ c .lookups ∷ c .voids ∷ n ∷ place ∷ size ∷ []
+encoded (Answer.Wanting kind n c) = 7 ∷ kind ∷ c .lookups ∷ c .voids ∷ n ∷ 0 ∷ 0 ∷ []
+encoded (Answer.Refused number) = number ∷ 0 ∷ 0 ∷ 0 ∷ 0 ∷ 0 ∷ 0 ∷ []
+encoded (Answer.RefusedAt number place) = number ∷ place ∷ 0 ∷ 0 ∷ 0 ∷ 0 ∷ 0 ∷ []
+
+-- an explanation: 3, 7 or the refusal's number; kind or place; the length of the text or name that was written. 0 for what an answer has not
+unfoldable pub encodedExplanation : Explanation → List ℕ
+encodedExplanation (Explanation.Text n) = 3 ∷ 0 ∷ n ∷ []
+encodedExplanation (Explanation.Wanting kind n) = 7 ∷ kind ∷ n ∷ []
+encodedExplanation (Explanation.Refused number) = number ∷ 0 ∷ 0 ∷ []
+encodedExplanation (Explanation.RefusedAt number place) = number ∷ place ∷ 0 ∷ []
 
 -- reading a record: 0; the place just after the version. Or the refusal's number; its place
 unfoldable pub recordNumbers : RecordReport → List ℕ

@@ -5,11 +5,11 @@ ghost use lib.ListN.{length};
 ghost use Rattle.address.specs.Octets.{fromOctets};
 ghost use Rattle.macros.specs.Expansion.{given};
 ghost use Rattle.macros.specs.Numbers.{outcome};
-ghost use Rattle.evaluation.specs.Evaluating.{evaluated};
 ghost use Rattle.talavorn.specs.Numbers.{formOf};
-ghost use Rattle.talavorn.specs.Calls.{evaluateFor, expandFor, EvaluateSays, EvaluateAnswers, RecordSays, TermSays, ExpandSays, ExpandAnswers, MatchSays, TableSays, AppendSays, AddressSays};
+ghost use Rattle.talavorn.specs.Calls.{expandFor, EvaluateAnswers, ExplainAnswers, RecordSays, TermSays, ExpandSays, ExpandAnswers, MatchSays, TableSays, AppendSays, AddressSays};
 use address::FromOctets;
 use answer_table::TableAnswer;
+use evaluation::explaining;
 use networks::Network;
 use numbers::FormAnswer;
 use records::RecordAnswer;
@@ -28,17 +28,42 @@ pub extern "C" fn talavorn_evaluate(
     seconds: u64,
     table: &[u8],
     name: &mut [u8],
-    text: &mut [u8],
-    values: &mut [usize; 4],
+    values: &mut [usize; 6],
 ) -> u8
-    ensures { λ r. ⌜ EvaluateSays (evaluateFor (fromOctets (now (client .entry))) (λ a. evaluated a (now (domain .entry)) (now (sender .entry)) (now (helo .entry)) (now (receiver .entry)) seconds (now (table .entry)) (now (name .entry)) (now (text .entry)))) (r ∷ now (values .exit)) (now (name .entry)) (now (name .exit)) (now (text .entry)) (now (text .exit)) ⌝ }
-    ensures { λ r. ⌜ EvaluateAnswers (fromOctets (now (client .entry))) (now (domain .entry)) (now (sender .entry)) (now (helo .entry)) (now (receiver .entry)) seconds (now (table .entry)) (r ∷ now (values .exit)) (now (name .entry)) (now (name .exit)) (now (text .entry)) (now (text .exit)) ⌝ }
+    ensures { λ r. ⌜ EvaluateAnswers (fromOctets (now (client .entry))) (now (domain .entry)) (now (sender .entry)) (now (helo .entry)) (now (receiver .entry)) seconds (now (table .entry)) (r ∷ now (values .exit)) (now (name .entry)) (now (name .exit)) ⌝ }
 {
     let FromOctets::Is(a) = address::from_octets(client) else {
-        *values = [0, 0, 0, 0];
+        *values = [0, 0, 0, 0, 0, 0];
         return 90;
     };
-    let answer = evaluation::evaluate(
+    let answer = evaluation::evaluate(a, domain, sender, helo, receiver, seconds, table, name);
+    numbers::put_answer(answer, values)
+}
+
+// Makes the text of a fail from the failing record's domain and the place and length of its exp argument, as talavorn_evaluate gave them: 90 for a client
+// that is not 4 or 16 octets, then as evaluation::explaining::explain.
+#[no_mangle]
+pub extern "C" fn talavorn_explain(
+    client: &[u8],
+    domain: &[u8],
+    sender: &[u8],
+    helo: &[u8],
+    receiver: &[u8],
+    seconds: u64,
+    table: &[u8],
+    place: usize,
+    size: usize,
+    name: &mut [u8],
+    text: &mut [u8],
+    values: &mut [usize; 2],
+) -> u8
+    ensures { λ r. ⌜ ExplainAnswers (fromOctets (now (client .entry))) (now (domain .entry)) (now (sender .entry)) (now (helo .entry)) (now (receiver .entry)) seconds (now (table .entry)) place size (r ∷ now (values .exit)) (now (name .entry)) (now (name .exit)) (now (text .entry)) (now (text .exit)) ⌝ }
+{
+    let FromOctets::Is(a) = address::from_octets(client) else {
+        *values = [0, 0];
+        return 90;
+    };
+    let answer = explaining::explain(
         a,
         domain,
         sender,
@@ -46,10 +71,12 @@ pub extern "C" fn talavorn_evaluate(
         receiver,
         seconds,
         table,
+        place,
+        size,
         name,
         text,
     );
-    numbers::put_answer(answer, values)
+    numbers::put_explanation(answer, values)
 }
 
 // Reads a record: 0 and the place just after the version, or 30 to 33 and the place that is to blame.

@@ -6,10 +6,11 @@ ghost use lib.ListN.{length};
 ghost use Rattle.text.specs.Writing.{overwritten};
 ghost use Rattle.address.specs.Octets.{octets};
 ghost use Rattle.answer_entry.specs.Numbers.{outcomeOf};
-ghost use Rattle.talavorn.specs.Numbers.{encoded, appendedNumbers, expandedNumbers, formOf, Inside, shape, networkShape, shapeOf, termRow, networkOf};
+ghost use Rattle.talavorn.specs.Numbers.{encoded, encodedExplanation, appendedNumbers, expandedNumbers, formOf, Inside, shape, networkShape, shapeOf, termRow, networkOf};
 use address::Address;
 use answer_entry::AppendAnswer;
 use evaluation::Answer;
+use evaluation::explaining::Explanation;
 use macros::Expanded;
 use macros::Form;
 use records::Term;
@@ -31,18 +32,30 @@ pub struct Shape {
     pub six: u8,
 }
 
-// Writes what an evaluation answers: kind or place, both counts, and the length of the text or name; answers the number.
-pub fn put_answer(answer: Answer, values: &mut [usize; 4]) -> u8
+// Writes what an evaluation answers: kind or place, both counts, the length of the name, and the place and length of exp; answers the number.
+pub fn put_answer(answer: Answer, values: &mut [usize; 6]) -> u8
     ensures { λ r. ⌜ (r ∷ now (values .exit)) ≡ encoded answer ⌝ }
 {
     match answer {
-        Answer::Decided {
-            value,
-            counts,
-            text,
-        } => {
-            *values = [0, counts.lookups as usize, counts.voids as usize, text];
+        Answer::Decided { value, counts } => {
+            *values = [0, counts.lookups as usize, counts.voids as usize, 0, 0, 0];
             value
+        }
+        Answer::Fail {
+            counts,
+            domain,
+            place,
+            length: size,
+        } => {
+            *values = [
+                0,
+                counts.lookups as usize,
+                counts.voids as usize,
+                domain,
+                place,
+                size,
+            ];
+            3
         }
         Answer::Wanting {
             kind,
@@ -54,15 +67,41 @@ pub fn put_answer(answer: Answer, values: &mut [usize; 4]) -> u8
                 counts.lookups as usize,
                 counts.voids as usize,
                 size,
+                0,
+                0,
             ];
             7
         }
         Answer::Refused(number) => {
-            *values = [0, 0, 0, 0];
+            *values = [0, 0, 0, 0, 0, 0];
             number
         }
         Answer::RefusedAt { number, at } => {
-            *values = [at, 0, 0, 0];
+            *values = [at, 0, 0, 0, 0, 0];
+            number
+        }
+    }
+}
+
+// Writes what an explanation answers: kind or place, and the length of the text or name; answers the number.
+pub fn put_explanation(answer: Explanation, values: &mut [usize; 2]) -> u8
+    ensures { λ r. ⌜ (r ∷ now (values .exit)) ≡ encodedExplanation answer ⌝ }
+{
+    match answer {
+        Explanation::Text(size) => {
+            *values = [0, size];
+            3
+        }
+        Explanation::Wanting { kind, length: size } => {
+            *values = [kind as usize, size];
+            7
+        }
+        Explanation::Refused(number) => {
+            *values = [0, 0];
+            number
+        }
+        Explanation::RefusedAt { number, at } => {
+            *values = [at, 0];
             number
         }
     }

@@ -4,7 +4,7 @@ use Prim.Native.Nat.{ℕ}
 use native.Mathlib.Omega.{arith}
 use mathlib.Core.Path.{_≡_, refl, sym, subst, _∙_}
 use mathlib.Core.Logic.{_↔_}
-use mathlib.Core.List.{List, [], _∷_}
+use mathlib.Core.List.{List, [], _∷_, _++_}
 use mathlib.Core.Bool.{true, false, not}
 use lib.Dec.{eqb}
 use borrow.Author.Tests.{eq-eqb, not-true}
@@ -25,7 +25,7 @@ found-stands kind name (f ∷ es) e q =
     (λ h p. let g = found-stands kind name es e p in (later (g .0), g .1)) q
 
 -- what stands there is found
-pair-self : (e : Entry) → isPair (e .kind) (e .name) e ≡ true
+pub pair-self : (e : Entry) → isPair (e .kind) (e .name) e ≡ true
 unfolding isPair
 pair-self e = and-both (eqb (e .kind) (e .kind)) (same (e .name) (e .name)) (eq-eqb (e .kind) (e .kind) refl) (same-refl (e .name))
 
@@ -34,7 +34,7 @@ unfolding holds
 stands-held {e} (first {es = es}) = or-left (isPair (e .kind) (e .name) e) (holds (e .kind) (e .name) es) (pair-self e)
 stands-held {e} (later {f = f} {es = es} a) = or-right (isPair (e .kind) (e .name) f) (holds (e .kind) (e .name) es) (stands-held a)
 
-stands-found : {e : Entry} {es : List Entry} → distinct es ≡ true → Among e es → lookup (e .kind) (e .name) es ≡ present e
+pub stands-found : {e : Entry} {es : List Entry} → distinct es ≡ true → Among e es → lookup (e .kind) (e .name) es ≡ present e
 unfolding lookup distinct
 stands-found {e} d first = rw (pair-self e)
 stands-found {e} d (later {f = f} {es = es} a) =
@@ -44,6 +44,11 @@ stands-found {e} d (later {f = f} {es = es} a) =
     (λ h. let p = pair-is (e .kind) (e .name) f h in
     true-false held (rw (p .0, p .1) (stands-held a)) (not-true held (and-left (not held) (distinct es) d))) in
     rw n (stands-found (and-right (not held) (distinct es) d) a)
+
+-- between others
+pub among-at : (ds : List Entry) (e : Entry) (fs : List Entry) → Among e (ds ++ (e ∷ fs))
+among-at [] e fs = first
+among-at (d ∷ ds) e fs = later (among-at ds e fs)
 
 -- an entry that is found in one list is found in another in which it stands too
 pub found-over : (kind : ℕ) (name : List ℕ) (e : Entry) (es fs : List Entry) → distinct fs ≡ true → (e .kind ≡ kind → Among e es → Among e fs)

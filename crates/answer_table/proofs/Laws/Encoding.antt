@@ -230,13 +230,13 @@ laid-bytes two two status name i rest e =
     }
 
 -- bytes that lay out an entry, well-formed or not, read with anything after them
-record LaidOut (w rest : List ℕ) (kind status : ℕ) (name i : List ℕ) : Type 0 where
-  header : headerOf (w ++ rest) ≡ Whole kind status (length name) (length w)
-  name-read : nameOf (w ++ rest) (length name) ≡ name
-  bytes-read : itemBytes (w ++ rest) (length name) (length w) ≡ i
-  total : length w ≡ 6 + (length name + length i)
+pub record LaidOut (w rest : List ℕ) (kind status : ℕ) (name i : List ℕ) : Type 0 where
+  pub header : headerOf (w ++ rest) ≡ Whole kind status (length name) (length w)
+  pub name-read : nameOf (w ++ rest) (length name) ≡ name
+  pub bytes-read : itemBytes (w ++ rest) (length name) (length w) ≡ i
+  pub total : length w ≡ 6 + (length name + length i)
 
-laid-out : {l k : List ℕ} {kind : ℕ} (status : ℕ) (name i : List ℕ) → Two l (length (body k status name i)) → Two k kind → (rest : List ℕ)
+pub laid-out : {l k : List ℕ} {kind : ℕ} (status : ℕ) (name i : List ℕ) → Two l (length (body k status name i)) → Two k kind → (rest : List ℕ)
     → LaidOut (l ++ body k status name i) rest kind status name i
 unfolding body
 laid-out {l} {k} {kind} status name i tl tk rest =

@@ -1,5 +1,5 @@
--- The list of entries that a table encodes is the one that the reader finds, so there is only one; and kind and name pairs in a list of entries
--- and one more. From the laws of one entry (Encoding).
+-- The list of entries that a table encodes is the one that the reader finds, so there is only one, and entries at its front are the first of them;
+-- and kind and name pairs in a list of entries and one more. From the laws of one entry (Encoding).
 use Prim.Native.Nat.{ℕ, zero, suc, _≤_}
 use mathlib.Core.Path.{_≡_, refl, sym, ap, subst, _∙_}
 use mathlib.Core.List.{List, [], _∷_, _++_, append-nil, append-assoc}
@@ -54,6 +54,26 @@ entries-one p q = sym (entries-complete p) ∙ entries-complete q
 pub entries-snoc : {t w : List ℕ} {es : List Entry} {e : Entry} → Entries t es → Encodes w e → Entries (t ++ w) (es ++ (e ∷ []))
 entries-snoc {w = w} {e = e} none q = subst (λ (x : List ℕ). Entries x (e ∷ [])) (append-nil w) (more q none)
 entries-snoc (more p r) q = rw append-assoc (more p (entries-snoc r q))
+
+-- the entry at the front of bytes is one only, and so is what follows it
+entry-first : {w w′ : List ℕ} {e e′ : Entry} → Encodes w e → Encodes w′ e′ → (r r′ : List ℕ) → w ++ r ≡ w′ ++ r′ → (e ≡ e′) × (r ≡ r′)
+entry-first {w} {w′} x x′ r r′ q =
+    let a = well-complete x r in
+    let b = well-complete x′ r′ in
+    let d = drop-append-seam w r in
+    let d′ = drop-append-seam w′ r′ in
+    (cc (a .header, a .holds, b .header, b .holds), cc (a .header, b .header))
+
+-- entries at the front of a table are the first of its entries
+pub entries-cut : {front t : List ℕ} {ds es : List Entry} → Entries front ds → Entries t es → (rest : List ℕ) → t ≡ front ++ rest
+    → (fs : List Entry) × (es ≡ ds ++ fs)
+entries-cut {es = es} none q rest e = (es, refl)
+entries-cut (more {w = w} {rest = r} x p) none rest e =
+    absurd (omega (arith, well-complete x [] .some, ap length e, length-append (w ++ r) rest, length-append w r))
+entries-cut (more {w = w} {rest = r} x p) (more {rest = r′} x′ p′) rest e =
+    let a = entry-first x′ x r′ (r ++ rest) (e ∙ append-assoc w r rest) in
+    let b = entries-cut p p′ rest (a .1) in
+    (b .0, cc (a .0, b .1))
 
 -- a pair among the entries of two lists
 pub holds-append : (kind : ℕ) (name : List ℕ) (es fs : List Entry) → holds kind name (es ++ fs) ≡ (holds kind name es || holds kind name fs)

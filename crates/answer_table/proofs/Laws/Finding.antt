@@ -19,7 +19,7 @@ use Rattle.answer_table.proofs.Laws.Encoding.{header-facts}
 use Rattle.answer_table.proofs.Laws.Entries.{entries-complete}
 
 -- a part of what stands from a place on, as a part of the whole
-part-in : (t : List ℕ) (i m size : ℕ) → take (i + size - (i + m)) (drop (i + m) t) ≡ take (size - m) (drop m (drop i t))
+pub part-in : (t : List ℕ) (i m size : ℕ) → take (i + size - (i + m)) (drop (i + m) t) ≡ take (size - m) (drop m (drop i t))
 part-in t i m size = let e : i + size - (i + m) ≡ size - m = omega arith in rw (e, drop-drop)
 
 -- the search from a place and the list of entries from there go in step

@@ -2,7 +2,7 @@
 -- other by places. From the reader and the productions of specs/.
 use Prim.Native.Nat.{ℕ, zero, suc, _+_, _-_, _≤_, _<_}
 use mathlib.Core.Path.{_≡_, refl, sym, ap, subst, _∙_}
-use mathlib.Core.List.{List, [], _∷_, _++_}
+use mathlib.Core.List.{List, [], _∷_, _++_, append-nil, append-assoc}
 use mathlib.Core.Bool.{Bool, true, false, cond}
 use mathlib.Core.Logic.{_⊎_, inl, inr, ⊎-elim}
 use native.Mathlib.Omega.{arith}
@@ -168,13 +168,13 @@ items-sound kind s e = sound-from (length s) kind s (omega arith) e
 
 -- an encoded item, read
 module _ (n d rest : List ℕ) (t : Two n (length d)) where
-  read-number : number (n ++ (d ++ rest)) ≡ length d
+  pub read-number : number (n ++ (d ++ rest)) ≡ length d
   read-number = two-front t (d ++ rest) .value
 
-  read-length : length (n ++ (d ++ rest)) ≡ 2 + length d + length rest
+  pub read-length : length (n ++ (d ++ rest)) ≡ 2 + length d + length rest
   read-length = simp length-append (omega (arith, two-front t [] .size))
 
-  read-first : firstItem (n ++ (d ++ rest)) ≡ d
+  pub read-first : firstItem (n ++ (d ++ rest)) ≡ d
   unfolding firstItem
   read-first =
       ap (λ (m : ℕ). take m (drop 2 (n ++ (d ++ rest)))) read-number ∙ ap (take (length d)) (two-front t (d ++ rest) .after)
@@ -186,6 +186,9 @@ module _ (n d rest : List ℕ) (t : Two n (length d)) where
       ap (λ (m : ℕ). drop (2 + m) (n ++ (d ++ rest))) read-number ∙ sym (drop-drop (length d) 2 (n ++ (d ++ rest)))
       ∙ ap (drop (length d)) (two-front t (d ++ rest) .after) ∙ drop-at d rest (length d) refl
 
+  pub read-items : itemsOf (n ++ (d ++ rest)) ≡ d ∷ itemsOf rest
+  read-items = of-more (n ++ (d ++ rest)) (omega (arith, read-length)) ∙ simp (read-first, read-others)
+
 pub items-complete : {kind : ℕ} {s : List ℕ} {ds : List (List ℕ)} → Items kind s ds → (itemsFit kind s ≡ true) × (itemsOf s ≡ ds)
 items-complete {kind} none = (fit-empty kind, of-none)
 items-complete {kind} (more {n = n} {d = d} {rest = rest} {ds = ds} t i r) =
@@ -195,8 +198,20 @@ items-complete {kind} (more {n = n} {d = d} {rest = rest} {ds = ds} t i r) =
     let w : ltb (length s) (2 + number s) ≡ false = le-ltb (length s) (2 + number s) (omega (arith, read-number n d rest t)) in
     let q = items-complete r in (
       fit-of kind s p ∙ simp (w, read-first n d rest t, i, read-others n d rest t) (q .0),
-      of-more s p ∙ simp (read-first n d rest t, read-others n d rest t, q .1),
+      read-items n d rest t ∙ ap (λ (gs : List (List ℕ)). d ∷ gs) (q .1),
     )
+
+-- items at the front are the first of the items
+pub items-append : {kind : ℕ} {u : List ℕ} {ds : List (List ℕ)} → Items kind u ds → (v : List ℕ) → itemsOf (u ++ v) ≡ ds ++ itemsOf v
+items-append none v = refl
+items-append (more {n = n} {d = d} {rest = rest} t x r) v =
+    simp append-assoc (read-items n d (rest ++ v) t ∙ ap (λ (gs : List (List ℕ)). d ∷ gs) (items-append r v))
+
+-- one more item at the end
+pub items-snoc : {kind : ℕ} {u n : List ℕ} {ds : List (List ℕ)} → Items kind u ds → (d : List ℕ) → Two n (length d) → isItem kind d ≡ true
+    → Items kind (u ++ (n ++ d)) (ds ++ (d ∷ []))
+items-snoc {kind} {n = n} none d t h = subst (λ (x : List ℕ). Items kind (n ++ x) (d ∷ [])) (append-nil d) (more t h none)
+items-snoc (more {n = m} {d = e} x y p) d t h = rw (append-assoc, append-assoc) (more {n = m} {d = e} x y (items-snoc p d t h))
 
 -- each of them is an item of the kind
 pub items-each : {kind : ℕ} {s : List ℕ} {ds : List (List ℕ)} → Items kind s ds → all (isItem kind) ds ≡ true

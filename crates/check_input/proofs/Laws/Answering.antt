@@ -1,22 +1,21 @@
 -- The lines that are written are those of what the input comes to, and they fit 600 bytes: a wanted name has at most 253 bytes and a text at most
 -- 500. From the definitions of Lines and the facts of `evaluation`.
-use Prim.Native.Nat.{ℕ, _+_, _-_, _≤_}
-use mathlib.Core.Path.{_≡_, refl, _∙_}
+use Prim.Native.Nat.{ℕ, _+_, _≤_}
+use mathlib.Core.Path.{_≡_, refl}
 use mathlib.Core.List.{List}
 use mathlib.Core.Bool.{true, _&&_}
 use native.Mathlib.Omega.{arith}
-use lib.ListN.{length, drop, replicate, length-append, length-replicate}
-use lib.Seq.{take-at}
+use lib.ListN.{length, replicate, length-append}
 use lib.Dec.{eqb}
-use Rattle.text.specs.Bytes.{part, within, isNotUpper}
+use Rattle.text.specs.Bytes.{within, isNotUpper}
 use Rattle.text.specs.Decimal.{readDecimal}
 use Rattle.text.specs.declared.decimal.Number.{Number}
 use Rattle.text.specs.declared.decimal.Number.the-variants.{Value, Refused}
 use Rattle.text.specs.Lists.{all}
-use Rattle.text.specs.Writing.{Wrote, overwritten}
+use Rattle.text.specs.Writing.{Wrote}
 use Rattle.text.proofs.Laws.Classes.{within-range}
 use Rattle.text.proofs.Laws.Tests.{and-left, cond-elim}
-use Rattle.text.proofs.Laws.Writing.{over-fits, wrote-over, wrote-length}
+use Rattle.text.proofs.Laws.Writing.{wrote-over, wrote-length}
 use Rattle.address_text.proofs.Laws.Lengths.{length-decimal}
 use Rattle.address.specs.declared.Address.{Address}
 use Rattle.domain.specs.Names.{labels, isLabel, isName, isTableName}
@@ -26,13 +25,12 @@ use Rattle.networks.specs.declared.Network.the-variants.{Is, NoNetwork}
 use Rattle.records.specs.Readings.{Optional, absent, present}
 use Rattle.rules.specs.Tree.{settled, wanting}
 use Rattle.rules.proofs.Laws.Alike.{Holds}
-use Rattle.evaluation.specs.Numbers.{Report, Outcome, refused, refused-at, settles, answerOf, reportOf, nameAfter, textAfter}
+use Rattle.evaluation.specs.Numbers.{Report, Outcome, refused, refused-at, settles, reportOf, bytesOf}
 use Rattle.evaluation.specs.Evaluating.{evaluated}
 use Rattle.evaluation.proofs.Laws.Facts.{facts, wanted-name}
 use Rattle.text.specs.Fields.{afterFields, field}
-use Rattle.check_input.specs.Input.{InputOutcome, unreadable, evaluates, onClientAndTime, checkedLines, checkedInput, SaysInput}
-use Rattle.check_input.specs.Lines.{line, orDot, countsText, reportText, reportLine, secondLine, linesOf, answered, Stands, secondOf, answerLines}
-use Rattle.check_input.specs.declared.InputAnswer.{InputAnswer}
+use Rattle.check_input.specs.Input.{InputOutcome, unreadable, evaluates, onClientAndTime, checkedLines, checkedInput}
+use Rattle.check_input.specs.Lines.{line, orDot, countsText, reportText, reportLine, secondLine, givenLines, linesOf, answered, Stands}
 
 -- name and text fit their buffers
 unfoldable Fits : Outcome → Type 0
@@ -75,24 +73,6 @@ input-fits input name text =
     (λ a t. evaluated a (field 10 1 input) (field 10 2 input) (field 10 3 input) (field 10 4 input) t (afterFields 10 6 input) name text)
     (λ a t. evaluated-fits a (field 10 1 input) (field 10 2 input) (field 10 3 input) (field 10 4 input) t (afterFields 10 6 input) name text)
 
--- the lines of the answer and the buffers are those of the outcome
-over-taken : (xs before : List ℕ) → length xs ≤ length before → part (overwritten xs before) 0 (length xs) ≡ xs
-over-taken xs before h = rw (over-fits xs before h) (take-at xs (drop (length xs) before) (length xs - 0) (omega arith))
-
-module _ (name text : List ℕ) (h : 253 ≤ length name) (k : 500 ≤ length text) where
-  second-said : (o : Outcome) → Fits o → secondOf (answerOf o) (nameAfter o name) (textAfter o text) ≡ secondLine o
-  unfolding Fits secondOf answerOf nameAfter textAfter secondLine
-  second-said (refused number) f = refl
-  second-said (refused-at number place) f = refl
-  second-said (settles (settled v)) f = rw (over-taken (v .text) text (omega arith))
-  second-said (settles (wanting kind n c)) f = rw (over-taken n name (omega arith))
-
-  input-said : (o : InputOutcome) → InputFits o → (r : InputAnswer) (name′ text′ : List ℕ) → SaysInput o r name name′ text text′
-      → answerLines r name′ text′ ≡ linesOf o
-  unfolding InputFits SaysInput answerLines linesOf
-  input-said unreadable f r name′ text′ (e, _, _) = rw e
-  input-said (evaluates o) f r name′ text′ (answer, e, s) = rw (e, s .report, s .answer, s .name-buffer, s .text-buffer, second-said o f)
-
 -- how long the lines are
 line-length : (s : List ℕ) → length (line s) ≤ length s + 1
 unfolding line
@@ -108,15 +88,16 @@ unfolding reportLine reportText countsText
 report-length r =
     simp length-append (omega (arith, length-decimal (r .number), place-length (r .kind-or-place), length-decimal (r .lookups), length-decimal (r .voids)))
 
-second-length : (o : Outcome) → Fits o → length (secondLine o) ≤ 501
-unfolding Fits secondLine
+second-length : (o : Outcome) → Fits o → length (secondLine (bytesOf o)) ≤ 501
+unfolding Fits secondLine bytesOf
 second-length (refused number) f = omega arith
 second-length (refused-at number place) f = omega arith
-second-length (settles (settled v)) f = cond-elim (λ (s : List ℕ). length s ≤ 501) (eqb (v .value) 3) (λ _. omega (arith, line-length (v .text))) (λ _. omega arith)
+second-length (settles (settled v)) f =
+    cond-elim (λ (s : Optional (List ℕ)). length (secondLine s) ≤ 501) (eqb (v .value) 3) (λ _. omega (arith, line-length (v .text))) (λ _. omega arith)
 second-length (settles (wanting kind n c)) f = omega (arith, line-length n)
 
 lines-length : (o : InputOutcome) → InputFits o → length (linesOf o) ≤ 600
-unfolding InputFits linesOf line
+unfolding InputFits linesOf givenLines line
 lines-length unreadable f = omega arith
 lines-length (evaluates o) f = rw length-append (omega (arith, report-length (reportOf o), second-length o f))
 
@@ -125,19 +106,14 @@ pub answer-length : (input : List ℕ) → length (linesOf (answered input)) ≤
 unfolding answered
 answer-length input = lines-length (checkedInput input (replicate 253 0) (replicate 500 0)) (input-fits input (replicate 253 0) (replicate 500 0))
 
--- `answer_input`
-module _ (input name text : List ℕ) (e : name ≡ replicate 253 0) (f : text ≡ replicate 500 0) (r : InputAnswer) (name′ text′ : List ℕ)
-    (s : SaysInput (checkedInput input name text) r name name′ text text′) where
-  same-lines : answerLines r name′ text′ ≡ linesOf (answered input)
-  unfolding answered
-  same-lines =
-      input-said name text (rw (e, length-replicate {A = ℕ} 253 0) (omega arith)) (rw (f, length-replicate {A = ℕ} 500 0) (omega arith))
-      (checkedInput input name text) (input-fits input name text) r name′ text′ s
-      ∙ rw (e, f)
-
-  pub input-answered : (out out′ : List ℕ) (n : ℕ) → 600 ≤ length out → Wrote (answerLines r name′ text′) out 0 out′ n
-      → Stands (linesOf (answered input)) out out′ n
-  input-answered out out′ n h w =
-      let v : Wrote (linesOf (answered input)) out 0 out′ n = rw same-lines at w in
-      let l = answer-length input in
-      record { size = wrote-length (linesOf (answered input)) out out′ n v (omega arith); buffer = wrote-over (linesOf (answered input)) out out′ n v }
+-- `answer_input`: the lines and the table of an input
+pub input-answered : (input client domain sender helo receiver seconds table : List ℕ)
+    → client ≡ field 10 0 input → domain ≡ field 10 1 input → sender ≡ field 10 2 input → helo ≡ field 10 3 input → receiver ≡ field 10 4 input
+    → seconds ≡ field 10 5 input → table ≡ afterFields 10 6 input → (out out′ : List ℕ) (n : ℕ) → 600 ≤ length out
+    → Wrote (linesOf (checkedLines client domain sender helo receiver seconds table (replicate 253 0) (replicate 500 0))) out 0 out′ n
+    → Stands (linesOf (answered input)) out out′ n
+unfolding answered checkedInput
+input-answered input client domain sender helo receiver seconds table c d s h v t a out out′ n l w =
+    let k = answer-length input in
+    let y : Wrote (linesOf (answered input)) out 0 out′ n = rw (← c, ← d, ← s, ← h, ← v, ← t, ← a) w in
+    record { size = wrote-length (linesOf (answered input)) out out′ n y (omega arith); buffer = wrote-over (linesOf (answered input)) out out′ n y }

@@ -15,8 +15,8 @@ use Rattle.records.specs.Readings.{Optional, absent, present}
 use Rattle.rules.specs.declared.Counts.{Counts}
 use Rattle.rules.specs.Tree.{Reply, failed, items, Check, ask, run}
 use Rattle.rules.specs.Tables.{replyBy, replyOf, tableIn}
-use Rattle.rules.specs.Outcomes.{Wants}
-use Rattle.rules.proofs.Laws.Runs.{ask-present}
+use Rattle.rules.specs.Outcomes.{Lacks, Wants}
+use Rattle.rules.proofs.Laws.Runs.{ask-absent, ask-present}
 use Rattle.rules.proofs.Laws.Inversions.{wants-ask}
 
 -- by what was found
@@ -42,6 +42,9 @@ module _ (t : List ℕ) (kind : ℕ) (d : List ℕ) (f : Found) (p : f ≡ findA
   asks-entry : (status start end : ℕ) → f ≡ Found.Entry status start end → tableIn t kind d ≡ present (replyBy status (itemsOf (part t start end)))
   unfolding replyFound
   asks-entry status start end e = asks-found t kind d f p ∙ rw e
+
+  pub run-lacks : {A : Type 0} (c : Counts) (g : Reply → Check A) → f ≡ Found.Missing → Lacks (run (tableIn t) (ask kind d c g)) kind d c
+  run-lacks c g e = ask-absent (tableIn t) kind d c g (asks-missing e)
 
   pub run-missing : {A : Type 0} (c : Counts) (g : Reply → Check A) → f ≡ Found.Missing
       → (b a : List ℕ) → a ≡ overwritten d b → Wants (run (tableIn t) (ask kind d c g)) kind (length d) c b a

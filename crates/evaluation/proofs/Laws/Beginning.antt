@@ -9,14 +9,17 @@ use lib.Dec.{eqb}
 use lib.ListN.{length, take, length-take}
 use borrow.Author.Tests.{lt-ltb, le-ltb, le-leb, lt-leb, eq-eqb, ne-eqb}
 use Rattle.text.specs.Bytes.{part}
+use Rattle.text.specs.Writing.{overwritten}
 use Rattle.text.proofs.Laws.Spans.{front-part}
 use Rattle.domain.specs.Names.{labelCount}
 use Rattle.domain.specs.Normal.{Naming, name, malformed}
 use Rattle.address.specs.declared.Address.{Address}
-use Rattle.records.specs.Readings.{Optional, absent, present}
+use Rattle.records.specs.Readings.{absent}
 use Rattle.records.specs.Reader.{readRecord}
 use Rattle.records.specs.Numbers.{saidOf}
 use Rattle.records.specs.declared.Term.{Term}
+use Rattle.records.specs.declared.opening.Modifier.{Modifier}
+use Rattle.records.specs.Opening.{argumentIn}
 use Rattle.rules.specs.declared.Counts.{Counts}
 use Rattle.rules.specs.declared.Ending.{Ending}
 use Rattle.rules.specs.declared.Matched.{Matched}
@@ -28,25 +31,24 @@ use Rattle.rules.specs.declared.Checked.{Checked}
 use Rattle.rules.specs.Tree.{Table, Check, Settled, bind, run}
 use Rattle.rules.specs.Tables.{tableIn}
 use Rattle.rules.specs.Mechanisms.{Mail, yes, no, stop, Step, target, begun, counting}
-use Rattle.rules.specs.Evaluation.{Result, Selection, ends, one, ended, checkTarget, begunCheck, includeMatch, includeOf, includeStep, termStep, noneIsPermerror, redirectOf, noMatch, readOutcome, recordLookup, afterLookup, checkName, check, whole}
-use Rattle.rules.specs.Outcomes.{Gives, Wants, matchedOf, SaysStep, SaysTarget, spanOf, SaysSelection, failingOf, ResultIs, SaysCheck}
+use Rattle.rules.specs.Evaluation.{Result, Selection, ends, one, ended, checkTarget, begunCheck, includeMatch, includeOf, includeStep, termStep, noneIsPermerror, redirectOf, noMatch, readOutcome, recordLookup, afterLookup, checkName, check, whole, noCounts}
+use Rattle.rules.specs.Outcomes.{Settles, Wants, matchedOf, SaysStep, SaysTarget, spanOf, SaysSelection, failingOf, FailingAt, ResultIs, SaysCheck}
 use Rattle.rules.proofs.Laws.Runs.{bind-is}
 use Rattle.rules.proofs.Laws.Enough.{whole-unfolds}
-use Rattle.rules.proofs.Laws.Inversions.{gives-bind, wants-bind, step-gives, step-wanted, target-name, target-malformed, target-wants, lookup-ends, lookup-one, lookup-wants, checked-result, checked-wants, checked-gives, checked-give, checked-wanted}
-use Rattle.record_lookup.specs.declared.modifiers.Modifier.{Modifier}
+use Rattle.rules.proofs.Laws.Inversions.{gives-bind, wants-bind, step-gives, step-wanted, target-name, target-malformed, target-wants, lookup-ends, lookup-one, lookup-missing, checked-result, checked-wants, checked-gives, checked-give, checked-wanted}
 use Rattle.mechanisms.specs.declared.Tried.{Tried}
-use Rattle.record_lookup.specs.Modifiers.{ModifierIs}
 use Rattle.mechanisms.specs.Terms.{TriedIs}
-use Rattle.evaluation.specs.Checks.{endedOf, wantingOf, signOf, signedOf, redirectedBy, redirectedOf, includedNow, includedBy, includedOf}
+use Rattle.evaluation.specs.Checks.{endedOf, wantingOf, signOf, signedOf, SelectedAt, redirectedBy, redirectedOf, includedNow, includedBy, includedOf}
 
--- a result without an explanation, and a question without an entry
+-- a result that no record's sign gives, and a question without an entry
 pub says-ended : (t : List ℕ) (u : Table) (v : ℕ) (c : Counts) (o : Checked) (b : List ℕ) → o ≡ endedOf v c → SaysCheck t (run u (ended v c)) o b b
-unfolding failingOf
-says-ended t u v c o b e = rw e (checked-give t u _ (endedOf v c) b (refl, refl, refl))
+unfolding failingOf FailingAt
+says-ended t u v c o b e = rw e (checked-give t u _ (endedOf v c) b (refl, refl, refl) tt)
 
 says-wanted : (t : List ℕ) (x : Settled Result) (kind n : ℕ) (c : Counts) (o : Checked) (b a : List ℕ)
     → o ≡ wantingOf kind n c → Wants x kind n c b a → SaysCheck t x o b a
-says-wanted t x kind n c o b a e w = rw e (checked-wanted t x kind n (wantingOf kind n c) b a w refl)
+unfolding FailingAt
+says-wanted t x kind n c o b a e w = rw e (checked-wanted t x kind n (wantingOf kind n c) b a w refl tt)
 
 -- begin_check
 module _ (t : List ℕ) (mail : Mail) (d spec : List ℕ) (c : Counts) (o : Checked) (b : List ℕ) where
@@ -103,36 +105,41 @@ module _ (t : List ℕ) (mail : Mail) (d : List ℕ) (c : Counts) (small : c .lo
   unfolding check checkName
   domain-single h e = rw (← l, le-leb _ _ h) (says-ended t (tableIn t) 0 c o b e)
 
-  module _ (h : 1 < k) (r : Selected) (a : List ℕ) (s : SaysSelection c d t (run (tableIn t) (recordLookup d c)) r b a) where
+  module _ (h : 1 < k) (r : Selected) (s : SaysSelection d t r) where
     looked-up : run (tableIn t) (whole mail (name d) c) ≡ run (tableIn t) (bind (recordLookup d c) (afterLookup mail (whole mail) d c))
     unfolding checkName
     looked-up = whole-unfolds (tableIn t) mail (name d) c small ∙ rw (← l, lt-leb _ _ h)
 
-    selected : (x : Selection) → Gives (run (tableIn t) (recordLookup d c)) x b a
+    selected : (x : Selection) → Settles (run (tableIn t) (recordLookup d c)) x
         → run (tableIn t) (whole mail (name d) c) ≡ run (tableIn t) (afterLookup mail (whole mail) d c x)
-    selected x g = looked-up ∙ bind-is (tableIn t) (recordLookup d c) (afterLookup mail (whole mail) d c) x (g .is)
+    selected x g = looked-up ∙ bind-is (tableIn t) (recordLookup d c) (afterLookup mail (whole mail) d c) x g
 
-    pub domain-ends : (v : ℕ) → r ≡ Selected.Ends v → o ≡ endedOf v c → SaysCheck t (run (tableIn t) (whole mail (name d) c)) o b a
+    pub domain-ends : (v : ℕ) → r ≡ Selected.Ends v → o ≡ endedOf v c → SaysCheck t (run (tableIn t) (whole mail (name d) c)) o b b
     unfolding afterLookup
-    domain-ends v q e = let g = lookup-ends c d t _ r b a s v q in rw (selected (ends v) g, ← g .kept) (says-ended t (tableIn t) v c o a e)
+    domain-ends v q e = rw (selected (ends v) (lookup-ends c d t _ r (s c) v q)) (says-ended t (tableIn t) v c o b e)
 
-    pub domain-wants : (kind m : ℕ) → r ≡ Selected.Wanting kind m → o ≡ wantingOf kind m c → SaysCheck t (run (tableIn t) (whole mail (name d) c)) o b a
-    domain-wants kind m q e =
-        let w = lookup-wants c d t _ r b a s kind m q in
-        rw looked-up (says-wanted t _ kind m c o b a e (wants-bind (tableIn t) (recordLookup d c) (afterLookup mail (whole mail) d c) kind m c b a w))
+    pub domain-missing : r ≡ Selected.Missing → (m : ℕ) → m ≡ length d → o ≡ wantingOf 16 m c → (a : List ℕ) → a ≡ overwritten d b
+        → SaysCheck t (run (tableIn t) (whole mail (name d) c)) o b a
+    domain-missing q m i e a w =
+        let g : Wants (run (tableIn t) (recordLookup d c)) 16 m c b a = record { asked = d; is = lookup-missing c d t _ r (s c) q; size-is = i; buffer = w } in
+        rw looked-up (says-wanted t _ 16 m c o b a e (wants-bind (tableIn t) (recordLookup d c) (afterLookup mail (whole mail) d c) 16 m c b a g))
 
-    pub domain-one : (place text : Span) → r ≡ Selected.One place text → (z : List ℕ)
-        → SaysCheck t (run (tableIn t) (readOutcome mail (whole mail) (spanOf t place) (spanOf t text) (readRecord (spanOf t text)) c)) o a z
-        → SaysCheck t (run (tableIn t) (whole mail (name d) c)) o b z
-    unfolding afterLookup
-    domain-one place text q z f =
-        let g = lookup-one c d t _ r b a s place text q in
-        rw (selected (one (spanOf t text)) (g .0), ← g .0 .kept, ← g .1) f
+    module _ (place text : Span) (q : r ≡ Selected.One place text) where
+      pub domain-one : (z : List ℕ)
+          → SaysCheck t (run (tableIn t) (readOutcome mail (whole mail) (spanOf t place) (spanOf t text) (readRecord (spanOf t text)) c)) o b z
+          → SaysCheck t (run (tableIn t) (whole mail (name d) c)) o b z
+      unfolding afterLookup
+      domain-one z f =
+          let g = lookup-one c d t _ r (s c) place text q in
+          rw (selected (one (spanOf t text)) (g .0), ← g .1 .named) f
 
--- the domain's place in the table is as long as the domain
-pub place-small : (c : Counts) (d t : List ℕ) (x : Settled Selection) (r : Selected) (b a : List ℕ) → SaysSelection c d t x r b a → length d ≤ 253
-    → (place text : Span) → r ≡ Selected.One place text → length (spanOf t place) ≤ 253
-place-small c d t x r b a s h place text q = rw (lookup-one c d t x r b a s place text q .1) h
+-- the record that was selected, where it stands
+pub domain-selected : (t d : List ℕ) → length d ≤ 253 → (k : ℕ) → k ≡ labelCount d → 1 < k → (r : Selected) → SaysSelection d t r
+    → (place text : Span) → r ≡ Selected.One place text → SelectedAt t place text
+domain-selected t d small k l h r s place text q =
+    let g = lookup-one noCounts d t _ r (s noCounts) place text q in
+    let e : spanOf t place ≡ d = g .1 .named in
+    record { labels = rw (e, ← l) h; short = rw e small; selected = rw e (g .0); stands = rw e (g .1 .stands) }
 
 -- the parts of include and redirect
 module _ (o : Checked) (v : ℕ) (e : o .ending ≡ Ending.Result v) where
@@ -183,9 +190,9 @@ module _ (x : Term) (sign from to : ℕ) where
   unfolding signOf
   sign-network address n e = rw e
 
-pub signed-by : (x : Term) (k : ℕ) → k ≡ signOf x → (domain text : Span) (first : ℕ) (c : Counts) (o : Checked) → o ≡ signedOf k domain text first c
-    → o ≡ signedOf (signOf x) domain text first c
-signed-by x k e domain text first c o h = rw (← e) h
+pub signed-by : (x : Term) (k : ℕ) → k ≡ signOf x → (domain : Span) (exp : Modifier) (c : Counts) (o : Checked) → o ≡ signedOf k domain exp c
+    → o ≡ signedOf (signOf x) domain exp c
+signed-by x k e domain exp c o h = rw (← e) h
 
 -- include and redirect, by the ending of the check below them
 module _ (t : List ℕ) (u : Table) (m : Check Result) (o : Checked) (b a : List ℕ) (s : SaysCheck t (run u m) o b a) where
@@ -205,12 +212,17 @@ module _ (t : List ℕ) (u : Table) (m : Check Result) (o : Checked) (b a : List
   redirected-is v e true = (refl, refl, refl)
   redirected-is v e false = (e, refl, refl)
 
+  redirected-at : (x : Bool) → FailingAt t (cond x (endedOf 6 (o .counts)) o .failing)
+  unfolding FailingAt
+  redirected-at true = tt
+  redirected-at false = s .placed
+
   redirects : (x : Ending) → o .ending ≡ x → SaysCheck t (run u (bind m redirectOf)) (redirectedBy x o) b a
   unfolding redirectOf noneIsPermerror redirectedBy
   redirects (Ending.Result v) e =
-      checked-gives t _ _ _ b a (gives-bind u m redirectOf _ _ b a (checked-result t _ o b a s v e) refl) (redirected-is v e (eqb v 0))
+      checked-gives t _ _ _ b a (gives-bind u m redirectOf _ _ b a (checked-result t _ o b a s v e) refl) (redirected-is v e (eqb v 0)) (redirected-at (eqb v 0))
   redirects (Ending.Wanting kind n) e =
-      checked-wanted t _ kind n o b a (wants-bind u m redirectOf kind n (o .counts) b a (checked-wants t _ o b a s kind n e)) e
+      checked-wanted t _ kind n o b a (wants-bind u m redirectOf kind n (o .counts) b a (checked-wants t _ o b a s kind n e)) e (s .placed)
 
 pub include-done : (t : List ℕ) (mail : Mail) (d spec : List ℕ) (c : Counts) (o : Checked) (b a : List ℕ)
     → SaysCheck t (run (tableIn t) (begunCheck mail (whole mail) d spec c)) o b a → (r : Stepped) → r ≡ includedOf o
@@ -235,19 +247,12 @@ module _ (t : List ℕ) (mail : Mail) (d e : List ℕ) (f : e ≡ d) (w : List �
 
 -- no_match
 module _ (t : List ℕ) (mail : Mail) (d s : List ℕ) (c : Counts) (r : Modifier) (b : List ℕ) (o : Checked) where
-  pub nothing-left : (m : Optional (List ℕ)) → ModifierIs s m r → r ≡ Modifier.Absent → o ≡ endedOf 1 c → SaysCheck t (run (tableIn t) (noMatch mail (whole mail) d m c)) o b b
-  unfolding ModifierIs noMatch
-  nothing-left absent p q e = says-ended t (tableIn t) 1 c o b e
-  nothing-left (present x) p q e = let i = p .2 in let z : _≡_ {A = ℕ} 0 1 = cc in absurd (omega arith)
+  pub nothing-left : r ≡ Modifier.Absent → o ≡ endedOf 1 c → SaysCheck t (run (tableIn t) (noMatch mail (whole mail) d (argumentIn s r) c)) o b b
+  unfolding argumentIn noMatch
+  nothing-left q e = rw q (says-ended t (tableIn t) 1 c o b e)
 
-  pub redirected : (m : Optional (List ℕ)) → ModifierIs s m r → (from to : ℕ) → r ≡ Modifier.Part from to → (y : List ℕ) → y ≡ part s from to → (i : Checked) (z : List ℕ)
+  pub redirected : (from to : ℕ) → r ≡ Modifier.Part from to → (y : List ℕ) → y ≡ part s from to → (i : Checked) (z : List ℕ)
       → SaysCheck t (run (tableIn t) (begunCheck mail (whole mail) d y c)) i b z → o ≡ redirectedOf i
-      → SaysCheck t (run (tableIn t) (noMatch mail (whole mail) d m c)) o b z
-  unfolding ModifierIs noMatch
-  redirected absent p from to q y j i z g e = let z : _≡_ {A = ℕ} 0 1 = cc in absurd (omega arith)
-  redirected (present x) p from to q y j i z g e =
-      let f : r ≡ Modifier.Part (p .0) (p .1) = p .2 in
-      let l : from ≡ p .0 = cc in
-      let h : to ≡ p .1 = cc in
-      let v : y ≡ x = j ∙ rw (l, h) (p .3) in
-      rw (← v, e) (redirects t (tableIn t) (begunCheck mail (whole mail) d y c) i b z g (i .ending) refl)
+      → SaysCheck t (run (tableIn t) (noMatch mail (whole mail) d (argumentIn s r) c)) o b z
+  unfolding argumentIn noMatch
+  redirected from to q y j i z g e = rw (q, ← j, e) (redirects t (tableIn t) (begunCheck mail (whole mail) d y c) i b z g (i .ending) refl)

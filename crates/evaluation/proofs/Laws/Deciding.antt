@@ -1,66 +1,59 @@
--- The check of a domain as it was given, the explanation after it, and the refusals before it: one rule for each way out of their functions; and what
--- the definition says, by the table's list of entries. From the definitions of the evaluation and the inversions of the answers below.
-use Prim.Native.Nat.{ℕ, _≤_}
-use mathlib.Core.Path.{_≡_, refl, sym, ap, _∙_}
+-- The first call: the check of a domain as it was given, its answer, and the refusals before it: one rule for each way out of their functions; and that
+-- what is lent determines what is handed back. From the definitions of First, the inversions of the answers below, and the laws of the exp argument.
+use Prim.Native.Nat.{ℕ, _-_, _≤_}
+use mathlib.Core.Path.{_≡_, refl, sym, ap, subst, _∙_}
 use mathlib.Core.List.{List, map}
-use mathlib.Core.Bool.{Bool, true, false, cond, _&&_}
 use native.Mathlib.Omega.{arith}
 use lib.Dec.{leb}
 use lib.ListN.{length, take, length-take}
-use borrow.Author.Tests.{leb-true}
-use Rattle.text.specs.Bytes.{part, lower, within, isPrintable}
-use Rattle.text.specs.Lists.{all}
+use Rattle.text.specs.Bytes.{part, lower}
 use Rattle.text.specs.Writing.{overwritten}
 use Rattle.text.proofs.Laws.Spans.{front-part}
-use Rattle.text.proofs.Laws.Tests.{cond-elim, and-left, and-right}
+use Rattle.text.proofs.Laws.Tests.{cond-elim}
 use Rattle.address.specs.declared.Address.{Address}
 use Rattle.address.specs.Octets.{asClient}
 use Rattle.domain.specs.Names.{isName}
 use Rattle.domain.specs.Normal.{Naming, name, malformed, withoutDot, lowered, normal, nameAnswer, nameBuffer}
 use Rattle.domain.specs.declared.Name.{Name}
+use Rattle.answer_table.specs.Layout.{Entry, Entries}
 use Rattle.answer_table.specs.declared.TableAnswer.{TableAnswer}
 use Rattle.answer_table.specs.declared.TableAnswer.the-variants.{Accepted, TooLong, Malformed, Repeated}
-use Rattle.answer_table.specs.Numbers.{Place, nowhere, byte, accepted, refused as table-refused, reported as table-reported}
-use Rattle.answer_table.specs.Answers.{TableAnswers, whole as whole-table}
-use Rattle.answer_table.specs.Reader.{entriesOf, checkTable}
-use Rattle.answer_table.proofs.Laws.Checks.{table-answers, table-answers-is}
-use Rattle.answer_table.proofs.Laws.Entries.{entries-complete}
-use Rattle.macros.specs.Expansion.{isSender, isHost, isShort}
+use Rattle.answer_table.specs.Numbers.{accepted}
+use Rattle.answer_table.specs.Answers.{TableAnswers, Encoded, whole as whole-table}
+use Rattle.answer_table.specs.Reader.{checkTable}
+use Rattle.answer_table.proofs.Laws.Entries.{entries-complete, entries-one}
+use Rattle.records.specs.Readings.{present}
+use Rattle.records.specs.Opening.{argumentIn}
+use Rattle.records.specs.declared.opening.Modifier.{Modifier}
 use Rattle.rules.specs.declared.Counts.{Counts}
 use Rattle.rules.specs.declared.Ending.{Ending}
-use Rattle.rules.specs.declared.Explained.{Explained}
 use Rattle.rules.specs.declared.Checked.{Checked}
-use Rattle.rules.specs.Tree.{give, Settled, settled, wanting, bind, run}
-use Rattle.rules.specs.Tables.{tableIn}
+use Rattle.rules.specs.declared.FailingPlace.{FailingPlace}
+use Rattle.rules.specs.declared.Span.{Span}
+use Rattle.rules.specs.Tree.{Settled, settled, run}
+use Rattle.rules.specs.Tables.{tableIn, tableOf}
 use Rattle.rules.specs.Mechanisms.{Mail}
-use Rattle.rules.specs.Evaluation.{Result, checkName, check, whole, noCounts, evaluation, explanation, Verdict, verdict}
-use Rattle.rules.specs.Outcomes.{Gives, Wants, mailOf, failingOf, SaysCheck, SaysText}
-use Rattle.rules.proofs.Laws.Runs.{bind-is}
-use Rattle.rules.proofs.Laws.Inversions.{gives-bind, wants-bind, naming-name, checked-result, checked-wants, checked-give, text-written, text-wants}
+use Rattle.rules.specs.Evaluation.{Failing, Result, checkName, check, whole, noCounts, evaluation}
+use Rattle.rules.specs.Exp.{ExpOf, without, with-exp}
+use Rattle.rules.specs.Outcomes.{mailOf, spanOf, failingOf, ExpStands, FailingAt, SaysCheck}
+use Rattle.rules.proofs.Laws.Exp.{exp-of-one}
+use Rattle.rules.proofs.Laws.Inversions.{naming-name, checked-result, checked-wants, checked-give}
 use Rattle.target_name.proofs.Laws.Naming.{Short, name-short, naming-written}
 use Rattle.evaluation.specs.declared.Answer.{Answer}
 use Rattle.evaluation.specs.Checks.{endedOf}
-use Rattle.evaluation.specs.Numbers.{Outcome, refused, refused-at, settles, reported, answerOf, reportOf, nameAfter, textAfter, Says}
-use Rattle.evaluation.specs.Evaluating.{mailFor, hasRoom, refusalOf, afterTable, evaluated}
-use Rattle.evaluation.specs.Answers.{tableOf, Lent, lent, Handed, handed, Fit, refusedBy, Answers, no-sender, no-host, long-domain, no-room, bad-table, decides, Evaluates}
+use Rattle.evaluation.specs.Evaluating.{hasNameRoom, refusalOf}
+use Rattle.evaluation.specs.First.{Lent, lent, Handed, handed, Fit, Outcome, refused, refused-at, failed, wants, refusedBy, answerOf, nameAfter, Says, Comes, decides, fails, lacks, Answers, refuses, bad-table, evaluates, Evaluates, placeOf, sizeOf, finished, Decides}
+use Rattle.evaluation.proofs.Laws.Refusing.{refused-by, fits-by, sender-short, refuses-fits, refuses-one, table-accepted, table-refused-one, table-said}
 
--- an answer's report follows from its case
-report-is : (o : Outcome) → reported (answerOf o) ≡ reportOf o
-unfolding answerOf reportOf
-report-is (refused number) = refl
-report-is (refused-at number place) = refl
-report-is (settles (settled v)) = refl
-report-is (settles (wanting kind n c)) = refl
-
-pub said : (o : Outcome) (r : Answer) (b a u v : List ℕ) → r ≡ answerOf o → a ≡ nameAfter o b → v ≡ textAfter o u → Says o r b a u v
-said o r b a u v e n t = record { answer = e; report = ap reported e ∙ report-is o; name-buffer = n; text-buffer = t }
-
--- an outcome has one answer, and leaves both buffers in one way
-pub said-one : {o : Outcome} {b u : List ℕ} (h g : Handed) → Says o (h .answer) b (h .name) u (h .text) → Says o (g .answer) b (g .name) u (g .text) → h ≡ g
+-- an outcome has one answer, and leaves the buffer in one way
+pub said-one : {o : Outcome} {b : List ℕ} (h g : Handed) → Says o (h .answer) b (h .name) → Says o (g .answer) b (g .name) → h ≡ g
 said-one h g s r =
-    ap (λ (x : Answer). handed x (h .name) (h .text)) (s .answer ∙ sym (r .answer))
-    ∙ ap (λ (x : List ℕ). handed (g .answer) x (h .text)) (s .name-buffer ∙ sym (r .name-buffer))
-    ∙ ap (λ (x : List ℕ). handed (g .answer) (g .name) x) (s .text-buffer ∙ sym (r .text-buffer))
+    ap (λ (x : Answer). handed x (h .name)) (s .answer ∙ sym (r .answer)) ∙ ap (λ (x : List ℕ). handed (g .answer) x) (s .name-buffer ∙ sym (r .name-buffer))
+
+-- the table that bytes encode, by the list of entries
+pub table-is : {t : List ℕ} {es : List Entry} → Entries t es → tableIn t ≡ tableOf es
+unfolding tableIn tableOf
+table-is p = ap tableOf (entries-complete p)
 
 -- a given domain's name has at most 253 bytes
 normal-short : (s : List ℕ) → Short (normal s)
@@ -69,12 +62,12 @@ normal-short s = cond-elim Short (isName (map lower (withoutDot s))) (λ e. name
 
 -- check_given
 module _ (domain : List ℕ) (r : Name) (p : r ≡ nameAnswer (normal domain)) where
-  malformed-is : (x : Naming) → r ≡ nameAnswer x → r ≡ Name.Malformed → x ≡ malformed
+  pub malformed-is : (x : Naming) → r ≡ nameAnswer x → r ≡ Name.Malformed → x ≡ malformed
   malformed-is (name s) q e = let z : _≡_ {A = ℕ} 0 1 = cc in absurd (omega arith)
   malformed-is malformed q e = refl
 
   module _ (n : ℕ) (e : r ≡ Name.Written n) (z to : List ℕ) (w : to ≡ nameBuffer (normal domain) z) (room : 253 ≤ length z) where
-    written : (normal domain ≡ name (take n to)) × (n ≤ 253)
+    pub written : (normal domain ≡ name (take n to)) × (n ≤ 253)
     written =
         let g = naming-name (normal domain) n to (naming-written (normal domain) (normal-short domain) z to room r p w n e) in
         (g .0, g .1)
@@ -91,201 +84,134 @@ module _ (domain : List ℕ) (r : Name) (p : r ≡ nameAnswer (normal domain)) w
         rw (written .0, ← j) f
 
   pub given-malformed : (t : List ℕ) (mail : Mail) (b : List ℕ) (o : Checked) → r ≡ Name.Malformed → o ≡ endedOf 0 noCounts → SaysCheck t (run (tableIn t) (evaluation mail domain)) o b b
-  unfolding evaluation check checkName failingOf
-  given-malformed t mail b o e h = rw (malformed-is (normal domain) p e, h) (checked-give t (tableIn t) _ (endedOf 0 noCounts) b (refl, refl, refl))
+  unfolding evaluation check checkName failingOf FailingAt
+  given-malformed t mail b o e h = rw (malformed-is (normal domain) p e, h) (checked-give t (tableIn t) _ (endedOf 0 noCounts) b (refl, refl, refl) tt)
+
+-- finish
+module _ (t : List ℕ) (v : ℕ) (c : Counts) (f : FailingPlace) (b : List ℕ) where
+  pub finish-nowhere : f ≡ FailingPlace.Nowhere → Says (finished t v c f) (Answer.Decided v c) b b
+  unfolding finished answerOf nameAfter
+  finish-nowhere e = rw e (record { answer = refl; name-buffer = refl })
+
+  module _ (domain : Span) (exp : Modifier) (e : f ≡ FailingPlace.In domain exp) where
+    pub finish-order : FailingAt t f → (from to : ℕ) → exp ≡ Modifier.Part from to → from ≤ to
+    unfolding FailingAt ExpStands
+    finish-order h from to q =
+        let p = subst (ExpStands t (spanOf t domain)) q (subst (FailingAt t) e h .stands) in
+        omega (arith, p .1)
+
+    module _ (d : List ℕ) (i : d ≡ spanOf t domain) (a : List ℕ) (w : a ≡ overwritten d b) where
+      pub finish-absent : exp ≡ Modifier.Absent → Says (finished t v c f) (Answer.Fail c (length d) 0 0) b a
+      unfolding finished answerOf nameAfter placeOf sizeOf
+      finish-absent q = rw (e, q, ← i) (record { answer = refl; name-buffer = w })
+
+      pub finish-part : (from to : ℕ) → exp ≡ Modifier.Part from to → Says (finished t v c f) (Answer.Fail c (length d) from (to - from)) b a
+      unfolding finished answerOf nameAfter placeOf sizeOf
+      finish-part from to q = rw (e, q, ← i) (record { answer = refl; name-buffer = w })
+
+-- a result with the record that failed, as what the table settles comes to
+finished-comes : (t : List ℕ) (v : ℕ) (c : Counts) (f : FailingPlace) → FailingAt t f → (es : List Entry) → Encoded t es
+    → Comes t (settled (record { value = v; counts = c; failing = failingOf t f })) (finished t v c f)
+unfolding finished failingOf FailingAt ExpStands argumentIn placeOf sizeOf
+finished-comes t v c FailingPlace.Nowhere h es e = decides refl
+finished-comes t v c (FailingPlace.In domain Modifier.Absent) h es e = fails refl without
+finished-comes t v c (FailingPlace.In domain (Modifier.Part from to)) h es e =
+    let p = h .stands in
+    let n : length (part t from to) ≡ to - from = omega (arith, p .1) in
+    fails refl (subst (ExpOf t (spanOf t domain) (present (part t from to)) from) n (with-exp (p .2 es e)))
 
 -- decide
-gives-answer : (x : Settled Verdict) (y : Verdict) (n : ℕ) (b z u v : List ℕ) → Gives x y b z → n ≡ length (y .text) → v ≡ overwritten (y .text) u
-    → Says (settles x) (Answer.Decided (y .value) (y .counts) n) b z u v
-unfolding answerOf nameAfter textAfter
-gives-answer x y n b z u v g e w = rw (g .is) (said _ _ _ _ _ _ (ap (Answer.Decided (y .value) (y .counts)) e) (g .kept) w)
+module _ (t : List ℕ) (x : Settled Result) (b a : List ℕ) (o : Checked) (s : SaysCheck t x o b a) where
+  pub decide-placed : FailingAt t (o .failing)
+  decide-placed = s .placed
 
-wants-answer : (x : Settled Verdict) (kind n : ℕ) (c : Counts) (b z u v : List ℕ) → Wants x kind n c b z → v ≡ u
-    → Says (settles x) (Answer.Wanting kind n c) b z u v
-unfolding answerOf nameAfter textAfter
-wants-answer x kind n c b z u v w e = rw (w .is) (said _ _ _ _ _ _ (ap (λ (m : ℕ). Answer.Wanting kind m c) (w .size-is)) (w .buffer) e)
+  pub decide-wants : (kind n : ℕ) → o .ending ≡ Ending.Wanting kind n → Decides t x (Answer.Wanting kind n (o .counts)) b a
+  unfolding answerOf nameAfter
+  decide-wants kind n e =
+      let w = checked-wants t x o b a s kind n e in
+      record {
+        outcome = wants kind (w .asked) (o .counts);
+        comes = λ es c. subst (λ (y : Settled Result). Comes t y (wants kind (w .asked) (o .counts))) (sym (w .is)) lacks;
+        says = record { answer = ap (λ (m : ℕ). Answer.Wanting kind m (o .counts)) (w .size-is); name-buffer = w .buffer };
+      }
 
-module _ (t : List ℕ) (mail : Mail) (domain : List ℕ) (b a : List ℕ) (o : Checked) (s : SaysCheck t (run (tableIn t) (evaluation mail domain)) o b a) where
-  pub decide-wants : (kind n : ℕ) → o .ending ≡ Ending.Wanting kind n → (u : List ℕ) → Says (settles (run (tableIn t) (verdict mail domain))) (Answer.Wanting kind n (o .counts)) b a u u
-  unfolding verdict
-  decide-wants kind n e u = wants-answer _ kind n (o .counts) b a u u (wants-bind (tableIn t) (evaluation mail domain) _ kind n (o .counts) b a (checked-wants t _ o b a s kind n e)) refl
+  pub decide-result : (v : ℕ) → o .ending ≡ Ending.Result v → (r : Answer) (z : List ℕ) → Says (finished t v (o .counts) (o .failing)) r a z → Decides t x r b z
+  decide-result v e r z h =
+      let g = checked-result t x o b a s v e in
+      record {
+        outcome = finished t v (o .counts) (o .failing);
+        comes = λ es c. subst (λ (y : Settled Result). Comes t y (finished t v (o .counts) (o .failing))) (sym (g .is)) (finished-comes t v (o .counts) (o .failing) (s .placed) es c);
+        says = subst (λ (y : List ℕ). Says (finished t v (o .counts) (o .failing)) r y z) (g .kept) h;
+      }
 
-  module _ (v : ℕ) (e : o .ending ≡ Ending.Result v) (x : Explained) (u u′ z : List ℕ)
-      (w : SaysText (o .counts) (run (tableIn t) (explanation mail (failingOf t (o .failing)) (o .counts))) x u u′ a z) where
-    explained-is : run (tableIn t) (verdict mail domain)
-        ≡ run (tableIn t) (bind (explanation mail (failingOf t (o .failing)) (o .counts)) (λ x. give (record { value = v; counts = o .counts; text = x })))
-    unfolding verdict
-    explained-is = bind-is (tableIn t) (evaluation mail domain) _ (record { value = v; counts = o .counts; failing = failingOf t (o .failing) }) (checked-result t _ o b a s v e .is)
+-- evaluate
+module _ (client : Address) (domain sender helo receiver : List ℕ) (seconds : ℕ) (table name : List ℕ) where
+  pub evaluated-refused : (n : ℕ) → n ≡ refusalOf domain sender helo receiver (length name) → (n ≡ 0 → ⊥)
+      → Evaluates (lent client domain sender helo receiver seconds table name) (handed (Answer.Refused n) name)
+  unfolding hasNameRoom answerOf nameAfter
+  evaluated-refused n e h = record {
+    outcome = refused n;
+    answers = refuses (refused-by domain sender helo receiver (length name) n e (leb 253 (length name)) h (λ q. q));
+    says = record { answer = refl; name-buffer = refl };
+  }
 
-    kept : a ≡ b
-    kept = checked-result t _ o b a s v e .kept
-
-    pub decide-explained : (n : ℕ) → x ≡ Explained.Text n → Says (settles (run (tableIn t) (verdict mail domain))) (Answer.Decided v (o .counts) n) b z u u′
-    decide-explained n f =
-        let g = text-written (o .counts) _ x u u′ a z w n f in
-        rw (explained-is, ← kept)
-        (gives-answer _ (record { value = v; counts = o .counts; text = g .0 }) n a z u u′
-        (gives-bind (tableIn t) (explanation mail (failingOf t (o .failing)) (o .counts)) (λ x. give (record { value = v; counts = o .counts; text = x }))
-        (g .0) _ a z (g .1) refl) (g .2) (g .3))
-
-    pub decide-asks : (kind n : ℕ) → x ≡ Explained.Wanting kind n → Says (settles (run (tableIn t) (verdict mail domain))) (Answer.Wanting kind n (o .counts)) b z u u′
-    decide-asks kind n f =
-        let g = text-wants (o .counts) _ x u u′ a z w kind n f in
-        rw (explained-is, ← kept)
-        (wants-answer _ kind n (o .counts) a z u u′
-        (wants-bind (tableIn t) (explanation mail (failingOf t (o .failing)) (o .counts)) (λ x. give (record { value = v; counts = o .counts; text = x })) kind n (o .counts) a z (g .0)) (g .1))
-
--- what the definition says, by the table's list of entries
-pub table-is : (t : List ℕ) → tableIn t ≡ tableOf (entriesOf t)
-unfolding tableIn tableOf
-table-is t = refl
-
--- the tests of 20 to 23
-first-refused : (x : Outcome) (n : ℕ) (s h d a b : Bool) → n ≡ cond s (cond h (cond d (cond a (cond b 0 23) 23) 22) 21) 20 → (n ≡ 0 → ⊥)
-    → cond s (cond h (cond d (cond (a && b) x (refused 23)) (refused 22)) (refused 21)) (refused 20) ≡ refused n
-first-refused x n true true true true true e k = absurd (k e)
-first-refused x n true true true true false e k = rw e
-first-refused x n true true true false b e k = rw e
-first-refused x n true true false a b e k = rw e
-first-refused x n true false d a b e k = rw e
-first-refused x n false h d a b e k = rw e
-
-none-refused : (s h d a b : Bool) → _≡_ {A = ℕ} 0 (cond s (cond h (cond d (cond a (cond b 0 23) 23) 22) 21) 20) → (s ≡ true) × (h ≡ true) × (d ≡ true) × ((a && b) ≡ true)
-none-refused true true true true true e = (refl, refl, refl, refl)
-none-refused true true true true false e = absurd (omega arith)
-none-refused true true true false b e = absurd (omega arith)
-none-refused true true false a b e = absurd (omega arith)
-none-refused true false d a b e = absurd (omega arith)
-none-refused false h d a b e = absurd (omega arith)
-
-module _ (client : Address) (domain sender helo receiver : List ℕ) (seconds : ℕ) (table name text : List ℕ) where
-  by-entries : Fit (lent client domain sender helo receiver seconds table name text) → {n : ℕ} → TableAnswers table (accepted n)
-      → Answers (lent client domain sender helo receiver seconds table name text) (settles (run (tableIn table) (verdict (mailFor client sender helo receiver seconds) domain)))
-  by-entries f (whole-table {es = es} h e) =
-      rw (table-is table, entries-complete (e .entries)) (decides f h e)
-
-  by-table : Fit (lent client domain sender helo receiver seconds table name text) → (a : TableAnswer) → TableAnswers table (table-reported a)
-      → Answers (lent client domain sender helo receiver seconds table name text) (afterTable a (run (tableIn table) (verdict (mailFor client sender helo receiver seconds) domain)))
-  unfolding afterTable
-  by-table f TooLong c = bad-table f c
-  by-table f (Malformed p) c = bad-table f c
-  by-table f (Repeated p) c = bad-table f c
-  by-table f (Accepted n) c = by-entries f c
-
-  pub evaluated-answers : Answers (lent client domain sender helo receiver seconds table name text) (evaluated client domain sender helo receiver seconds table name text)
-  unfolding evaluated
-  evaluated-answers =
-      cond-elim A (isSender sender)
-      (λ s. cond-elim A (isHost helo && isHost receiver)
-      (λ h. cond-elim A (isShort domain)
-      (λ d. cond-elim A (hasRoom name text)
-      (λ r. by-table (record { sender-fits = s; hosts-fit = h; domain-fits = d; room = r }) (checkTable table) (table-answers table))
-      (λ r. no-room s h d r))
-      (λ d. long-domain s h d))
-      (λ h. no-host s h))
-      (λ s. no-sender s)
-    where
-      A : Outcome → Type 0
-      A o = Answers (lent client domain sender helo receiver seconds table name text) o
-
-  module _ (r : Answer) (name′ text′ : List ℕ) where
-    both : Says (evaluated client domain sender helo receiver seconds table name text) r name name′ text text′
-        → Says (evaluated client domain sender helo receiver seconds table name text) r name name′ text text′
-        × Evaluates (lent client domain sender helo receiver seconds table name text) (handed r name′ text′)
-    both s = (s, record { outcome = _; answers = evaluated-answers; says = s })
-
-    refused-says : (n : ℕ) → evaluated client domain sender helo receiver seconds table name text ≡ refused n → r ≡ Answer.Refused n → name′ ≡ name → text′ ≡ text
-        → Says (evaluated client domain sender helo receiver seconds table name text) r name name′ text text′
-    unfolding answerOf nameAfter textAfter
-    refused-says n e h i j = rw e (said _ _ _ _ _ _ h i j)
-
-  pub evaluated-refused : (n : ℕ) → n ≡ refusalOf domain sender helo receiver (length name) (length text) → (n ≡ 0 → ⊥)
-      → Says (evaluated client domain sender helo receiver seconds table name text) (Answer.Refused n) name name text text
-      × Evaluates (lent client domain sender helo receiver seconds table name text) (handed (Answer.Refused n) name text)
-  unfolding refusalOf evaluated hasRoom
-  evaluated-refused n e h =
-      both (Answer.Refused n) name text
-      (refused-says (Answer.Refused n) name text n
-      (first-refused _ n (isSender sender) (isHost helo && isHost receiver) (isShort domain) (leb 253 (length name)) (leb 500 (length text)) e h) refl refl refl)
-
-  module _ (n : ℕ) (e : n ≡ refusalOf domain sender helo receiver (length name) (length text)) (h : n ≡ 0) where
-    fits : Fit (lent client domain sender helo receiver seconds table name text)
-    unfolding refusalOf hasRoom
-    fits =
-        let f = none-refused (isSender sender) (isHost helo && isHost receiver) (isShort domain) (leb 253 (length name)) (leb 500 (length text)) (sym h ∙ e) in
-        record { sender-fits = f .0; hosts-fit = f .1; domain-fits = f .2; room = f .3 }
+  module _ (n : ℕ) (e : n ≡ refusalOf domain sender helo receiver (length name)) (h : n ≡ 0) where
+    fit : Fit (lent client domain sender helo receiver seconds table name)
+    unfolding hasNameRoom
+    fit = fits-by domain sender helo receiver (length name) n e (leb 253 (length name)) h (λ q. q)
 
     pub sender-small : length sender ≤ 320
-    unfolding isSender within
-    sender-small =
-        let w : (leb 1 (length sender) && leb (length sender) 320) ≡ true = and-left (leb 1 (length sender) && leb (length sender) 320) (all isPrintable sender) (fits .sender-fits) in
-        leb-true (length sender) 320 (and-right (leb 1 (length sender)) (leb (length sender) 320) w)
+    sender-small = sender-short sender (fit .sender-fits)
 
     module _ (a : TableAnswer) (q : a ≡ checkTable table) where
-      after-table : evaluated client domain sender helo receiver seconds table name text ≡ afterTable a (run (tableIn table) (verdict (mailFor client sender helo receiver seconds) domain))
-      unfolding evaluated
-      after-table = let f = fits in rw (f .sender-fits, f .hosts-fit, f .domain-fits, f .room, ← q)
+      pub evaluated-long : a ≡ TooLong → Evaluates (lent client domain sender helo receiver seconds table name) (handed (Answer.Refused 24) name)
+      unfolding answerOf nameAfter
+      evaluated-long k = record { outcome = refused 24; answers = bad-table fit (table-said q TooLong k); says = record { answer = refl; name-buffer = refl } }
 
-      pub evaluated-long : a ≡ TooLong → Says (evaluated client domain sender helo receiver seconds table name text) (Answer.Refused 24) name name text text
-          × Evaluates (lent client domain sender helo receiver seconds table name text) (handed (Answer.Refused 24) name text)
-      unfolding afterTable
-      evaluated-long k = both (Answer.Refused 24) name text (refused-says (Answer.Refused 24) name text 24 (after-table ∙ rw k) refl refl refl)
+      pub evaluated-malformed : (p : ℕ) → a ≡ Malformed p → Evaluates (lent client domain sender helo receiver seconds table name) (handed (Answer.RefusedAt 25 p) name)
+      unfolding answerOf nameAfter
+      evaluated-malformed p k = record { outcome = refused-at 25 p; answers = bad-table fit (table-said q (Malformed p) k); says = record { answer = refl; name-buffer = refl } }
 
-      at-says : (number p : ℕ) → evaluated client domain sender helo receiver seconds table name text ≡ refused-at number p
-          → Says (evaluated client domain sender helo receiver seconds table name text) (Answer.RefusedAt number p) name name text text
-      unfolding answerOf nameAfter textAfter
-      at-says number p i = rw i (said _ _ _ _ _ _ refl refl refl)
+      pub evaluated-repeated : (p : ℕ) → a ≡ Repeated p → Evaluates (lent client domain sender helo receiver seconds table name) (handed (Answer.RefusedAt 26 p) name)
+      unfolding answerOf nameAfter
+      evaluated-repeated p k = record { outcome = refused-at 26 p; answers = bad-table fit (table-said q (Repeated p) k); says = record { answer = refl; name-buffer = refl } }
 
-      pub evaluated-malformed : (p : ℕ) → a ≡ Malformed p → Says (evaluated client domain sender helo receiver seconds table name text) (Answer.RefusedAt 25 p) name name text text
-          × Evaluates (lent client domain sender helo receiver seconds table name text) (handed (Answer.RefusedAt 25 p) name text)
-      unfolding afterTable
-      evaluated-malformed p k = both (Answer.RefusedAt 25 p) name text (at-says 25 p (after-table ∙ rw k))
+      pub evaluated-decided : (m : ℕ) → a ≡ Accepted m → (c : Address) → c ≡ asClient client → (r : Answer) (name′ : List ℕ)
+          → Decides table (run (tableIn table) (evaluation (mailOf c sender helo receiver seconds) domain)) r name name′
+          → Evaluates (lent client domain sender helo receiver seconds table name) (handed r name′)
+      evaluated-decided m k c i r name′ s = by (table-said q (Accepted m) k)
+        where
+          by : {j : ℕ} → TableAnswers table (accepted j) → Evaluates (lent client domain sender helo receiver seconds table name) (handed r name′)
+          by (whole-table {es = es} l w) = record {
+            outcome = s .outcome;
+            answers = evaluates fit l w (rw (i, table-is (w .entries)) at (s .comes es w));
+            says = s .says;
+          }
 
-      pub evaluated-repeated : (p : ℕ) → a ≡ Repeated p → Says (evaluated client domain sender helo receiver seconds table name text) (Answer.RefusedAt 26 p) name name text text
-          × Evaluates (lent client domain sender helo receiver seconds table name text) (handed (Answer.RefusedAt 26 p) name text)
-      unfolding afterTable
-      evaluated-repeated p k = both (Answer.RefusedAt 26 p) name text (at-says 26 p (after-table ∙ rw k))
-
-      pub evaluated-decided : (m : ℕ) → a ≡ Accepted m → (c : Address) → c ≡ asClient client → (r : Answer) (name′ text′ : List ℕ)
-          → Says (settles (run (tableIn table) (verdict (mailOf c sender helo receiver seconds) domain))) r name name′ text text′
-          → Says (evaluated client domain sender helo receiver seconds table name text) r name name′ text text′
-          × Evaluates (lent client domain sender helo receiver seconds table name text) (handed r name′ text′)
-      unfolding afterTable
-      evaluated-decided m k c i r name′ text′ s =
-          let f : evaluated client domain sender helo receiver seconds table name text ≡ settles (run (tableIn table) (verdict (mailFor client sender helo receiver seconds) domain)) = after-table ∙ rw k in
-          both r name′ text′ (rw (f, ← i) s)
-
-  -- so the relation determines the outcome
-  by-refusal : (number : ℕ) (place : Place) (a : TableAnswer) (x : Settled Verdict) → table-refused number place ≡ table-reported a → refusedBy number place ≡ afterTable a x
-  unfolding afterTable
-  by-refusal number place (Accepted n) x e = let z : _≡_ {A = ℕ} 0 1 = cc in absurd (omega arith)
-  by-refusal number place TooLong x e = let i : number ≡ 24 = cc in let j : place ≡ nowhere = cc in rw (i, j)
-  by-refusal number place (Malformed p) x e = let i : number ≡ 25 = cc in let j : place ≡ byte p = cc in rw (i, j)
-  by-refusal number place (Repeated p) x e = let i : number ≡ 26 = cc in let j : place ≡ byte p = cc in rw (i, j)
-
-  by-acceptance : (n : ℕ) (a : TableAnswer) (x : Settled Verdict) → accepted n ≡ table-reported a → settles x ≡ afterTable a x
-  unfolding afterTable
-  by-acceptance n (Accepted m) x e = refl
-  by-acceptance n TooLong x e = let z : _≡_ {A = ℕ} 0 1 = cc in absurd (omega arith)
-  by-acceptance n (Malformed p) x e = let z : _≡_ {A = ℕ} 0 1 = cc in absurd (omega arith)
-  by-acceptance n (Repeated p) x e = let z : _≡_ {A = ℕ} 0 1 = cc in absurd (omega arith)
-
-  pub answers-is : {o : Outcome} → Answers (lent client domain sender helo receiver seconds table name text) o → o ≡ evaluated client domain sender helo receiver seconds table name text
-  unfolding evaluated
-  answers-is (no-sender s) = rw s
-  answers-is (no-host s h) = rw (s, h)
-  answers-is (long-domain s h d) = rw (s, h, d)
-  answers-is (no-room s h d r) = rw (s, h, d, r)
-  answers-is (bad-table {number = number} {place = place} f c) =
-      rw (f .sender-fits, f .hosts-fit, f .domain-fits, f .room) (by-refusal number place (checkTable table) _ (table-answers-is c))
-  answers-is (decides {es = es} f h e) =
-      rw (f .sender-fits, f .hosts-fit, f .domain-fits, f .room, ← entries-complete (e .entries), ← table-is table)
-      (by-acceptance _ (checkTable table) _ (table-answers-is (whole-table h e)))
-
--- so what is lent determines the outcome
-lent-answers : (a : Lent) {o : Outcome} → Answers a o
-    → o ≡ evaluated (a .client) (a .domain) (a .sender) (a .helo) (a .receiver) (a .seconds) (a .table) (a .name) (a .text)
-lent-answers a p = answers-is (a .client) (a .domain) (a .sender) (a .helo) (a .receiver) (a .seconds) (a .table) (a .name) (a .text) p
+-- what is lent determines the outcome
+comes-one : {t : List ℕ} {x : Settled Result} {o u : Outcome} → Comes t x o → Comes t x u → o ≡ u
+comes-one (decides h) (decides g) = refl
+comes-one (decides h) (fails g e) = let i = sym h ∙ g in let z : _≡_ {A = ℕ} 0 1 = cc in absurd (omega arith)
+comes-one (fails h e) (decides g) = let i = sym h ∙ g in let z : _≡_ {A = ℕ} 0 1 = cc in absurd (omega arith)
+comes-one {t} (fails {r = r} {f = f} {place = p} {size = n} h e) (fails {f = g} {place = q} {size = m} k d) =
+    let i : g ≡ f = cc in
+    let l = exp-of-one e (subst (λ (y : Failing). ExpOf t (y .domain) (y .exp) q m) i d) in
+    ap (λ (y : List ℕ). failed (r .counts) y p n) (ap (λ (y : Failing). y .domain) (sym i))
+    ∙ ap (λ (y : ℕ). failed (r .counts) (g .domain) y n) (l .0) ∙ ap (failed (r .counts) (g .domain) q) (l .1)
+comes-one lacks lacks = refl
 
 pub answers-one : (a : Lent) {o u : Outcome} → Answers a o → Answers a u → o ≡ u
-answers-one a p q = lent-answers a p ∙ sym (lent-answers a q)
+answers-one a (refuses r) (refuses s) = ap refused (refuses-one r s)
+answers-one a (refuses r) (bad-table f c) = absurd (refuses-fits r f)
+answers-one a (refuses r) (evaluates f h e c) = absurd (refuses-fits r f)
+answers-one a (bad-table f c) (refuses r) = absurd (refuses-fits r f)
+answers-one a (bad-table {number = n} {place = p} f c) (bad-table {number = m} {place = q} g d) =
+    let i = table-refused-one c d in ap (λ (y : ℕ). refusedBy y p) (i .0) ∙ ap (refusedBy m) (i .1)
+answers-one a (bad-table f c) (evaluates g h e d) = absurd (table-accepted h e c)
+answers-one a (evaluates f h e c) (refuses r) = absurd (refuses-fits r f)
+answers-one a (evaluates f h e c) (bad-table g d) = absurd (table-accepted h e d)
+answers-one a (evaluates f h e c) (evaluates g k d b) = comes-one c (rw (entries-one (d .entries) (e .entries)) at b)
+
+pub first-one : (a : Lent) (h g : Handed) → Evaluates a h → Evaluates a g → h ≡ g
+first-one a h g e d =
+    said-one h g (e .says) (subst (λ (o : Outcome). Says o (g .answer) (a .name) (g .name)) (answers-one a (d .answers) (e .answers)) (d .says))

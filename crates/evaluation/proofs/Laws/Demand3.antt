@@ -1,26 +1,26 @@
--- Demand 3: reading a record, its terms and their arguments, and evaluating. From records' claim, `verdict-never-evaluated` of `rules`, and that what
+-- Demand 3: reading a record, its terms and their arguments, and evaluating. From records' claim, `evaluation-never-evaluated` of `rules`, and that what
 -- is lent determines the outcome (Deciding).
 use Prim.Native.Nat.{ℕ, _≤_, _<_}
-use mathlib.Core.Path.{_≡_, refl, sym, ap, _∙_}
+use mathlib.Core.Path.{_≡_, refl, sym, subst}
 use mathlib.Core.Logic.{⊎-elim}
-use mathlib.Core.List.{List, []}
+use mathlib.Core.List.{List}
 use native.Mathlib.Omega.{arith}
 use lib.ListN.{length}
 use Rattle.text.proofs.Laws.Orders.{le-or-lt}
-use Rattle.text.proofs.Laws.Writing.{over-fits}
 use Rattle.records.specs.Answers.{most-bytes}
 use Rattle.records.specs.Claim.{Calls}
 use Rattle.records.specs.declared.RecordAnswer.{RecordAnswer}
 use Rattle.records.proofs.Laws.Claim.{claim}
 use Rattle.rules.specs.declared.Counts.{Counts}
-use Rattle.rules.specs.Tree.{settled}
+use Rattle.rules.specs.Tree.{Settled}
+use Rattle.rules.specs.Evaluation.{Result}
 use Rattle.rules.specs.Reached.{Outside, too-long, unproduced}
-use Rattle.rules.proofs.Laws.Reached.{verdict-never-evaluated}
+use Rattle.rules.proofs.Laws.Reached.{evaluation-never-evaluated}
 use Rattle.evaluation.specs.declared.Answer.{Answer}
-use Rattle.evaluation.specs.Numbers.{Outcome, settles, answerOf, nameAfter, textAfter, Says}
-use Rattle.evaluation.specs.Answers.{Lent, Handed, handed, mailIn, tableOf, decides}
+use Rattle.rules.specs.Tables.{tableOf}
+use Rattle.evaluation.specs.First.{Lent, Handed, handed, mailIn, Outcome, decided, answerOf, nameAfter, Says, Comes, decides, evaluates}
 use Rattle.evaluation.specs.Demand3.{Demand3}
-use Rattle.evaluation.proofs.Laws.Deciding.{said, said-one, answers-one}
+use Rattle.evaluation.proofs.Laws.Deciding.{said-one, answers-one}
 
 -- what is refused is outside the grammar
 refused-outside : (s : List ℕ) (calls : Calls s) (number place : ℕ) → calls .record-answer ≡ RecordAnswer.Refused number place → Outside s
@@ -34,17 +34,17 @@ refused-outside s calls number place e = ⊎-elim
     (le-or-lt (length s) most-bytes)
 
 -- what a permerror hands back
-permerror-handed : (a : Lent) (h : Handed) (o : Outcome) (k : Counts) → Says o (h .answer) (a .name) (h .name) (a .text) (h .text)
-    → o ≡ settles (settled (record { value = 6; counts = k; text = [] })) → h ≡ handed (Answer.Decided 6 k 0) (a .name) (a .text)
-unfolding answerOf nameAfter textAfter
-permerror-handed a h o k s e =
-    said-one h (handed (Answer.Decided 6 k 0) (a .name) (a .text)) s (rw e (said _ _ _ _ _ _ refl refl (sym (over-fits [] (a .text) (omega arith)))))
+permerror-handed : (a : Lent) (h : Handed) (o : Outcome) (k : Counts) → Says o (h .answer) (a .name) (h .name) → o ≡ decided 6 k → h ≡ handed (Answer.Decided 6 k) (a .name)
+unfolding answerOf nameAfter
+permerror-handed a h o k s e = said-one h (handed (Answer.Decided 6 k) (a .name)) s (rw e (record { answer = refl; name-buffer = refl }))
 
 pub demand3 : (s : List ℕ) (calls : Calls s) → Demand3 s calls
 demand3 s calls = record {
   reads = claim s calls;
-  never = λ number place refused a h evaluates fit es small encoded e k reached selects.
-      permerror-handed a h (evaluates .outcome) k (evaluates .says)
-      (answers-one a (evaluates .answers) (decides fit small encoded)
-      ∙ ap settles (verdict-never-evaluated (tableOf es) (mailIn a) (a .domain) s reached selects (refused-outside s calls number place refused)));
+  never = λ number place refused a h evaluates-a fit es small encoded e k reached selects.
+      permerror-handed a h (evaluates-a .outcome) k (evaluates-a .says)
+      (answers-one a (evaluates-a .answers)
+      (evaluates fit small encoded
+      (subst (λ (x : Settled Result). Comes (a .table) x (decided 6 k))
+      (sym (evaluation-never-evaluated (tableOf es) (mailIn a) (a .domain) s reached selects (refused-outside s calls number place refused))) (decides refl))));
 }

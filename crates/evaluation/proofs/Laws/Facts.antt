@@ -1,26 +1,30 @@
--- Facts of every evaluation, whatever its arguments: a wanted name is a name as the table has it, so that it fits the name buffer and its answer can be
--- added to the table; a wanted kind is one of five; "text written only for 3"; lookups never exceed 10, and voids never 3. From `evaluated-answers`
--- (Deciding) and the theorems of `rules`.
+-- Facts of every evaluation as one call, whatever its arguments: a wanted name is a name as the table has it, so that it fits the name buffer and its
+-- answer can be added to the table; a wanted kind is one of five; "text written only for 3"; lookups never exceed 10, and voids never 3. By `together` they
+-- hold of both calls. From the definition of `evaluated` and the theorems of `rules`.
 use Prim.Native.Nat.{ℕ}
 use mathlib.Core.Path.{_≡_, subst}
 use mathlib.Core.List.{List, []}
-use mathlib.Core.Bool.{true}
+use mathlib.Core.Bool.{true, _&&_}
+use Rattle.text.proofs.Laws.Tests.{cond-elim}
 use Rattle.address.specs.declared.Address.{Address}
 use Rattle.domain.specs.Names.{isTableName}
-use Rattle.answer_table.specs.Numbers.{nowhere, byte}
-use Rattle.answer_table.proofs.Laws.Entries.{entries-complete}
+use Rattle.answer_table.specs.declared.TableAnswer.{TableAnswer}
+use Rattle.answer_table.specs.declared.TableAnswer.the-variants.{Accepted, TooLong, Malformed, Repeated}
+use Rattle.answer_table.specs.Numbers.{accepted, reported}
+use Rattle.answer_table.specs.Answers.{TableAnswers, whole}
+use Rattle.answer_table.specs.Reader.{checkTable}
+use Rattle.answer_table.proofs.Laws.Checks.{table-answers}
+use Rattle.macros.specs.Expansion.{isSender, isHost, isShort}
 use Rattle.rules.specs.declared.Counts.{Counts}
-use Rattle.rules.specs.Tree.{Settled, settled, wanting}
+use Rattle.rules.specs.Tree.{Settled, settled, wanting, run}
 use Rattle.rules.specs.Tables.{tableIn}
 use Rattle.rules.proofs.Laws.Alike.{Holds}
 use Rattle.rules.proofs.Laws.Askable.{Fitting, entries-fit}
-use Rattle.rules.specs.Evaluation.{Verdict}
+use Rattle.rules.specs.Evaluation.{Verdict, verdict}
 use Rattle.rules.proofs.Laws.Kept.{AskedKind}
 use Rattle.rules.proofs.Laws.Verdicts.{AskedFacts, VerdictFacts, verdict-facts}
 use Rattle.evaluation.specs.Numbers.{Outcome, refused, refused-at, settles}
-use Rattle.evaluation.specs.Evaluating.{mailFor, evaluated}
-use Rattle.evaluation.specs.Answers.{lent, Answers, no-sender, no-host, long-domain, no-room, bad-table, decides}
-use Rattle.evaluation.proofs.Laws.Deciding.{table-is, evaluated-answers}
+use Rattle.evaluation.specs.Evaluating.{mailFor, hasRoom, afterTable, evaluated}
 
 module _ (client : Address) (domain sender helo receiver : List ℕ) (seconds : ℕ) (table name text : List ℕ) where
   -- of an outcome that settles something: what holds of that, and that the table's items are of their kinds
@@ -29,20 +33,30 @@ module _ (client : Address) (domain sender helo receiver : List ℕ) (seconds : 
   Sound (refused-at number place) = Unit {0}
   Sound (settles x) = Holds (AskedFacts (tableIn table)) VerdictFacts x × Fitting (tableIn table)
 
-  answers-sound : {o : Outcome} → Answers (lent client domain sender helo receiver seconds table name text) o → Sound o
-  unfolding Sound
-  answers-sound (no-sender s) = tt
-  answers-sound (no-host s h) = tt
-  answers-sound (long-domain s h d) = tt
-  answers-sound (no-room s h d r) = tt
-  answers-sound (bad-table {place = nowhere} f c) = tt
-  answers-sound (bad-table {place = byte p} f c) = tt
-  answers-sound (decides f h w) =
-      (rw (← entries-complete (w .entries), ← table-is table) (verdict-facts (tableIn table) (mailFor client sender helo receiver seconds) domain), entries-fit (w .entries))
+  table-fits : {n : ℕ} → TableAnswers table (accepted n) → Fitting (tableIn table)
+  table-fits (whole h e) = entries-fit (e .entries)
+
+  table-sound : (a : TableAnswer) → TableAnswers table (reported a) → Sound (afterTable a (run (tableIn table) (verdict (mailFor client sender helo receiver seconds) domain)))
+  unfolding Sound afterTable
+  table-sound TooLong c = tt
+  table-sound (Malformed p) c = tt
+  table-sound (Repeated p) c = tt
+  table-sound (Accepted n) c = (verdict-facts (tableIn table) (mailFor client sender helo receiver seconds) domain, table-fits c)
+
+  evaluated-sound : Sound (evaluated client domain sender helo receiver seconds table name text)
+  unfolding evaluated Sound
+  evaluated-sound =
+      cond-elim Sound (isSender sender)
+      (λ _. cond-elim Sound (isHost helo && isHost receiver)
+      (λ _. cond-elim Sound (isShort domain)
+      (λ _. cond-elim Sound (hasRoom name text) (λ _. table-sound (checkTable table) (table-answers table)) (λ _. tt))
+      (λ _. tt))
+      (λ _. tt))
+      (λ _. tt)
 
   module _ (x : Settled Verdict) (e : evaluated client domain sender helo receiver seconds table name text ≡ settles x) where
     sound : Sound (settles x)
-    sound = subst Sound e (answers-sound (evaluated-answers client domain sender helo receiver seconds table name text))
+    sound = subst Sound e evaluated-sound
 
     -- the counts at a wanted question and with a result, and the two facts below
     pub facts : Holds (AskedFacts (tableIn table)) VerdictFacts x

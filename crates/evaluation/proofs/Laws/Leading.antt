@@ -1,6 +1,6 @@
 -- The leading terms of a record that need no lookup: past those that pass, the walk stands as if it had tried them, and a match decides the record. From
 -- what a term comes to that asks nothing, and the rules of Walking.
-use Prim.Native.Nat.{ℕ, _≤_}
+use Prim.Native.Nat.{ℕ, _*_, _^_, _≤_, _<_}
 use mathlib.Core.Path.{_≡_, refl, sym, ap, subst, _∙_}
 use mathlib.Core.Bool.{Bool, true, false, cond}
 use mathlib.Core.List.{List}
@@ -17,7 +17,10 @@ use Rattle.records.specs.declared.Term.{Term}
 use Rattle.records.specs.declared.TermAnswer.{TermAnswer}
 use Rattle.records.specs.declared.opening.Unaided.{Unaided}
 use Rattle.records.specs.declared.opening.Opening.{Opening}
-use Rattle.records.specs.Opening.{unaided, Passing, Leads, OpeningOf, answerOf}
+use Rattle.records.specs.declared.opening.Modifier.{Modifier}
+use Rattle.records.specs.declared.opening.Modifiers.{Modifiers}
+use Rattle.records.specs.declared.opening.Reading.{Reading}
+use Rattle.records.specs.Opening.{unaided, Passing, Leads, Accepts, OpeningOf, answerOf}
 use Rattle.records.proofs.Laws.Terms.{read-long, read-past}
 use Rattle.rules.specs.declared.Counts.{Counts}
 use Rattle.rules.specs.declared.Matched.{Matched}
@@ -28,13 +31,14 @@ use Rattle.rules.specs.Tree.{Table, run}
 use Rattle.rules.specs.Tables.{tableIn}
 use Rattle.rules.specs.Mechanisms.{Mail}
 use Rattle.rules.specs.Evaluation.{Sub, termStep, tryTerms, termsOf, readOutcome, whole}
-use Rattle.rules.specs.Outcomes.{spanOf, SaysStep, SaysCheck}
+use Rattle.rules.specs.Outcomes.{spanOf, FailingIn, SaysStep, SaysCheck}
 use Rattle.mechanism_lookups.specs.Steps.{matchAnswer}
 use Rattle.mechanisms.specs.Terms.{TriedIs}
 use Rattle.mechanisms.proofs.Laws.Trying.{tried-all, tried-network, tried-redirect, tried-explanation, tried-unknown}
-use Rattle.evaluation.specs.Checks.{endedOf, signOf, signedOf}
+use Rattle.evaluation.specs.Checks.{endedOf, signOf, signedOf, inTable, FitsTable, SelectedAt, Underway}
 use Rattle.evaluation.proofs.Laws.Beginning.{says-ended}
-use Rattle.evaluation.proofs.Laws.Walking.{Walk, walk-start, walk-no, walk-yes}
+use Rattle.evaluation.proofs.Laws.Standing.{redirect-is, exp-fits, exp-is, exp-stands}
+use Rattle.evaluation.proofs.Laws.Walking.{Walk, Failable, walk-start, walk-no, walk-yes}
 
 -- a term is read only inside the record
 read-inside : (s : List ℕ) (i at next : ℕ) (x : Term) → readTerm s i ≡ TermAnswer.Is at next x → i ≤ length s
@@ -97,7 +101,7 @@ module _ (t : Table) (mail : Mail) (d w : List ℕ) (c : Counts) (b : List ℕ) 
   matching-step (Term.Ptr sign from to) k e = absurd (asks-matches k e)
   matching-step (Term.Exists sign from to) k e = absurd (asks-matches k e)
 
--- `try_terms`: the walk past the terms that pass
+-- the walk past the terms that pass
 module _ (t : List ℕ) (mail : Mail) (d s : List ℕ) (first : ℕ) (b : List ℕ) (c : Counts) (small : c .lookups ≤ 10) (few : c .voids ≤ 2) where
   walk-led : (j : ℕ) → Passing (mail .client) s first j → Walk t mail d s first b c b j c
   walk-led j Passing.none = walk-start t mail d s first b c small few
@@ -105,40 +109,93 @@ module _ (t : List ℕ) (mail : Mail) (d s : List ℕ) (first : ℕ) (b : List �
       walk-no t mail d s first b c b i c (walk-led i p) (readTerm s i) refl at next x q (read-inside s i at next x q) (part s at next) refl (matchAnswer false c) b
       (passing-step (tableIn t) mail d (part s at next) c b x e (whole mail)) refl
 
-  pub walk-opened : (y : List ℕ) → s ≡ y → (j : ℕ) → Passing (mail .client) y first j → Walk t mail d s first b c b j c
-  walk-opened y f j p = walk-led j (subst (λ (z : List ℕ). Passing (mail .client) z first j) (sym f) p)
-
 -- `evaluate_record`
-pub open-passing : (client : Address) (u s : List ℕ) → u ≡ s → (o : Opening) → OpeningOf client u o → (j : ℕ) → o ≡ Opening.Open j → Passing client s 6 j
-open-passing client u s f o g j e = subst (λ (z : List ℕ). Passing client z 6 j) f (by (subst (Leads client u 6) e (g .leads)))
-  where
-    by : Leads client u 6 (Opening.Open j) → Passing client u 6 j
-    by (Leads.opened p a) = p
+module _ (client : Address) (t : List ℕ) (domain text : Span) (k : SelectedAt t domain text) (u : List ℕ) (f : u ≡ spanOf t text) (r : Reading) (g : OpeningOf client u r) where
+  accepts-open : (j : ℕ) → r .opening ≡ Opening.Open j → Accepts (r .opening)
+  unfolding answerOf
+  accepts-open j q = rw q
 
-module _ (t : List ℕ) (mail : Mail) (d s : List ℕ) (c : Counts) (o : Checked) (b : List ℕ) (u : List ℕ) (f : u ≡ s) (r : Opening) (g : OpeningOf (mail .client) u r) where
-  answered : readRecord s ≡ answerOf r
+  accepts-matched : (sign : ℕ) → r .opening ≡ Opening.Matched sign → Accepts (r .opening)
+  unfolding answerOf
+  accepts-matched sign q = rw q
+
+  module _ (m : Modifiers) (n : m ≡ r .modifiers) (l : length t * 1 < 2 ^ 63) where
+    pub open-fits : (j : ℕ) → r .opening ≡ Opening.Open j → FitsTable (m .exp) (text .from)
+    open-fits j q = rw n (exp-fits client t text u f r g (accepts-open j q) l)
+
+    pub matched-fits : (sign : ℕ) → r .opening ≡ Opening.Matched sign → FitsTable (m .exp) (text .from)
+    matched-fits sign q = rw n (exp-fits client t text u f r g (accepts-matched sign q) l)
+
+  module _ (a : Accepts (r .opening)) (m : Modifiers) (n : m ≡ r .modifiers) (exp : Modifier) (e : exp ≡ inTable (m .exp) (text .from)) where
+    exp-here : exp ≡ inTable (r .modifiers .exp) (text .from)
+    exp-here = e ∙ ap (λ (y : Modifiers). inTable (y .exp) (text .from)) n
+
+    failing-here : FailingIn t domain exp
+    failing-here = record { short = k .short; stands = rw exp-here (exp-stands client t text u f r g a (spanOf t domain) (k .labels) (k .selected) (k .stands)) }
+
+    failable : Failable t domain exp (termsOf (spanOf t text) 6)
+    failable = record { explains = rw exp-here (exp-is client t text u f r g a); failing = failing-here }
+
+  open-passing : (j : ℕ) → r .opening ≡ Opening.Open j → Passing client (spanOf t text) 6 j
+  open-passing j e = subst (λ (z : List ℕ). Passing client z 6 j) f (by (subst (Leads client u 6) e (g .leads)))
+    where
+      by : Leads client u 6 (Opening.Open j) → Passing client u 6 j
+      by (Leads.opened p a) = p
+
+  pub open-underway : (j : ℕ) → r .opening ≡ Opening.Open j → (m : Modifiers) → m ≡ r .modifiers → (exp : Modifier) → exp ≡ inTable (m .exp) (text .from)
+      → Underway client t domain text (m .redirect) exp j
+  open-underway j q m n exp e =
+      let a = accepts-open j q in
+      let h = failable a m n exp e in
+      record {
+        passing = open-passing j q;
+        redirects = rw n (redirect-is client t text u f r g a);
+        explains = h .explains;
+        failing = h .failing;
+      }
+
+-- what is tried of the record, by how it opened
+module _ (t : List ℕ) (mail : Mail) (domain text : Span) (c : Counts) (o : Checked) (b : List ℕ) (u : List ℕ) (f : u ≡ spanOf t text) (r : Reading)
+    (g : OpeningOf (mail .client) u r) where
+  answered : readRecord (spanOf t text) ≡ answerOf (r .opening)
   answered = ap readRecord (sym f) ∙ sym (g .answer)
 
-  pub record-refused : (number at : ℕ) → r ≡ Opening.Refused number at → o ≡ endedOf 6 c → SaysCheck t (run (tableIn t) (readOutcome mail (whole mail) d s (readRecord s) c)) o b b
+  pub record-refused : (number at : ℕ) → r .opening ≡ Opening.Refused number at → o ≡ endedOf 6 c
+      → SaysCheck t (run (tableIn t) (readOutcome mail (whole mail) (spanOf t domain) (spanOf t text) (readRecord (spanOf t text)) c)) o b b
   unfolding readOutcome answerOf
   record-refused number at q e = rw (answered, q) (says-ended t (tableIn t) 6 c o b e)
 
-  pub record-tried : (j : ℕ) → r ≡ Opening.Open j → (z : List ℕ)
-      → SaysCheck t (run (tableIn t) (tryTerms mail (whole mail) d (termsOf s 6) (termsOf s 6) c)) o b z
-      → SaysCheck t (run (tableIn t) (readOutcome mail (whole mail) d s (readRecord s) c)) o b z
+  pub record-tried : (j : ℕ) → r .opening ≡ Opening.Open j → (z : List ℕ)
+      → SaysCheck t (run (tableIn t) (tryTerms mail (whole mail) (spanOf t domain) (termsOf (spanOf t text) 6) (termsOf (spanOf t text) 6) c)) o b z
+      → SaysCheck t (run (tableIn t) (readOutcome mail (whole mail) (spanOf t domain) (spanOf t text) (readRecord (spanOf t text)) c)) o b z
   unfolding readOutcome answerOf
   record-tried j q z h = rw (answered, q) h
 
   -- a term that matches without a lookup, and all before it pass
-  module _ (small : c .lookups ≤ 10) (few : c .voids ≤ 2) (sign : ℕ) (q : r ≡ Opening.Matched sign) (domain text : Span) (hd : d ≡ spanOf t domain) (hs : s ≡ spanOf t text)
-      (e : o ≡ signedOf sign domain text 6 c) where
-    matched-says : Leads (mail .client) s 6 (Opening.Matched sign) → SaysCheck t (run (tableIn t) (tryTerms mail (whole mail) d (termsOf s 6) (termsOf s 6) c)) o b b
-    matched-says (Leads.matched {j = i} {at = at} {next = next} {x = x} p k h) =
-        let m = matching-step (tableIn t) mail d (part s at next) c b x sign h in
-        walk-yes t mail d s 6 b c o b x domain text (matchAnswer true c) (e ∙ ap (λ (v : ℕ). signedOf v domain text 6 c) (sym (m .1))) hd hs s b i c
-        (walk-led t mail d s 6 b c small few i p) refl (readTerm s i) refl at next k (read-inside s i at next x k) (part s at next) refl
-        (m .0 (whole mail)) refl
+  module _ (k : SelectedAt t domain text) (small : c .lookups ≤ 10) (few : c .voids ≤ 2) (sign : ℕ) (q : r .opening ≡ Opening.Matched sign) (m : Modifiers) (n : m ≡ r .modifiers)
+      (exp : Modifier) (x : exp ≡ inTable (m .exp) (text .from)) (e : o ≡ signedOf sign domain exp c) where
+    matched-says : Leads (mail .client) (spanOf t text) 6 (Opening.Matched sign)
+        → SaysCheck t (run (tableIn t) (tryTerms mail (whole mail) (spanOf t domain) (termsOf (spanOf t text) 6) (termsOf (spanOf t text) 6) c)) o b b
+    matched-says (Leads.matched {j = i} {at = at} {next = next} {x = y} p l h) =
+        let s = spanOf t text in
+        let d = spanOf t domain in
+        let w = matching-step (tableIn t) mail d (part s at next) c b y sign h in
+        walk-yes t mail d s 6 b c o b y domain exp (matchAnswer true c) (e ∙ ap (λ (v : ℕ). signedOf v domain exp c) (sym (w .1))) refl
+        (failable (mail .client) t domain text k u f r g (accepts-matched (mail .client) t domain text k u f r g sign q) m n exp x) s b i c
+        (walk-led t mail d s 6 b c small few i p) refl (readTerm s i) refl at next l (read-inside s i at next y l) (part s at next) refl
+        (w .0 (whole mail)) refl
 
-    pub record-matched : SaysCheck t (run (tableIn t) (readOutcome mail (whole mail) d s (readRecord s) c)) o b b
+    pub record-matched : SaysCheck t (run (tableIn t) (readOutcome mail (whole mail) (spanOf t domain) (spanOf t text) (readRecord (spanOf t text)) c)) o b b
     unfolding readOutcome answerOf
-    record-matched = rw (answered, q) (matched-says (subst (λ (z : List ℕ). Leads (mail .client) z 6 (Opening.Matched sign)) f (subst (Leads (mail .client) u 6) q (g .leads))))
+    record-matched =
+        rw (answered, q) (matched-says (subst (λ (z : List ℕ). Leads (mail .client) z 6 (Opening.Matched sign)) f (subst (Leads (mail .client) u 6) q (g .leads))))
+
+-- `try_terms`, from what is underway
+module _ {client : Address} {t : List ℕ} {domain text : Span} {redirect exp : Modifier} {start : ℕ} (k : Underway client t domain text redirect exp start) where
+  pub underway-failable : Failable t domain exp (termsOf (spanOf t text) 6)
+  underway-failable = record { explains = k .explains; failing = k .failing }
+
+pub walk-opened : (t : List ℕ) (mail : Mail) (b : List ℕ) (c : Counts) → c .lookups ≤ 10 → c .voids ≤ 2 → (domain text : Span) (redirect exp : Modifier) (j : ℕ)
+    → Underway (mail .client) t domain text redirect exp j → (s : List ℕ) → s ≡ spanOf t text → Walk t mail (spanOf t domain) s 6 b c b j c
+walk-opened t mail b c small few domain text redirect exp j k s f =
+    walk-led t mail (spanOf t domain) s 6 b c small few j (subst (λ (z : List ℕ). Passing (mail .client) z 6 j) (sym f) (k .passing))

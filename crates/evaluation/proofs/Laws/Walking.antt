@@ -18,6 +18,8 @@ use Rattle.records.specs.Grammar.{isQualifier}
 use Rattle.records.specs.Reader.{readTerm}
 use Rattle.records.specs.Numbers.{termReport, saidOf}
 use Rattle.records.specs.declared.Term.{Term}
+use Rattle.records.specs.declared.opening.Modifier.{Modifier}
+use Rattle.records.specs.Opening.{argumentIn}
 use Rattle.records.specs.declared.TermAnswer.{TermAnswer}
 use Rattle.records.proofs.TermAnswer as answer-type
 use Rattle.records.proofs.Laws.Checking.{next-less}
@@ -32,8 +34,8 @@ use Rattle.rules.specs.declared.Checked.{Checked}
 use Rattle.rules.specs.Tree.{Check, Settled, run}
 use Rattle.rules.specs.Tables.{tableIn}
 use Rattle.rules.specs.Mechanisms.{Mail, yes, no, stop, Step}
-use Rattle.rules.specs.Evaluation.{Result, Sub, termStep, signResult, modifierOf, signed, noMatch, matchResult, afterStep, tryTerms, termsAfter, termsFrom, termsOf, whole}
-use Rattle.rules.specs.Outcomes.{Settles, Gives, spanOf, failingOf, SaysStep, SaysCheck}
+use Rattle.rules.specs.Evaluation.{Result, Sub, termStep, signResult, modifierOf, failingAt, signed, noMatch, matchResult, afterStep, tryTerms, termsAfter, termsFrom, termsOf, whole}
+use Rattle.rules.specs.Outcomes.{Settles, Gives, spanOf, failingOf, FailingIn, FailingAt, SaysStep, SaysCheck}
 use Rattle.rules.proofs.Laws.Runs.{give-same}
 use Rattle.rules.proofs.Laws.Inversions.{step-yes, step-no, step-result, step-wants, checked-give, checked-wanted}
 use Rattle.rules.proofs.Laws.Signs.{Signed, read-signed}
@@ -83,32 +85,38 @@ sign-is w (Term.Redirect from to) q e = let z : _≡_ {A = ℕ} 0 1 = cc in absu
 sign-is w (Term.Explanation from to) q e = let z : _≡_ {A = ℕ} 0 1 = cc in absurd (omega arith)
 sign-is w (Term.Unknown n to) q e = let z : _≡_ {A = ℕ} 0 1 = cc in absurd (omega arith)
 
--- a matching term's result
-signed-says : (t : List ℕ) (domain text : Span) (first q : ℕ) → isQualifier q ≡ true → (c : Counts) (rest : Counts → Check Result) (b : List ℕ)
-    → SaysCheck t (run (tableIn t) (matchResult (spanOf t domain) (termsOf (spanOf t text) first) (signResult (present q)) c rest)) (signedOf q domain text first c) b b
-unfolding matchResult signed signResult signedOf isQualifier failingOf
-signed-says t domain text first q h c rest b = by (eqb q 43) (eqb q 45) (eqb q 126) (eqb q 63) h
+-- a matching term's result, in a record of these terms whose exp stands in the table
+pub record Failable (t : List ℕ) (domain : Span) (exp : Modifier) (ts : List Placed) : Type 0 where
+  pub explains : argumentIn t exp ≡ modifierOf (bytes "exp") ts
+  pub failing : FailingIn t domain exp
+
+signed-says : (t : List ℕ) (domain : Span) (exp : Modifier) (ts : List Placed) → Failable t domain exp ts → (q : ℕ) → isQualifier q ≡ true
+    → (c : Counts) (rest : Counts → Check Result) (b : List ℕ)
+    → SaysCheck t (run (tableIn t) (matchResult (spanOf t domain) ts (signResult (present q)) c rest)) (signedOf q domain exp c) b b
+unfolding matchResult signed signResult signedOf isQualifier failingOf FailingAt
+signed-says t domain exp ts f q h c rest b = by (eqb q 43) (eqb q 45) (eqb q 126) (eqb q 63) h
   where
     by : (x y z w : Bool) → (x || (y || (w || z))) ≡ true
-        → SaysCheck t (run (tableIn t) (matchResult (spanOf t domain) (termsOf (spanOf t text) first) (cond x (present 2) (cond y (present 3) (cond z (present 4) (cond w (present 1) absent)))) c rest))
-        (cond x (endedOf 2 c) (cond y (record { ending = Ending.Result 3; counts = c; failing = FailingPlace.In domain text first }) (cond z (endedOf 4 c) (endedOf 1 c)))) b b
-    by true y z w h = checked-give t (tableIn t) _ _ b (refl, refl, refl)
-    by false true z w h = checked-give t (tableIn t) _ _ b (refl, refl, refl)
-    by false false true w h = checked-give t (tableIn t) _ _ b (refl, refl, refl)
-    by false false false true h = checked-give t (tableIn t) _ _ b (refl, refl, refl)
+        → SaysCheck t (run (tableIn t) (matchResult (spanOf t domain) ts (cond x (present 2) (cond y (present 3) (cond z (present 4) (cond w (present 1) absent)))) c rest))
+        (cond x (endedOf 2 c) (cond y (record { ending = Ending.Result 3; counts = c; failing = FailingPlace.In domain exp }) (cond z (endedOf 4 c) (endedOf 1 c)))) b b
+    by true y z w h = checked-give t (tableIn t) _ _ b (refl, refl, refl) tt
+    by false true z w h = checked-give t (tableIn t) _ _ b (refl, refl, ap (λ (e : Optional (List ℕ)). present (failingAt (spanOf t domain) e)) (f .explains)) (f .failing)
+    by false false true w h = checked-give t (tableIn t) _ _ b (refl, refl, refl) tt
+    by false false false true h = checked-give t (tableIn t) _ _ b (refl, refl, refl) tt
     by false false false false h = let z : _≡_ {A = ℕ} 0 1 = cc in absurd (omega arith)
 
 -- only a mechanism matches, and it has a sign
-match-says : (t : List ℕ) (mail : Mail) (sub : Sub) (domain text : Span) (first : ℕ) (w : List ℕ) (x : Term) (sign : Optional ℕ) → Signed sign → saidOf w x .sign ≡ sign
+match-says : (t : List ℕ) (mail : Mail) (sub : Sub) (domain : Span) (exp : Modifier) (ts : List Placed) → Failable t domain exp ts
+    → (w : List ℕ) (x : Term) (sign : Optional ℕ) → Signed sign → saidOf w x .sign ≡ sign
     → (c k : Counts) → Settles (run (tableIn t) (termStep mail sub (spanOf t domain) (saidOf w x) sign c)) (record { match = yes; counts = k })
     → (rest : Counts → Check Result) (b : List ℕ)
-    → SaysCheck t (run (tableIn t) (matchResult (spanOf t domain) (termsOf (spanOf t text) first) (signResult sign) k rest)) (signedOf (signOf x) domain text first k) b b
+    → SaysCheck t (run (tableIn t) (matchResult (spanOf t domain) ts (signResult sign) k rest)) (signedOf (signOf x) domain exp k) b b
 unfolding termStep
-match-says t mail sub domain text first w x absent Signed.none e c k h rest b =
+match-says t mail sub domain exp ts f w x absent Signed.none e c k h rest b =
     let j : no ≡ yes = ap (λ (o : Step). o .match) (give-same (tableIn t) (record { match = no; counts = c }) (record { match = yes; counts = k }) h) in
     let z : _≡_ {A = ℕ} 0 1 = cc in
     absurd (omega arith)
-match-says t mail sub domain text first w x (present q) (Signed.sign g) e c k h rest b = rw (sign-is w x q e) (signed-says t domain text first q g k rest b)
+match-says t mail sub domain exp ts f w x (present q) (Signed.sign g) e c k h rest b = rw (sign-is w x q e) (signed-says t domain exp ts f q g k rest b)
 
 module _ (t : List ℕ) (mail : Mail) (d s : List ℕ) (first : ℕ) (b : List ℕ) (c₀ : Counts) (out : List ℕ) (i : ℕ) (c : Counts) (w : Walk t mail d s first b c₀ out i c) where
   -- no term is left
@@ -161,20 +169,21 @@ module _ (t : List ℕ) (mail : Mail) (d s : List ℕ) (first : ℕ) (b : List �
 
         walk-result : (u : ℕ) → r .matched ≡ Matched.Stop (Ending.Result u)
             → SaysCheck t (run (tableIn t) (tryTerms mail (whole mail) d (termsOf s first) (termsOf s first) c₀)) (record { ending = Ending.Result u; counts = r .counts; failing = FailingPlace.Nowhere }) b z
-        unfolding afterStep failingOf
+        unfolding afterStep failingOf FailingAt
         walk-result u e =
             let g = step-result _ r out z stepped u e in
             rw (← onward .2, term-then (tableIn t) mail (whole mail) d (termsOf s first) (placed s at next x) _ c (r .counts) (stop u) (g .is), g .kept ∙ w .kept)
-            (checked-give t (tableIn t) _ _ b (refl, refl, refl))
+            (checked-give t (tableIn t) _ _ b (refl, refl, refl) tt)
 
         walk-wants : (kind m : ℕ) → r .matched ≡ Matched.Stop (Ending.Wanting kind m)
             → SaysCheck t (run (tableIn t) (tryTerms mail (whole mail) d (termsOf s first) (termsOf s first) c₀)) (record { ending = Ending.Wanting kind m; counts = r .counts; failing = FailingPlace.Nowhere }) b z
+        unfolding FailingAt
         walk-wants kind m e =
             let g = step-wants _ r out z stepped kind m e in
             rw (← onward .2)
             (says-from t _ _ out b z
             (checked-wanted t _ kind m _ out z
-            (record { asked = g .asked; is = term-wants (tableIn t) mail (whole mail) d (termsOf s first) (placed s at next x) _ c (r .counts) kind (g .asked) (g .is); size-is = g .size-is; buffer = g .buffer }) refl)
+            (record { asked = g .asked; is = term-wants (tableIn t) mail (whole mail) d (termsOf s first) (placed s at next x) _ c (r .counts) kind (g .asked) (g .is); size-is = g .size-is; buffer = g .buffer }) refl tt)
             (w .kept))
 
         walk-stop-here : (ending : Ending) → r .matched ≡ Matched.Stop ending
@@ -182,20 +191,21 @@ module _ (t : List ℕ) (mail : Mail) (d s : List ℕ) (first : ℕ) (b : List �
         walk-stop-here (Ending.Result u) e = walk-result u e
         walk-stop-here (Ending.Wanting kind m) e = walk-wants kind m e
 
-        walk-yes-here : (domain text : Span) → d ≡ spanOf t domain → s ≡ spanOf t text → r .matched ≡ Matched.Yes → (o : Checked) → o ≡ signedOf (signOf x) domain text first (r .counts)
+        walk-yes-here : (domain : Span) (exp : Modifier) → Failable t domain exp (termsOf s first) → d ≡ spanOf t domain → r .matched ≡ Matched.Yes → (o : Checked)
+            → o ≡ signedOf (signOf x) domain exp (r .counts)
             → SaysCheck t (run (tableIn t) (tryTerms mail (whole mail) d (termsOf s first) (termsOf s first) c₀)) o b z
         unfolding afterStep
-        walk-yes-here domain text y f e o u =
+        walk-yes-here domain exp k y e o u =
             let v = step-yes _ r out z stepped e in
             rw (← onward .2, term-then (tableIn t) mail (whole mail) d (termsOf s first) (placed s at next x) _ c (r .counts) yes (v .is), u)
             (says-from t _ _ out b z (shown (tryTerms mail (whole mail) d (termsOf s first) (termsFrom (onward .0) s next)) v) (w .kept))
           where
             shown : (rest : Counts → Check Result)
                 → Gives (run (tableIn t) (termStep mail (whole mail) d (placed s at next x .said) (placed s at next x .said .sign) c)) (record { match = yes; counts = r .counts }) out z
-                → SaysCheck t (run (tableIn t) (matchResult d (termsOf s first) (signResult (placed s at next x .said .sign)) (r .counts) rest)) (signedOf (signOf x) domain text first (r .counts)) out z
+                → SaysCheck t (run (tableIn t) (matchResult d (termsOf s first) (signResult (placed s at next x .said .sign)) (r .counts) rest)) (signedOf (signOf x) domain exp (r .counts)) out z
             shown rest v =
-                let g = match-says t mail (whole mail) domain text first (part s at next) x _ (read-signed s i at next x (sym p ∙ q)) refl c (r .counts) (rw y at (v .is)) rest out in
-                rw (v .kept) (rw (← y, ← f) at g)
+                let g = match-says t mail (whole mail) domain exp (termsOf s first) k (part s at next) x _ (read-signed s i at next x (sym p ∙ q)) refl c (r .counts) (rw y at (v .is)) rest out in
+                rw (v .kept) (rw (← y) at g)
 
         pub walk-no : r .matched ≡ Matched.No → Walk t mail d s first b c₀ z next (r .counts)
         unfolding afterStep
@@ -229,31 +239,39 @@ module _ (t : List ℕ) (mail : Mail) (d s : List ℕ) (first : ℕ) (b : List �
 
 -- the ways out, with the record as a part y of the table
 module _ (t : List ℕ) (mail : Mail) (d s : List ℕ) (first : ℕ) (b : List ℕ) (c₀ : Counts) (out : List ℕ) (i : ℕ) (c : Counts) (w : Walk t mail d s first b c₀ out i c)
-    (y : List ℕ) (f : s ≡ y) where
-  pub walk-past : length s < i → (o : Checked) (z : List ℕ)
+    (y : List ℕ) (f : s ≡ y) (m : Modifier) (k : argumentIn y m ≡ modifierOf (bytes "redirect") (termsOf y first)) where
+  here : (o : Checked) (z : List ℕ) → SaysCheck t (run (tableIn t) (noMatch mail (whole mail) d (argumentIn s m) c)) o out z
       → SaysCheck t (run (tableIn t) (noMatch mail (whole mail) d (modifierOf (bytes "redirect") (termsOf s first)) c)) o out z
+  here o z g = rw (rw (← f) at k) at g
+
+  pub walk-past : length s < i → (o : Checked) (z : List ℕ)
+      → SaysCheck t (run (tableIn t) (noMatch mail (whole mail) d (argumentIn s m) c)) o out z
       → SaysCheck t (run (tableIn t) (tryTerms mail (whole mail) d (termsOf y first) (termsOf y first) c₀)) o b z
-  walk-past h o z g = rw (← f) (walk-past-here t mail d s first b c₀ out i c w h o z g)
+  walk-past h o z g = rw (← f) (walk-past-here t mail d s first b c₀ out i c w h o z (here o z g))
 
   module _ (a : TermAnswer) (p : a ≡ readTerm s i) where
     pub walk-ended : OneOf (1 ∷ 2 ∷ []) (tagOf (declared answer-type.enum) a) → (o : Checked) (z : List ℕ)
-        → SaysCheck t (run (tableIn t) (noMatch mail (whole mail) d (modifierOf (bytes "redirect") (termsOf s first)) c)) o out z
+        → SaysCheck t (run (tableIn t) (noMatch mail (whole mail) d (argumentIn s m) c)) o out z
         → SaysCheck t (run (tableIn t) (tryTerms mail (whole mail) d (termsOf y first) (termsOf y first) c₀)) o b z
-    walk-ended h o z g = rw (← f) (walk-ended-here t mail d s first b c₀ out i c w a p h o z g)
+    walk-ended h o z g = rw (← f) (walk-ended-here t mail d s first b c₀ out i c w a p h o z (here o z g))
 
-    module _ (at next : ℕ) (x : Term) (q : a ≡ TermAnswer.Is at next x) (inside : i ≤ length s) (v : List ℕ) (j : v ≡ part s at next) (r : Stepped) (z : List ℕ)
-        (l : SaysStep (run (tableIn t) (termStep mail (whole mail) d (saidOf v x) (saidOf v x .sign) c)) r out z) where
-      pub walk-stop : (ending : Ending) → r .matched ≡ Matched.Stop ending
-          → SaysCheck t (run (tableIn t) (tryTerms mail (whole mail) d (termsOf y first) (termsOf y first) c₀)) (record { ending = ending; counts = r .counts; failing = FailingPlace.Nowhere }) b z
-      walk-stop ending e = rw (← f) (walk-stop-here t mail d s first b c₀ out i c w a p at next x q inside v j r z l ending e)
+module _ (t : List ℕ) (mail : Mail) (d s : List ℕ) (first : ℕ) (b : List ℕ) (c₀ : Counts) (out : List ℕ) (i : ℕ) (c : Counts) (w : Walk t mail d s first b c₀ out i c)
+    (y : List ℕ) (f : s ≡ y) (a : TermAnswer) (p : a ≡ readTerm s i) where
+  module _ (at next : ℕ) (x : Term) (q : a ≡ TermAnswer.Is at next x) (inside : i ≤ length s) (v : List ℕ) (j : v ≡ part s at next) (r : Stepped) (z : List ℕ)
+      (l : SaysStep (run (tableIn t) (termStep mail (whole mail) d (saidOf v x) (saidOf v x .sign) c)) r out z) where
+    pub walk-stop : (ending : Ending) → r .matched ≡ Matched.Stop ending
+        → SaysCheck t (run (tableIn t) (tryTerms mail (whole mail) d (termsOf y first) (termsOf y first) c₀)) (record { ending = ending; counts = r .counts; failing = FailingPlace.Nowhere }) b z
+    walk-stop ending e = rw (← f) (walk-stop-here t mail d s first b c₀ out i c w a p at next x q inside v j r z l ending e)
 
 -- a term that matches, in the record whose domain's name and text stand in the table
 pub walk-yes : (t : List ℕ) (mail : Mail) (d y : List ℕ) (first : ℕ) (b : List ℕ) (c₀ : Counts) (o : Checked) (z : List ℕ)
-    → (x : Term) (domain text : Span) (r : Stepped) → o ≡ signedOf (signOf x) domain text first (r .counts) → d ≡ spanOf t domain → y ≡ spanOf t text
+    → (x : Term) (domain : Span) (exp : Modifier) (r : Stepped) → o ≡ signedOf (signOf x) domain exp (r .counts) → d ≡ spanOf t domain → Failable t domain exp (termsOf y first)
     → (s out : List ℕ) (i : ℕ) (c : Counts) → Walk t mail d s first b c₀ out i c → s ≡ y → (a : TermAnswer) → a ≡ readTerm s i → (at next : ℕ) → a ≡ TermAnswer.Is at next x
     → i ≤ length s → (v : List ℕ) → v ≡ part s at next
     → SaysStep (run (tableIn t) (termStep mail (whole mail) d (saidOf v x) (saidOf v x .sign) c)) r out z
     → r .matched ≡ Matched.Yes
     → SaysCheck t (run (tableIn t) (tryTerms mail (whole mail) d (termsOf y first) (termsOf y first) c₀)) o b z
-walk-yes t mail d y first b c₀ o z x domain text r u g h s out i c w f a p at next q inside v j l e =
-    rw (← f) (walk-yes-here t mail d s first b c₀ out i c w a p at next x q inside v j r z l domain text g (f ∙ h) e o u)
+walk-yes t mail d y first b c₀ o z x domain exp r u g h s out i c w f a p at next q inside v j l e =
+    rw (← f)
+    (walk-yes-here t mail d s first b c₀ out i c w a p at next x q inside v j r z l domain exp
+    (subst (λ (y : List ℕ). Failable t domain exp (termsOf y first)) (sym f) h) g e o u)

@@ -1,12 +1,12 @@
 -- `evaluation::decide` meets its contract. From the rules of Laws.Deciding.
-use Rattle.evaluation.proofs.Laws.Deciding.{decide-explained, decide-asks, decide-wants}
+use Rattle.evaluation.proofs.Laws.Deciding.{decide-placed, decide-wants, decide-result}
 use borrow.Author.Needs.{needs}
 use Rattle.evaluation.proofs.decide.Statement.{statement}
 use Rattle.evaluation.proofs.decide.Tie as tie
 use Rattle.evaluation.proofs.decide.Reads as reads
 use Rattle.evaluation.proofs.decide.Lts as lts
 use Rattle.evaluation.proofs.check_given.Reads as check-given-reads
-use Rattle.explanation.proofs.explain.Reads as explain-reads
+use Rattle.evaluation.proofs.finish.Reads as finish-reads
 
 check-given-requires : tie.Need-check-given-requires
 check-given-requires c κs = search needs
@@ -17,14 +17,8 @@ enum-known-ending c = search needs
 enum-known-ending-2 : tie.Need-enum-known-ending-2
 enum-known-ending-2 c = search needs
 
-explain-requires : tie.Need-explain-requires
-explain-requires c κs = search needs
-
-enum-known-n : tie.Need-enum-known-n
-enum-known-n c = search needs
-
-enum-known-kind : tie.Need-enum-known-kind
-enum-known-kind c = search needs
+finish-requires : tie.Need-finish-requires
+finish-requires c κs = search (decide-placed, needs)
 
 same-length : tie.Need-same-length
 same-length c = search needs
@@ -35,20 +29,8 @@ returns c = search decide-wants
 same-length-2 : tie.Need-same-length-2
 same-length-2 c = search needs
 
-same-length-3 : tie.Need-same-length-3
-same-length-3 c = search needs
-
 returns-2 : tie.Need-returns-2
-returns-2 c = search decide-explained
-
-same-length-4 : tie.Need-same-length-4
-same-length-4 c = search needs
-
-same-length-5 : tie.Need-same-length-5
-same-length-5 c = search needs
-
-returns-3 : tie.Need-returns-3
-returns-3 c = search decide-asks
+returns-2 c = search decide-result
 
 pub decide-spec : {M : Type 1} → statement M
 decide-spec =
@@ -57,14 +39,8 @@ decide-spec =
     check-given-requires
     enum-known-ending
     enum-known-ending-2
-    explain-requires
-    enum-known-n
-    enum-known-kind
+    finish-requires
     same-length
     returns
     same-length-2
-    same-length-3
-    returns-2
-    same-length-4
-    same-length-5
-    returns-3)
+    returns-2)

@@ -1,4 +1,4 @@
--- `evaluation::evaluate` meets its contract. From the rules of Laws.Deciding: 20 to 26 first, then the check and its explanation.
+-- `evaluation::evaluate` meets its contract. From the rules of Laws.Deciding: 20 to 26 first, then the check.
 use Rattle.evaluation.proofs.Laws.Deciding.{sender-small, evaluated-refused, evaluated-long, evaluated-malformed, evaluated-repeated, evaluated-decided}
 use borrow.Author.Needs.{needs}
 use Rattle.evaluation.proofs.evaluate.Statement.{statement}
@@ -6,9 +6,9 @@ use Rattle.evaluation.proofs.evaluate.Tie as tie
 use Rattle.evaluation.proofs.evaluate.Reads as reads
 use Rattle.evaluation.proofs.evaluate.Lts as lts
 use Rattle.address.proofs.as_client.Reads as as-client-reads
+use Rattle.answer_table.proofs.check_table.Reads as check-table-reads
 use Rattle.evaluation.proofs.decide.Reads as decide-reads
 use Rattle.evaluation.proofs.refusal.Reads as refusal-reads
-use Rattle.answer_table.proofs.check_table.Reads as check-table-reads
 
 refusal-requires : tie.Need-refusal-requires
 refusal-requires c κs = search needs
@@ -35,25 +35,22 @@ decide-requires : tie.Need-decide-requires
 decide-requires c κs = search (sender-small, needs)
 
 returns : tie.Need-returns
-returns c = evaluated-long _ _ _ _ _ _ _ _ _ _ (c .before .before .before .before .refusal .ensures) (c .before .before .before .if1 .taken) _ (c .before .before .check-table .ensures .0) (c .enum-told .given .1)
+returns c = search evaluated-long
 
 returns-2 : tie.Need-returns-2
-returns-2 c = evaluated-malformed _ _ _ _ _ _ _ _ _ _ (c .before .before .before .before .before .refusal .ensures) (c .before .before .before .before .if1 .taken) _ (c .before .before .before .check-table .ensures .0) _ (c .before .at .given .1)
+returns-2 c = search evaluated-malformed
 
 returns-3 : tie.Need-returns-3
-returns-3 c = evaluated-repeated _ _ _ _ _ _ _ _ _ _ (c .before .before .before .before .before .refusal .ensures) (c .before .before .before .before .if1 .taken) _ (c .before .before .before .check-table .ensures .0) _ (c .before .at2 .given .1)
+returns-3 c = search evaluated-repeated
 
 same-length : tie.Need-same-length
 same-length c = search needs
 
-same-length-2 : tie.Need-same-length-2
-same-length-2 c = search needs
-
 returns-4 : tie.Need-returns-4
-returns-4 c = evaluated-decided _ _ _ _ _ _ _ _ _ _ (c .before .before .before .before .before .before .before .before .before .before .before .before .refusal .ensures) (c .before .before .before .before .before .before .before .before .before .before .before .if1 .taken) _ (c .before .before .before .before .before .before .before .before .before .before .check-table .ensures .0) _ (c .before .before .before .before .before .before .before .before .enum-told2 .given .1) _ (c .before .before .before .before .before .before .before .as-client .ensures .0) _ _ _ (c .before .before .before .before .decide .ensures)
+returns-4 c = search evaluated-decided
 
 returns-5 : tie.Need-returns-5
-returns-5 c = evaluated-refused _ _ _ _ _ _ _ _ _ _ (c .before .refusal .ensures) (c .if1 .left)
+returns-5 c = search evaluated-refused
 
 pub evaluate-spec : {M : Type 1} → statement M
 evaluate-spec =
@@ -71,6 +68,5 @@ evaluate-spec =
     returns-2
     returns-3
     same-length
-    same-length-2
     returns-4
     returns-5)

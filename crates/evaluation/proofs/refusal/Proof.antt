@@ -39,10 +39,6 @@ returns-5 : tie.Need-returns-5
 unfolding refusalOf
 returns-5 c = search ways
 
-returns-6 : tie.Need-returns-6
-unfolding refusalOf
-returns-6 c = search ways
-
 pub refusal-spec : {M : Type 1} → statement M
 refusal-spec =
     tie.close
@@ -54,5 +50,4 @@ refusal-spec =
     returns-2
     returns-3
     returns-4
-    returns-5
-    returns-6)
+    returns-5)

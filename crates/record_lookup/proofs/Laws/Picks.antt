@@ -8,7 +8,7 @@ use mir.Syntax.{w64}
 use mir.Val.{Fits}
 use lib.ListN.{length, drop, length-take, length-drop}
 use Rattle.text.specs.Bytes.{part}
-use Rattle.answer_table.specs.Reader.{firstItem, itemsOf, nextItem}
+use Rattle.answer_table.specs.Reader.{firstItem, itemsOf, nextItem, Starts, first, next as next-start}
 use Rattle.answer_table.proofs.Laws.Items.{items-step, items-end, next-further}
 use Rattle.answer_table.proofs.Laws.Places.{item-part}
 use Rattle.records.specs.Reader.{hasVersion}
@@ -17,25 +17,26 @@ use Rattle.record_lookup.specs.Picking.{oneMore, joined, PickedIs}
 use Rattle.record_lookup.specs.declared.Picked.{Picked}
 
 -- a further record
-one-more-is : (t : List ℕ) (ss : List (List ℕ)) (p : Picked) (from to : ℕ) (u : List ℕ) → part t from to ≡ u → PickedIs t ss p
-    → PickedIs t (ss ++ (u ∷ [])) (oneMore p from to)
+one-more-is : (start : ℕ) (w : List ℕ) (ss : List (List ℕ)) (p : Picked) (i : ℕ) → Starts w i → i < length w → PickedIs start w ss p
+    → PickedIs start w (ss ++ (firstItem (drop i w) ∷ [])) (oneMore p (start + i + 2) (start + nextItem w i))
 unfolding PickedIs oneMore
-one-more-is t [] p from to u e h = rw h (from, to, refl, e)
-one-more-is t (s ∷ []) p from to u e h = rw (h .2)
-one-more-is t (s ∷ v ∷ ss) p from to u e h = rw h
+one-more-is start w [] p i b l h = rw h (i, b, l, refl, refl)
+one-more-is start w (s ∷ []) p i b l h = rw (h .3)
+one-more-is start w (s ∷ v ∷ ss) p i b l h = rw h
 
 -- at a place of the items: the records before it, and the answer for them
-pub record Walk (t s : List ℕ) (i : ℕ) (p : Picked) : Type 0 where
+pub record Walk (start : ℕ) (s : List ℕ) (i : ℕ) (p : Picked) : Type 0 where
   pub seen : List (List ℕ)
   pub whole : versioned (itemsOf s) ≡ seen ++ versioned (itemsOf (drop i s))
-  pub answer : PickedIs t seen p
+  pub answer : PickedIs start s seen p
+  pub starts : Starts s i
 
-pub pick-start : (t s : List ℕ) → Walk t s 0 Picked.Nothing
+pub pick-start : (start : ℕ) (s : List ℕ) → Walk start s 0 Picked.Nothing
 unfolding PickedIs
-pick-start t s = record { seen = []; whole = refl; answer = refl }
+pick-start start s = record { seen = []; whole = refl; answer = refl; starts = first }
 
-module _ (t : List ℕ) (start end : ℕ) (s : List ℕ) (e : s ≡ part t start end) (i : ℕ) (p : Picked) (w : Walk t s i p) where
-  pub pick-end : length s ≤ i → PickedIs t (versioned (itemsOf (part t start end))) p
+module _ (t : List ℕ) (start end : ℕ) (s : List ℕ) (e : s ≡ part t start end) (i : ℕ) (p : Picked) (w : Walk start s i p) where
+  pub pick-end : length s ≤ i → PickedIs start (part t start end) (versioned (itemsOf (part t start end))) p
   unfolding versioned
   pick-end h =
       let a : versioned (itemsOf s) ≡ w .seen = rw (items-end s i h, append-nil) at (w .whole) in
@@ -60,7 +61,7 @@ module _ (t : List ℕ) (start end : ℕ) (s : List ℕ) (e : s ≡ part t start
     item-is : part t (start + i + 2) (start + nextItem s i) ≡ firstItem (drop i s)
     item-is = rw e (sym (item-part t start end i))
 
-    pub pick-next : (next : ℕ) → next ≡ nextItem s i → (r : Picked) → r ≡ joined t p (start + i + 2) (start + next) → Walk t s next r
+    pub pick-next : (next : ℕ) → next ≡ nextItem s i → (r : Picked) → r ≡ joined t p (start + i + 2) (start + next) → Walk start s next r
     unfolding joined versioned
     pick-next next k r q = by (hasVersion (firstItem (drop i s))) refl
       where
@@ -70,16 +71,21 @@ module _ (t : List ℕ) (start end : ℕ) (s : List ℕ) (e : s ≡ part t start
         text : part t (start + i + 2) (start + next) ≡ firstItem (drop i s)
         text = rw k item-is
 
-        by : (b : Bool) → hasVersion (firstItem (drop i s)) ≡ b → Walk t s next r
+        further : Starts s next
+        further = rw k (next-start (w .starts) here)
+
+        by : (b : Bool) → hasVersion (firstItem (drop i s)) ≡ b → Walk start s next r
         by true h = record {
           seen = w .seen ++ (firstItem (drop i s) ∷ []);
           whole = rw append-assoc (rw h at rest);
-          answer = rw (q, text, h) (one-more-is t (w .seen) p (start + i + 2) (start + next) (firstItem (drop i s)) text (w .answer));
+          answer = rw (q, text, h, k) (one-more-is start s (w .seen) p i (w .starts) here (w .answer));
+          starts = further;
         }
         by false h = record {
           seen = w .seen;
           whole = rw h at rest;
           answer = rw (q, text, h) (w .answer);
+          starts = further;
         }
 
 -- a further text

@@ -13,7 +13,7 @@ use Rattle.answer_table.proofs.items.next_item.Reads as next-item-reads
 use Rattle.text.proofs.bytes.part.Reads as part-reads
 
 abbrev Inv-loop : tie.InvT-loop
-Inv-loop table start end texts at₀ seen₀ at seen = Walk table texts at seen
+Inv-loop table start end texts at₀ seen₀ at seen = Walk start texts at seen
 
 abbrev μ-loop : tie.MeasureT-loop
 μ-loop table start end texts at₀ seen₀ at seen = length texts - at

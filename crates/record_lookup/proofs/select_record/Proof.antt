@@ -5,7 +5,6 @@ use Rattle.record_lookup.proofs.select_record.Statement.{statement}
 use Rattle.record_lookup.proofs.select_record.Tie as tie
 use Rattle.record_lookup.proofs.select_record.Reads as reads
 use Rattle.record_lookup.proofs.select_record.Lts as lts
-use Rattle.client_match.proofs.want.Reads as want-reads
 use Rattle.answer_table.proofs.find.Reads as find-reads
 use Rattle.record_lookup.proofs.pick.Reads as pick-reads
 
@@ -17,12 +16,6 @@ enum-known-status c = search needs
 
 enum-told : tie.Need-enum-told
 enum-told c = search needs
-
-want-requires : tie.Need-want-requires
-want-requires c κs = search needs
-
-same-length : tie.Need-same-length
-same-length c = search needs
 
 returns : tie.Need-returns
 returns c = search select-missing
@@ -42,8 +35,8 @@ enum-told-3 c = search needs
 enum-known-from : tie.Need-enum-known-from
 enum-known-from c = search needs
 
-sub-t19 : tie.Need-sub-t19
-sub-t19 c = search name-before
+sub-t13 : tie.Need-sub-t13
+sub-t13 c = search name-before
 
 returns-3 : tie.Need-returns-3
 returns-3 c = search select-none
@@ -61,15 +54,13 @@ select-record-spec =
     find-requires
     enum-known-status
     enum-told
-    want-requires
-    same-length
     returns
     returns-2
     pick-requires
     enum-told-2
     enum-told-3
     enum-known-from
-    sub-t19
+    sub-t13
     returns-3
     returns-4
     returns-5)

@@ -1,16 +1,14 @@
 -- The ways out of the functions that read a record, each with a rule whose premises are what the code knows there, and that a term's next
--- place lies further on. From the definitions of Reader, the laws of runs, and what Terms and Records say of the answers.
+-- place lies further on. From the definitions of Reader, the laws of runs, where terms stand, and what Terms and Records say of the answers.
 use Prim.Native.Nat.{ℕ, zero, suc, _+_, _-_, _≤_, _<_}
 use mathlib.Core.Path.{_≡_, refl, sym, ap, _∙_}
-use mathlib.Core.List.{List, [], _∷_}
+use mathlib.Core.List.{List, []}
 use mathlib.Core.Bool.{Bool, true, false, _&&_, _||_}
 use native.Mathlib.Omega.{arith}
 use native.Mathlib.Nat.{sub-self}
-use lib.ListN.{length, length-drop, length-append}
+use lib.ListN.{length}
 use lib.Dec.{eqb}
 use borrow.Author.Tests.{eq-eqb, ne-eqb, eqb-true, le-ltb}
-use types.Run.{OneOf, miss}
-use denote.Enum.Declared.{tagOf, declared}
 use Rattle.address.specs.declared.Address.{Address}
 use Rattle.address.specs.declared.Address.the-variants.{IPv4, IPv6}
 use Rattle.text.specs.Bytes.{at, part}
@@ -25,11 +23,11 @@ use Rattle.records.specs.declared.Term.{Term}
 use Rattle.records.specs.declared.Token.{Token}
 use Rattle.records.specs.declared.TermAnswer.{TermAnswer}
 use Rattle.records.specs.declared.RecordAnswer.{RecordAnswer}
-use Rattle.records.specs.Numbers.{optional, networkSaid, saidOf, termReport}
+use Rattle.records.specs.Numbers.{optional, networkSaid, saidOf}
 use Rattle.records.specs.Answers.{most-bytes, ReadsArgument}
 use Rattle.records.specs.Reader.{tokenOf, tokenAnswer, termFrom, readTerm, isRedirect, isExplanation, checkAfter, checkFrom, hasVersion, readRecord, after-version}
-use Rattle.records.proofs.Term as term-type
-use Rattle.records.proofs.Laws.Terms.{read-long, read-past, found}
+use Rattle.records.proofs.Laws.Arguments.{stands}
+use Rattle.records.proofs.Laws.Terms.{read-long, read-past}
 use Rattle.records.proofs.Laws.Walks.{check-twice, check-on}
 use Rattle.records.proofs.Laws.Records.{read-record-long, read-record-other, read-record-terms}
 use Rattle.records.proofs.Laws.Versions.{version-of, version-inside}
@@ -67,10 +65,7 @@ module _ (s : List ℕ) (i : ℕ) where
 
 -- the next place of a term lies further on and inside
 term-next : (s : List ℕ) (i : ℕ) (r : TermAnswer) → r ≡ readTerm s i → (p e : ℕ) (t : Term) → r ≡ TermAnswer.Is p e t → (i < e) × (e ≤ length s)
-term-next s i r q p e t h =
-    let f = found s i e _ (ap (termReport s) (sym q ∙ h)) in
-    let c = simp length-append at (ap length (f .split)) in
-    (omega (arith, f .next-is, f .run .some), omega (arith, c, f .next-is, f .run .some, length-drop i s))
+term-next s i r q p e t h = let k = stands s i p e t (sym q ∙ h) in (omega (arith, k .after, k .some), k .inside)
 
 -- so that what is left to read falls
 pub next-less : (s : List ℕ) (i : ℕ) (r : TermAnswer) → r ≡ readTerm s i → (p e : ℕ) (t : Term) → r ≡ TermAnswer.Is p e t
@@ -139,49 +134,6 @@ module _ (s t : List ℕ) (p : t ≡ part s 0 after-version) (x : Bool) (q : x �
 pub version-read : (s : List ℕ) (x : Bool) → x ≡ hasVersion s → x ≡ true → after-version ≤ length s
 version-read s x p q = version-inside (version-of s (sym p ∙ q))
 
--- `is_redirect`, `is_explanation`, where a term is of another case
-pub no-redirect : (t : Term) → OneOf (0 ∷ 1 ∷ 2 ∷ 3 ∷ 4 ∷ 5 ∷ 6 ∷ 8 ∷ 9 ∷ []) (tagOf (declared term-type.enum) t) → false ≡ isRedirect t
-unfolding isRedirect
-no-redirect (Term.Redirect from to) h = absurd (miss (0 ∷ 1 ∷ 2 ∷ 3 ∷ 4 ∷ 5 ∷ 6 ∷ 8 ∷ 9 ∷ []) 7 tt h)
-no-redirect (Term.All sign) h = refl
-no-redirect (Term.Include sign from to) h = refl
-no-redirect (Term.A sign from to n m) h = refl
-no-redirect (Term.Mx sign from to n m) h = refl
-no-redirect (Term.Ptr sign from to) h = refl
-no-redirect (Term.Network sign from to x n) h = refl
-no-redirect (Term.Exists sign from to) h = refl
-no-redirect (Term.Explanation from to) h = refl
-no-redirect (Term.Unknown name to) h = refl
-
-pub no-explanation : (t : Term) → OneOf (0 ∷ 1 ∷ 2 ∷ 3 ∷ 4 ∷ 5 ∷ 6 ∷ 7 ∷ 9 ∷ []) (tagOf (declared term-type.enum) t) → false ≡ isExplanation t
-unfolding isExplanation
-no-explanation (Term.Explanation from to) h = absurd (miss (0 ∷ 1 ∷ 2 ∷ 3 ∷ 4 ∷ 5 ∷ 6 ∷ 7 ∷ 9 ∷ []) 8 tt h)
-no-explanation (Term.All sign) h = refl
-no-explanation (Term.Include sign from to) h = refl
-no-explanation (Term.A sign from to n m) h = refl
-no-explanation (Term.Mx sign from to n m) h = refl
-no-explanation (Term.Ptr sign from to) h = refl
-no-explanation (Term.Network sign from to x n) h = refl
-no-explanation (Term.Exists sign from to) h = refl
-no-explanation (Term.Redirect from to) h = refl
-no-explanation (Term.Unknown name to) h = refl
-
-pub redirect-is : (t : Term) (from to : ℕ) → t ≡ Term.Redirect from to → true ≡ isRedirect t
-unfolding isRedirect
-redirect-is t from to e = sym (simp e)
-
-pub explanation-is : (t : Term) (from to : ℕ) → t ≡ Term.Explanation from to → true ≡ isExplanation t
-unfolding isExplanation
-explanation-is t from to e = sym (simp e)
-
--- `repeats`
-module _ (r e : Bool) (t : Term) (a : Bool) (p : a ≡ isRedirect t) (x : Bool) (q : x ≡ (r && a)) where
-  pub repeats-redirect : x ≡ true → true ≡ ((r && isRedirect t) || (e && isExplanation t))
-  repeats-redirect h = sym (simp (ap (λ (b : Bool). r && b) (sym p) ∙ sym q ∙ h))
-
-  pub repeats-explanation : x ≡ false → (b : Bool) → b ≡ isExplanation t → (y : Bool) → y ≡ (e && b) → y ≡ ((r && isRedirect t) || (e && isExplanation t))
-  repeats-explanation h b f y g = g ∙ ap (λ (z : Bool). e && z) f ∙ sym (simp (ap (λ (b : Bool). r && b) (sym p) ∙ sym q ∙ h))
-
 -- `check_terms`
 module _ (s : List ℕ) (i : ℕ) (r e : Bool) (inside : i ≤ length s) (a : TermAnswer) (p : a ≡ readTerm s i) where
   check-ended : (x : RecordAnswer) → ((rest : ℕ → Bool → Bool → RecordAnswer) → x ≡ checkAfter r e a rest) → (f : ℕ) → length s < f + i → x ≡ checkFrom f s i r e
@@ -197,13 +149,13 @@ module _ (s : List ℕ) (i : ℕ) (r e : Bool) (inside : i ≤ length s) (a : Te
     check-repeats h zero l = absurd (omega arith)
     check-repeats h (suc f) l = sym (check-twice f s i r e at n t read (sym g ∙ h))
 
-    module _ (b : Bool) (hb : b ≡ isRedirect t) (r′ : Bool) (hr : r′ ≡ (r || b)) (c : Bool) (hc : c ≡ isExplanation t) (e′ : Bool) (he : e′ ≡ (e || c)) where
+    module _ (r′ e′ : Bool) (hr : r′ ≡ (r || isRedirect t)) (he : e′ ≡ (e || isExplanation t)) where
       check-next : x ≡ false → (y : RecordAnswer) → ((f : ℕ) → length s < f + n → y ≡ checkFrom f s n r′ e′)
           → (f : ℕ) → length s < f + i → y ≡ checkFrom f s i r e
       check-next h y ih zero l = absurd (omega arith)
       check-next h y ih (suc f) l =
           let k = term-next s i a p at n t q in
-          let j : checkFrom f s n r′ e′ ≡ checkFrom f s n (r || isRedirect t) (e || isExplanation t) = simp (hr, hb, he, hc) in
+          let j : checkFrom f s n r′ e′ ≡ checkFrom f s n (r || isRedirect t) (e || isExplanation t) = simp (hr, he) in
           ih f (omega (arith, k .0)) ∙ j ∙ sym (check-on f s i r e at n t read (sym g ∙ h))
 
 -- part way through the terms: what is answered from here on is answered of all
@@ -228,11 +180,10 @@ module _ (s : List ℕ) (i₀ i : ℕ) (r e : Bool) (w : Checking s i₀ i r e) 
         pub checking-repeats : x ≡ true → (f : ℕ) → length s < f + i₀ → RecordAnswer.Refused 33 at ≡ checkFrom f s i₀ false false
         checking-repeats h = w .rest (RecordAnswer.Refused 33 at) (check-repeats s i r e (w .inside) a p at n t q x g h)
 
-        pub checking-next : x ≡ false → (b : Bool) → b ≡ isRedirect t → (r′ : Bool) → r′ ≡ (r || b) → (c : Bool) → c ≡ isExplanation t → (e′ : Bool) → e′ ≡ (e || c)
-            → Checking s i₀ n r′ e′
-        checking-next h b hb r′ hr c hc e′ he = record {
+        pub checking-next : x ≡ false → (r′ e′ : Bool) → r′ ≡ (r || isRedirect t) → e′ ≡ (e || isExplanation t) → Checking s i₀ n r′ e′
+        checking-next h r′ e′ hr he = record {
           inside = term-next s i a p at n t q .1;
-          rest = λ y ih. w .rest y (check-next s i r e (w .inside) a p at n t q x g b hb r′ hr c hc e′ he h y ih);
+          rest = λ y ih. w .rest y (check-next s i r e (w .inside) a p at n t q x g r′ e′ hr he h y ih);
         }
 
 -- `open_record`

@@ -1,5 +1,5 @@
--- A record has one opening for a client: two places up to which all terms pass, and at which the next doesn't, are the same. From the definitions of
--- Opening.
+-- A record has one opening for a client: two places up to which all terms pass, and at which the next doesn't, are the same. And where it is accepted,
+-- its modifiers stand at one place each. From the definitions of Opening, the laws of Standing, and that an accepted record has a reading.
 use Prim.Native.Nat.{ℕ}
 use mathlib.Core.Path.{_≡_, refl, sym, ap, subst, _∙_}
 use mathlib.Core.List.{List}
@@ -10,8 +10,12 @@ use Rattle.records.specs.declared.Term.{Term}
 use Rattle.records.specs.declared.TermAnswer.{TermAnswer}
 use Rattle.records.specs.declared.opening.Unaided.{Unaided}
 use Rattle.records.specs.declared.opening.Opening.{Opening}
+use Rattle.records.specs.declared.opening.Modifier.{Modifier}
+use Rattle.records.specs.declared.opening.Reading.{Reading}
 use Rattle.records.specs.Reader.{readTerm, after-version}
-use Rattle.records.specs.Opening.{unaided, Passing, Asking, Leads, OpeningOf, answerOf}
+use Rattle.records.specs.Opening.{unaided, Passing, Asking, Leads, Accepts, OpeningOf, answerOf}
+use Rattle.records.proofs.Laws.Records.{record-accepting, record-complete}
+use Rattle.records.proofs.Laws.Standing.{modifier-at-one}
 use Rattle.records.proofs.Laws.Openings.{one-term}
 
 module _ (client : Address) (s : List ℕ) where
@@ -86,5 +90,18 @@ module _ (client : Address) (s : List ℕ) where
   leads-one i o o′ (Leads.opened p a) Leads.refused g = absurd (let z : _≡_ {A = ℕ} 0 1 = cc in omega arith)
   leads-one i o o′ (Leads.matched p q e) Leads.refused g = absurd (let z : _≡_ {A = ℕ} 0 1 = cc in omega arith)
 
-  pub opening-one : (o o′ : Opening) → OpeningOf client s o → OpeningOf client s o′ → o ≡ o′
-  opening-one o o′ f g = leads-one after-version o o′ (f .leads) (g .leads) (f .answer ∙ sym (g .answer))
+  -- an accepted record has a reading, and with it one redirect and one exp, or none
+  modifiers-one : (r r′ : Reading) → OpeningOf client s r → OpeningOf client s r′ → r .opening ≡ r′ .opening → Accepts (r .opening) → r .modifiers ≡ r′ .modifiers
+  modifiers-one r r′ f g e h =
+      let a = record-accepting s after-version (sym (f .answer) ∙ h) in
+      let w = record-complete (a .reading) (a .short) .walk in
+      let x = f .modifiers h in
+      let y = g .modifiers (ap answerOf (sym e) ∙ h) in
+      ap (λ (u : Modifier). record { redirect = u; exp = r .modifiers .exp }) (modifier-at-one (x .redirect (a .terms) w) (y .redirect (a .terms) w))
+      ∙ ap (λ (u : Modifier). record { redirect = r′ .modifiers .redirect; exp = u }) (modifier-at-one (x .exp (a .terms) w) (y .exp (a .terms) w))
+
+  pub opening-one : (r r′ : Reading) → OpeningOf client s r → OpeningOf client s r′
+      → (r .opening ≡ r′ .opening) × (Accepts (r .opening) → r .modifiers ≡ r′ .modifiers)
+  opening-one r r′ f g =
+      let e = leads-one after-version (r .opening) (r′ .opening) (f .leads) (g .leads) (f .answer ∙ sym (g .answer)) in
+      (e, modifiers-one r r′ f g e)

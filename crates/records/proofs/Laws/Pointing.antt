@@ -29,6 +29,7 @@ use Rattle.records.specs.declared.Token.{Token}
 use Rattle.records.specs.declared.TermAnswer.{TermAnswer}
 use Rattle.records.specs.declared.RecordAnswer.{RecordAnswer}
 use Rattle.records.specs.declared.opening.Opening.{Opening}
+use Rattle.records.specs.declared.opening.Reading.{Reading}
 use Rattle.records.proofs.TermAnswer as answer-type
 use Rattle.records.proofs.Laws.Longest.{none-begins, some-begins, shorter-begins, empty-begins, longest-found, longest-halved}
 use Rattle.records.proofs.Laws.Terms.{read-long, term-answers}
@@ -201,16 +202,16 @@ module _ (s : List ℕ) (i : ℕ) (a : TermAnswer) (e : a ≡ readTerm s i) wher
 pub record-answered : (s : List ℕ) (r : RecordAnswer) → r ≡ pointedRecord s → (r ≡ pointedRecord s) × ReadsRecord s r
 record-answered s r e = (e, subst (ReadsRecord s) (sym e) (record-answers s))
 
-module _ (client : Address) (s : List ℕ) (o : Opening) (g : OpeningOf client s o) where
-  pub record-matched : (sign : ℕ) → o ≡ Opening.Matched sign → RecordAnswer.Accepted after-version ≡ pointedRecord s
+module _ (client : Address) (s : List ℕ) (r : Reading) (g : OpeningOf client s r) where
+  pub record-matched : (sign : ℕ) → r .opening ≡ Opening.Matched sign → RecordAnswer.Accepted after-version ≡ pointedRecord s
   unfolding pointRecord answerOf
   record-matched sign e = ap (λ (x : Opening). pointRecord s (answerOf x)) (sym e) ∙ ap (pointRecord s) (g .answer)
 
-  pub record-open : (at : ℕ) → o ≡ Opening.Open at → RecordAnswer.Accepted after-version ≡ pointedRecord s
+  pub record-open : (at : ℕ) → r .opening ≡ Opening.Open at → RecordAnswer.Accepted after-version ≡ pointedRecord s
   unfolding pointRecord answerOf
   record-open at e = ap (λ (x : Opening). pointRecord s (answerOf x)) (sym e) ∙ ap (pointRecord s) (g .answer)
 
-  module _ (number p : ℕ) (q : o ≡ Opening.Refused number p) where
+  module _ (number p : ℕ) (q : r .opening ≡ Opening.Refused number p) where
     pub record-short : 30 < number → length s ≤ most-bytes
     unfolding answerOf
     record-short k = ⊎-elim (λ (h : length s ≤ most-bytes). h)

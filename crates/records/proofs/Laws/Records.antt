@@ -207,10 +207,13 @@ accepting s n a = by a refl
         let e : n ≡ length v = cc in
         record { short = h; first = e ∙ version-size d; terms = ts; reading = r }
 
+pub record-accepting : (s : List ℕ) (n : ℕ) → readRecord s ≡ RecordAnswer.Accepted n → Accepting s n
+unfolding pointRecord
+record-accepting s n e = accepting s n (subst (λ (r : RecordAnswer). ReadsRecord s (pointRecord s r)) e (record-answers s))
+
 -- sound: what is accepted, the grammar produces
 pub record-sound : (s : List ℕ) (n : ℕ) → readRecord s ≡ RecordAnswer.Accepted n → (ts : List Placed) × Record s ts
-unfolding pointRecord
-record-sound s n e = let a = accepting s n (subst (λ (r : RecordAnswer). ReadsRecord s (pointRecord s r)) e (record-answers s)) in (a .terms, a .reading)
+record-sound s n e = let a = record-accepting s n e in (a .terms, a .reading)
 
 outside-is : {s : List ℕ} {ts : List Placed} {w : List ℕ} {p : ℕ} → length s ≤ most-bytes → Front s ts w p → Once ts → NoTerm w → readRecord s ≡ RecordAnswer.Refused 32 p
 unfolding tokenAnswer

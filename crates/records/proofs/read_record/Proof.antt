@@ -3,10 +3,6 @@ use Rattle.records.proofs.Laws.Pointing.{record-answered, record-matche
 use borrow.Author.Needs.{needs}
 use Rattle.records.proofs.read_record.Statement.{statement}
 use Rattle.records.proofs.read_record.Tie as tie
-use Rattle.records.proofs.read_record.Reads as reads
-use Rattle.records.proofs.read_record.Lts as lts
-use Rattle.records.proofs.opening.open_record.Reads as open-record-reads
-use Rattle.records.proofs.point.Reads as point-reads
 
 open-record-requires : tie.Need-open-record-requires
 open-record-requires c κs = search needs
@@ -17,8 +13,8 @@ enum-told c = search needs
 enum-told-2 : tie.Need-enum-told-2
 enum-told-2 c = search needs
 
-enum-known-number : tie.Need-enum-known-number
-enum-known-number c = search needs
+enum-known-opening : tie.Need-enum-known-opening
+enum-known-opening c = search needs
 
 point-requires : tie.Need-point-requires
 point-requires c κs = search record-short
@@ -39,7 +35,7 @@ read-record-spec =
     open-record-requires
     enum-told
     enum-told-2
-    enum-known-number
+    enum-known-opening
     point-requires
     returns
     returns-2

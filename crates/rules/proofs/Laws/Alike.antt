@@ -54,3 +54,12 @@ module _ {t : Table} {asked : ℕ → List ℕ → Counts → Type 0} where
       by : (x : Settled A) → Holds asked P x → (then x (λ a. run t (f a)) ≡ then x (λ a. run t (f′ a))) × Holds asked Q (then x (λ a. run t (f a)))
       by (settled a) p = (k a p .same, k a p .holds)
       by (wanting kind n c) p = (refl, p)
+
+  -- a weaker fact of the value
+  pub alike-weaken : {A : Type 0} {P Q : A → Type 0} {m m′ : Check A} → ((a : A) → P a → Q a) → Alike t asked P m m′ → Alike t asked Q m m′
+  unfolding Holds
+  alike-weaken {A} {P} {Q} {m} f h = record { same = h .same; holds = by (run t m) (h .holds) }
+    where
+      by : (x : Settled A) → Holds asked P x → Holds asked Q x
+      by (settled a) p = f a p
+      by (wanting kind n c) p = p

@@ -1,21 +1,22 @@
--- SPF entries change no evaluation: W-207 amends the house rules, they are "ignored". From growth: the table without them lacks no question of their kind
--- (`verdict-facts`), so that any table with the same other entries settles what it settles.
-use Prim.Native.Nat.{ℕ}
+-- SPF entries change no evaluation and no explanation: W-207 amends the house rules, they are "ignored". From growth: the table without them lacks no
+-- question of their kind (`evaluation-facts`, `explanation-facts`), so that any table with the same other entries settles what it settles.
+use Prim.Native.Nat.{ℕ, _≤_}
 use native.Mathlib.Omega.{arith}
 use mathlib.Core.Path.{_≡_, refl, sym, _∙_}
 use mathlib.Core.List.{List}
 use mathlib.Core.Bool.{cond}
 use lib.Dec.{eqb}
+use lib.ListN.{length}
 use borrow.Author.Tests.{eqb-false, ne-eqb}
 use Rattle.text.proofs.Laws.Tests.{cond-elim}
 use Rattle.answer_table.specs.Layout.{kind-spf}
 use Rattle.records.specs.Readings.{Optional, absent, present}
-use Rattle.rules.specs.Tree.{Reply, Table, Settled, settled, wanting, run}
+use Rattle.rules.specs.Tree.{Reply, Table, Check, Settled, settled, wanting, run}
 use Rattle.rules.specs.Mechanisms.{Mail}
-use Rattle.rules.specs.Evaluation.{Verdict, verdict}
+use Rattle.rules.specs.Evaluation.{noCounts, evaluation, most-text, explanation, verdict}
 use Rattle.rules.proofs.Laws.Alike.{Holds}
 use Rattle.rules.proofs.Laws.Kept.{AskedKind, of-a, of-ptr, of-mx, of-txt, of-aaaa}
-use Rattle.rules.proofs.Laws.Verdicts.{AskedFacts, VerdictFacts, verdict-facts}
+use Rattle.rules.proofs.Laws.Verdicts.{AskedFacts, ResultFacts, VerdictFacts, evaluation-facts, explanation-facts, verdict-facts}
 use Rattle.rules.proofs.Laws.Growth.{Within, Lacking, grown}
 
 -- two tables have the same for every question but SPF's
@@ -42,13 +43,24 @@ module _ (t u : Table) (e : SameOthers t u) where
       (λ _ q. let z : _≡_ {A = ℕ} 0 1 = cc in absurd (omega arith))
       (λ h q. e k d (eqb-false k kind-spf h) ∙ q)
 
-  others-lacking : (x : Settled Verdict) → Holds (AskedFacts (others t)) VerdictFacts x → Lacking (others t) u x
+  others-lacking : {A : Type 0} (P : A → Type 0) (x : Settled A) → Holds (AskedFacts (others t)) P x → Lacking (others t) u x
   unfolding Holds Lacking others
-  others-lacking (settled v) h = tt
-  others-lacking (wanting k d c) h = let n = not-spf (h .asked-kind) in λ q. e k d n ∙ (rw (ne-eqb k kind-spf n) at q)
+  others-lacking P (settled a) h = tt
+  others-lacking P (wanting k d c) h = let n = not-spf (h .asked-kind) in λ q. e k d n ∙ (rw (ne-eqb k kind-spf n) at q)
 
-  by-others : (mail : Mail) (domain : List ℕ) → run u (verdict mail domain) ≡ run (others t) (verdict mail domain)
-  by-others mail domain = grown (others t) u others-within (verdict mail domain) (others-lacking _ (verdict-facts (others t) mail domain))
+  by-others : {A : Type 0} (P : A → Type 0) (m : Check A) → Holds (AskedFacts (others t)) P (run (others t) m) → run u m ≡ run (others t) m
+  by-others P m h = grown (others t) u others-within m (others-lacking P (run (others t) m) h)
 
-pub spf-ignored : (t u : Table) → SameOthers t u → (mail : Mail) (domain : List ℕ) → run u (verdict mail domain) ≡ run t (verdict mail domain)
-spf-ignored t u e mail domain = by-others t u e mail domain ∙ sym (by-others t t (λ k d n. refl) mail domain)
+-- a check whose questions are of the five kinds settles the same with both
+ignored : {A : Type 0} (P : Table → A → Type 0) (m : Check A) → ((t : Table) → Holds (AskedFacts t) (P t) (run t m)) → (t u : Table) → SameOthers t u → run u m ≡ run t m
+ignored P m h t u e = by-others t u e (P (others t)) m (h (others t)) ∙ sym (by-others t t (λ k d n. refl) (P (others t)) m (h (others t)))
+
+module _ (t u : Table) (e : SameOthers t u) (mail : Mail) where
+  pub spf-ignored : (domain : List ℕ) → run u (evaluation mail domain) ≡ run t (evaluation mail domain)
+  spf-ignored domain = ignored ResultFacts (evaluation mail domain) (λ t. evaluation-facts t mail domain) t u e
+
+  pub spf-unexplained : (d : List ℕ) (exp : Optional (List ℕ)) → run u (explanation mail d exp noCounts) ≡ run t (explanation mail d exp noCounts)
+  spf-unexplained d exp = ignored (λ _ x. length x ≤ most-text) (explanation mail d exp noCounts) (λ t. explanation-facts t mail d exp) t u e
+
+  pub spf-verdict : (domain : List ℕ) → run u (verdict mail domain) ≡ run t (verdict mail domain)
+  spf-verdict domain = ignored (λ _. VerdictFacts) (verdict mail domain) (λ t. verdict-facts t mail domain) t u e

@@ -8,6 +8,7 @@ use lib.ListN.{length, take}
 use Rattle.text.specs.Bytes.{part}
 use Rattle.text.specs.Texts.{bytes}
 use Rattle.text.specs.Writing.{overwritten}
+use Rattle.answer_table.specs.Layout.{kind-txt}
 use Rattle.domain.specs.Normal.{Naming, name, malformed}
 use Rattle.records.specs.Readings.{absent}
 use Rattle.rules.specs.declared.Counts.{Counts}
@@ -24,7 +25,7 @@ use Rattle.rules.specs.Tree.{Reply, Table, Check, give, ask, Settled, se
 use Rattle.rules.proofs.Laws.Runs.{give-settles, ask-absent, bind-is, bind-wants}
 use Rattle.rules.specs.Mechanisms.{Match, yes, no, stop, Step, step}
 use Rattle.rules.specs.Evaluation.{Result, Selection, ends, one}
-use Rattle.rules.specs.Outcomes.{Settles, Wants, Gives, wantedBuffer, matchedOf, stepOf, steppedOf, SaysStep, NamingIs, TargetIs, SaysTarget, ValueIs, PIs, SaysP, spanOf, SelectionIs, SelectedIs, SaysSelection, failingOf, ResultIs, CheckedIs, SaysCheck, ExplainedIs, textBuffer, SaysText}
+use Rattle.rules.specs.Outcomes.{Settles, Lacks, Wants, Gives, wantedBuffer, matchedOf, stepOf, steppedOf, SaysStep, NamingIs, TargetIs, SaysTarget, ValueIs, PIs, SaysP, spanOf, TextAt, SelectionIs, SelectedIs, failingOf, FailingAt, ResultIs, CheckedIs, SaysCheck, ExplainedIs, textBuffer, SaysText}
 
 -- a value that is settled leaves the name buffer as it is
 pub gives : {A : Type 0} (x : Settled A) (v : A) (b : List ℕ) → Settles x v → Gives x v b b
@@ -192,39 +193,39 @@ unfolding PIs wantedBuffer
 p-wanted c d t x kind size b a w = rw (w .is, w .size-is) (record { value = (refl, refl); buffer = w .buffer })
 
 -- record lookup
-abbrev SelectedTells : Counts → (d t : List ℕ) → Settled Selection → Selected → (before after : List ℕ) → Type 0
-SelectedTells c d t x (Selected.Ends v) b a = Gives x (ends v) b a
-SelectedTells c d t x (Selected.One domain text) b a = Gives x (one (spanOf t text)) b a × (spanOf t domain ≡ d)
-SelectedTells c d t x (Selected.Wanting kind size) b a = Wants x kind size c b a
+abbrev SelectedTells : Counts → (d t : List ℕ) → Settled Selection → Selected → Type 0
+SelectedTells c d t x (Selected.Ends v) = Settles x (ends v)
+SelectedTells c d t x (Selected.One domain text) = Settles x (one (spanOf t text)) × TextAt d t domain text (spanOf t text)
+SelectedTells c d t x Selected.Missing = Lacks x kind-txt d c
 
-lookup-tells : (c : Counts) (d t : List ℕ) (x : Settled Selection) (r : Selected) (b a : List ℕ) → SaysSelection c d t x r b a → SelectedTells c d t x r b a
-unfolding SelectedIs SelectionIs wantedBuffer
-lookup-tells c d t (settled (ends v)) r b a w = rw (w .lookup) (record { is = refl; kept = w .buffer })
-lookup-tells c d t (settled (one s)) r b a w = let p = w .lookup in rw (p .2) (record { is = rw (p .4); kept = w .buffer }, p .3)
-lookup-tells c d t (wanting k n l) r b a w = let p = w .lookup in rw (p .0) (record { asked = n; is = rw (p .1); size-is = refl; buffer = w .buffer })
+lookup-tells : (c : Counts) (d t : List ℕ) (x : Settled Selection) (r : Selected) → SelectedIs c d t x r → SelectedTells c d t x r
+unfolding SelectedIs SelectionIs
+lookup-tells c d t (settled (ends v)) r w = rw w refl
+lookup-tells c d t (settled (one s)) r w =
+    let q = w .3 in
+    rw (w .2) (rw (q .bytes-are), record { named = q .named; bytes-are = refl; stands = rw (q .bytes-are) (q .stands) })
+lookup-tells c d t (wanting k n l) r w = rw (w .0, w .1, w .2, w .3) refl
 
-module _ (c : Counts) (d t : List ℕ) (x : Settled Selection) (r : Selected) (b a : List ℕ) (w : SaysSelection c d t x r b a) where
-  lookup-as : (y : Selected) → r ≡ y → SelectedTells c d t x y b a
-  lookup-as y e = subst (λ (y : Selected). SelectedTells c d t x y b a) e (lookup-tells c d t x r b a w)
+module _ (c : Counts) (d t : List ℕ) (x : Settled Selection) (r : Selected) (w : SelectedIs c d t x r) where
+  lookup-as : (y : Selected) → r ≡ y → SelectedTells c d t x y
+  lookup-as y e = subst (SelectedTells c d t x) e (lookup-tells c d t x r w)
 
-  pub lookup-ends : (v : ℕ) → r ≡ Selected.Ends v → Gives x (ends v) b a
+  pub lookup-ends : (v : ℕ) → r ≡ Selected.Ends v → Settles x (ends v)
   lookup-ends v e = lookup-as (Selected.Ends v) e
 
-  pub lookup-one : (domain text : Span) → r ≡ Selected.One domain text → Gives x (one (spanOf t text)) b a × (spanOf t domain ≡ d)
+  pub lookup-one : (domain text : Span) → r ≡ Selected.One domain text → Settles x (one (spanOf t text)) × TextAt d t domain text (spanOf t text)
   lookup-one domain text e = lookup-as (Selected.One domain text) e
 
-  pub lookup-wants : (kind size : ℕ) → r ≡ Selected.Wanting kind size → Wants x kind size c b a
-  lookup-wants kind size e = lookup-as (Selected.Wanting kind size) e
+  pub lookup-missing : r ≡ Selected.Missing → Lacks x kind-txt d c
+  lookup-missing e = lookup-as Selected.Missing e
 
-pub lookup-gives : (c : Counts) (d t : List ℕ) (x : Settled Selection) (s : Selection) (r : Selected) (b a : List ℕ)
-    → Gives x s b a → SelectionIs d t s r → SaysSelection c d t x r b a
-unfolding SelectedIs wantedBuffer
-lookup-gives c d t x s r b a g w = rw (g .is) (record { lookup = w; buffer = g .kept })
+pub lookup-gives : (c : Counts) (d t : List ℕ) (x : Settled Selection) (s : Selection) (r : Selected) → Settles x s → SelectionIs d t s r → SelectedIs c d t x r
+unfolding SelectedIs
+lookup-gives c d t x s r g w = rw g w
 
-pub lookup-wanted : (c : Counts) (d t : List ℕ) (x : Settled Selection) (kind size : ℕ) (b a : List ℕ)
-    → Wants x kind size c b a → SaysSelection c d t x (Selected.Wanting kind size) b a
-unfolding SelectedIs wantedBuffer
-lookup-wanted c d t x kind size b a w = rw (w .is, w .size-is) (record { lookup = (refl, refl); buffer = w .buffer })
+pub lookup-lacks : (c : Counts) (d t : List ℕ) (x : Settled Selection) → Lacks x kind-txt d c → SelectedIs c d t x Selected.Missing
+unfolding SelectedIs
+lookup-lacks c d t x w = rw w (refl, refl, refl, refl)
 
 -- a check
 pub checked-result : (t : List ℕ) (x : Settled Result) (o : Checked) (b a : List ℕ) → SaysCheck t x o b a
@@ -245,17 +246,17 @@ checked-wants t (wanting k m l) o b a w kind size e =
     let i : kind ≡ k = cc in let j : size ≡ length m = cc in
     record { asked = m; is = rw (i, p .1); size-is = j; buffer = w .buffer }
 
-pub checked-gives : (t : List ℕ) (x : Settled Result) (y : Result) (o : Checked) (b a : List ℕ) → Gives x y b a → ResultIs t y o → SaysCheck t x o b a
+pub checked-gives : (t : List ℕ) (x : Settled Result) (y : Result) (o : Checked) (b a : List ℕ) → Gives x y b a → ResultIs t y o → FailingAt t (o .failing) → SaysCheck t x o b a
 unfolding CheckedIs wantedBuffer
-checked-gives t x y o b a g w = rw (g .is) (record { checked = w; buffer = g .kept })
+checked-gives t x y o b a g w p = rw (g .is) (record { checked = w; placed = p; buffer = g .kept })
 
-pub checked-give : (t : List ℕ) (u : Table) (y : Result) (o : Checked) (b : List ℕ) → ResultIs t y o → SaysCheck t (run u (give y)) o b b
-checked-give t u y o b w = checked-gives t _ y o b b (gives-give u y b) w
+pub checked-give : (t : List ℕ) (u : Table) (y : Result) (o : Checked) (b : List ℕ) → ResultIs t y o → FailingAt t (o .failing) → SaysCheck t (run u (give y)) o b b
+checked-give t u y o b w p = checked-gives t _ y o b b (gives-give u y b) w p
 
 pub checked-wanted : (t : List ℕ) (x : Settled Result) (kind size : ℕ) (o : Checked) (b a : List ℕ)
-    → Wants x kind size (o .counts) b a → o .ending ≡ Ending.Wanting kind size → SaysCheck t x o b a
+    → Wants x kind size (o .counts) b a → o .ending ≡ Ending.Wanting kind size → FailingAt t (o .failing) → SaysCheck t x o b a
 unfolding CheckedIs wantedBuffer
-checked-wanted t x kind size o b a w e = rw (w .is) (record { checked = (e ∙ ap (Ending.Wanting kind) (w .size-is), refl); buffer = w .buffer })
+checked-wanted t x kind size o b a w e p = rw (w .is) (record { checked = (e ∙ ap (Ending.Wanting kind) (w .size-is), refl); placed = p; buffer = w .buffer })
 
 -- an explanation
 pub text-written : (c : Counts) (x : Settled (List ℕ)) (r : Explained) (u v b a : List ℕ) → SaysText c x r u v b a

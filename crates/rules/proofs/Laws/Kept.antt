@@ -29,11 +29,11 @@ use Rattle.records.specs.Reader.{readRecord}
 use Rattle.records.specs.declared.RecordAnswer.{RecordAnswer}
 use Rattle.rules.specs.declared.Counts.{Counts}
 use Rattle.rules.specs.Tree.{Reply, failed, items, Table, Check}
-use Rattle.rules.proofs.Laws.Alike.{Alike, alike-give, alike-ask, alike-cond, alike-bind}
+use Rattle.rules.proofs.Laws.Alike.{Alike, alike-give, alike-ask, alike-cond, alike-bind, alike-weaken}
 use Rattle.rules.proofs.Laws.Reversed.{reversed-ok}
-use Rattle.rules.proofs.Laws.Askable.{NamingOk, question-ok, ReplyFits, Fitting, names-ok, host-ok, hosts-ok}
+use Rattle.rules.proofs.Laws.Askable.{NamingOk, question-ok, Fitting, names-ok, host-ok, hosts-ok}
 use Rattle.rules.specs.Mechanisms.{Mail, Match, yes, no, stop, Step, step, matched, addressKind, includesClient, anyMatches, withValid, validated, namesOf, givesChosen, pReply, pValue, givesExpansion, expanded, givesName, target, targetOr, most-lookups, most-voids, most-hosts, begun, voided, counting, atTarget, targetStep, countedStep, voidStep, ownReply, ownQuestion, onMatch, untilMatch, askA, aStep, askExists, existsStep, byPreference, askHost, mxItems, askMx, mxStep, askName, askPtr, ptrStep}
-use Rattle.rules.specs.Evaluation.{Failing, Result, ended, Sub, includeMatch, checkTarget, begunCheck, includeOf, includeStep, having, lengthFor, networkStep, plainStep, mechanismStep, termStep, signResult, modifierOf, failingAt, signed, noneIsPermerror, redirectOf, noMatch, matchResult, afterStep, tryTerms, termsOf, readOutcome, Selection, ends, one, textReply, recordLookup, afterLookup, checkName, check, givesShown, explained, explainReply, explainName, explanation, most-text, shown}
+use Rattle.rules.specs.Evaluation.{Failing, Result, ended, Sub, includeMatch, checkTarget, begunCheck, includeOf, includeStep, having, lengthFor, networkStep, plainStep, mechanismStep, termStep, signResult, modifierOf, failingAt, signed, noneIsPermerror, redirectOf, noMatch, matchResult, afterStep, tryTerms, termsOf, readOutcome, Selection, ends, one, selection, versioned, textReply, recordLookup, afterLookup, checkName, check, givesShown, explained, explainReply, explainName, explanation, explanationOf, most-text, shown}
 
 -- the counts k of a question, or of a term that lets the check go on, after the counts c: none falls, and none that was within its bound passes it
 pub record Bounded (c k : Counts) : Type 0 where
@@ -47,19 +47,34 @@ pub data Reported (c : Counts) : ℕ → Counts → Type 0 where
   within : {v : ℕ} {k : Counts} → Bounded c k → Reported c v k
   third : {k : Counts} → Bounded c k → Reported c 6 (voided k)
 
--- the counts after a term: one that stops the check ends it
+-- a result that a sign doesn't give is no fail
+abbrev NoFail : ℕ → Type 0
+NoFail v = v ≡ 3 → ⊥
+
+-- the counts after a term: one that stops the check ends it, and not in a fail
 unfoldable pub MatchKept : Counts → Match → Counts → Type 0
 MatchKept c yes k = Bounded c k
 MatchKept c no k = Bounded c k
-MatchKept c (stop v) k = Reported c v k
+MatchKept c (stop v) k = Reported c v k × NoFail v
+
+abbrev StopsWithout : Match → Type 0
+StopsWithout yes = Unit {0}
+StopsWithout no = Unit {0}
+StopsWithout (stop v) = NoFail v
+
+abbrev EndsWithout : Selection → Type 0
+EndsWithout (ends v) = NoFail v
+EndsWithout (one s) = Unit {0}
 
 abbrev pub StepKept : Counts → Step → Type 0
 StepKept c s = MatchKept c (s .match) (s .counts)
 
--- a result: its counts, and that only a fail has an explanation
-pub record ResultKept (c : Counts) (r : Result) : Type 0 where
+-- a result: its counts, and that a fail and nothing else names the record that failed, by its domain as the table has it, under an assumption
+pub record ResultKept (Sound : Type 0) (c : Counts) (r : Result) : Type 0 where
   pub reported : Reported c (r .value) (r .counts)
   pub fails : (f : Failing) → r .failing ≡ present f → r .value ≡ 3
+  pub named : r .failing ≡ absent → NoFail (r .value)
+  pub whose : (f : Failing) → r .failing ≡ present f → Sound → isTableName (f .domain) ≡ true
 
 module _ {c : Counts} where
   bounded-begun : {k : Counts} → Bounded c k → k .lookups < most-lookups → Bounded c (begun k)
@@ -81,27 +96,38 @@ module _ {c : Counts} where
   unfolding includeMatch MatchKept
   includeMatch-kept v k r =
       cond-elim P (eqb v 2) (λ e. resumes r (λ s. omega (arith, s, eqb-true v 2 e)))
-      (λ _. cond-elim P (eqb v 5) (λ e. within (resumes r (λ s. omega (arith, s, eqb-true v 5 e))))
-      (λ _. cond-elim P (eqb v 6) (λ e. errs r)
-      (λ e. cond-elim P (eqb v 0) (λ _. errs r) (λ _. resumes r (eqb-false _ _ e)))))
+      (λ _. cond-elim P (eqb v 5) (λ e. (within (resumes r (λ s. omega (arith, s, eqb-true v 5 e))), λ z. omega (arith, z)))
+      (λ _. cond-elim P (eqb v 6) (λ e. (errs r, λ z. omega (arith, z)))
+      (λ e. cond-elim P (eqb v 0) (λ _. (errs r, λ z. omega (arith, z))) (λ _. resumes r (eqb-false _ _ e)))))
     where
       P : Match → Type 0
       P m = MatchKept c m k
 
-  plain : (v : ℕ) (k : Counts) → Reported c v k → ResultKept c (record { value = v; counts = k; failing = absent })
-  plain v k r = record { reported = r; fails = λ f e. absurd (let z : _≡_ {A = ℕ} 0 1 = cc in omega arith) }
+  plain : {Sound : Type 0} (v : ℕ) (k : Counts) → Reported c v k → NoFail v → ResultKept Sound c (record { value = v; counts = k; failing = absent })
+  plain v k r n = record {
+    reported = r;
+    fails = λ f e. absurd (let z : _≡_ {A = ℕ} 0 1 = cc in omega arith);
+    named = λ _. n;
+    whose = λ f e. absurd (let z : _≡_ {A = ℕ} 0 1 = cc in omega arith);
+  }
 
-  signed-kept : (d : List ℕ) (ts : List Placed) (v : ℕ) (k : Counts) → Bounded c k
-      → ResultKept c (record { value = v; counts = k; failing = cond (eqb v 3) (failingAt d (modifierOf (bytes "exp") ts)) absent })
-  signed-kept d ts v k b =
-      cond-elim (λ (o : Optional Failing). ResultKept c (record { value = v; counts = k; failing = o })) (eqb v 3)
-      (λ e. record { reported = within b; fails = λ f _. eqb-true v 3 e }) (λ _. plain v k (within b))
+  signed-kept : {Sound : Type 0} (d : List ℕ) → (Sound → isTableName d ≡ true) → (ts : List Placed) (v : ℕ) (k : Counts) → Bounded c k
+      → ResultKept Sound c (record { value = v; counts = k; failing = cond (eqb v 3) (present (failingAt d (modifierOf (bytes "exp") ts))) absent })
+  signed-kept {Sound} d h ts v k b =
+      cond-elim (λ (o : Optional Failing). ResultKept Sound c (record { value = v; counts = k; failing = o })) (eqb v 3)
+      (λ e. record {
+        reported = within b;
+        fails = λ f _. eqb-true v 3 e;
+        named = λ h. absurd (let z : _≡_ {A = ℕ} 0 1 = cc in omega arith);
+        whose = λ f i s. let j : f .domain ≡ d = cc in rw j (h s);
+      })
+      (λ e. plain v k (within b) (eqb-false v 3 e))
 
-  redirect-kept : (r : Result) → ResultKept c r → ResultKept c (noneIsPermerror r)
+  redirect-kept : {Sound : Type 0} (r : Result) → ResultKept Sound c r → ResultKept Sound c (noneIsPermerror r)
   unfolding noneIsPermerror
-  redirect-kept r h =
-      cond-elim (ResultKept c) (eqb (r .value) 0)
-      (λ e. plain _ (r .counts) (within (resumes (h .reported) (λ s. omega (arith, s, eqb-true (r .value) 0 e))))) (λ _. h)
+  redirect-kept {Sound} r h =
+      cond-elim (ResultKept Sound c) (eqb (r .value) 0)
+      (λ e. plain _ (r .counts) (within (resumes (h .reported) (λ s. omega (arith, s, eqb-true (r .value) 0 e)))) (λ z. omega (arith, z))) (λ _. h)
 
 -- a fail's text: empty without an explanation, and of at most 500 bytes
 pub record TextKept (f : Optional Failing) (x : List ℕ) : Type 0 where
@@ -202,41 +228,47 @@ module _ (t : Table) (Sound : Type 0) (fits : Sound → Fitting t) (c : Counts) 
     targetOr-fine mail d h (present spec) = target-fine mail d spec
 
     -- what a mechanism gives
-    step-fine : (m : Match) → Fine (StepKept c) (step m k)
+    step-fine : (m : Match) → StopsWithout m → Fine (StepKept c) (step m k)
     unfolding MatchKept
-    step-fine yes = alike-give b
-    step-fine no = alike-give b
-    step-fine (stop v) = alike-give (within b)
+    step-fine yes n = alike-give b
+    step-fine no n = alike-give b
+    step-fine (stop v) n = alike-give (within b, n)
+
+    no-fine : Fine (StepKept c) (step no k)
+    no-fine = step-fine no tt
+
+    yes-fine : Fine (StepKept c) (step yes k)
+    yes-fine = step-fine yes tt
 
     matched-fine : (found : Bool) → Fine (StepKept c) (matched found k)
-    matched-fine found = alike-cond found (λ _. step-fine yes) (λ _. step-fine no)
+    matched-fine found = alike-cond found (λ _. yes-fine) (λ _. no-fine)
 
     -- a question of a, mx, ptr or exists
     void-fine : Fine (StepKept c) (voidStep k)
     unfolding voidStep MatchKept
-    void-fine = alike-cond (ltb (k .voids) most-voids) (λ e. alike-give (bounded-voided b (ltb-true (k .voids) most-voids e))) (λ _. alike-give (third b))
+    void-fine = alike-cond (ltb (k .voids) most-voids) (λ e. alike-give (bounded-voided b (ltb-true (k .voids) most-voids e))) (λ _. alike-give (third b, λ z. omega (arith, z)))
 
-    own-fine : {kind : ℕ} {n : List ℕ} → AskedKind kind → Askable n → (m : Match) {rest : List (List ℕ) → Check Step}
+    own-fine : {kind : ℕ} {n : List ℕ} → AskedKind kind → Askable n → (m : Match) → StopsWithout m → {rest : List (List ℕ) → Check Step}
         → ((ds : List (List ℕ)) → t kind n ≡ present (items ds) → Fine (StepKept c) (rest ds)) → Fine (StepKept c) (ownQuestion m k kind n rest)
     unfolding ownReply
-    own-fine {kind} {n} q h m {rest} f = alike-ask (asked q h) reply
+    own-fine {kind} {n} q h m w {rest} f = alike-ask (asked q h) reply
       where
         reply : (r : Reply) → t kind n ≡ present r → Fine (StepKept c) (ownReply m k rest r)
-        reply failed e = step-fine m
+        reply failed e = step-fine m w
         reply (items []) e = void-fine
         reply (items (d ∷ ds)) e = f (d ∷ ds) e
 
     -- what a asks of a name, a host of mx and a name of ptr
     module _ (client : Address) where
       askA-fine : (n : ℕ) (m : List ℕ) → Askable m → Fine (StepKept c) (askA client n k m)
-      askA-fine n m h = own-fine (of-address client) h (stop 5) (λ ds _. matched-fine (anyMatches client n ds))
+      askA-fine n m h = own-fine (of-address client) h (stop 5) (λ z. omega (arith, z)) (λ ds _. matched-fine (anyMatches client n ds))
 
       pub host-fine : (n : ℕ) (d : List ℕ) → (Sound → isItem 15 d ≡ true) → Fine (StepKept c) (askHost client n d k)
       unfolding askHost
-      host-fine n d h = alike-cond (eqb (length d) 2) (λ _. step-fine no) (λ e. askA-fine n (drop 2 d) (λ s. host-ok d (h s) e))
+      host-fine n d h = alike-cond (eqb (length d) 2) (λ _. no-fine) (λ e. askA-fine n (drop 2 d) (λ s. host-ok d (h s) e))
 
       pub name-fine : (m n : List ℕ) → Askable n → Fine (StepKept c) (askName client m n k)
-      name-fine m n h = own-fine (of-address client) h no (λ ds _. matched-fine (includesClient client (items ds) && atOrBelow n m))
+      name-fine m n h = own-fine (of-address client) h no tt (λ ds _. matched-fine (includesClient client (items ds) && atOrBelow n m))
 
   -- the hosts of mx and the names of ptr
   pub hosts-fine : (client : Address) (n : ℕ) (ds : List (List ℕ)) → (Sound → all (isItem 15) ds ≡ true)
@@ -251,24 +283,24 @@ module _ (t : Table) (Sound : Type 0) (fits : Sound → Fitting t) (c : Counts) 
     -- what exists, mx and ptr ask of a name m
     module _ (client : Address) (m : List ℕ) (h : Askable m) where
       askExists-fine : Fine (StepKept c) (askExists k m)
-      askExists-fine = own-fine k b of-a h (stop 5) (λ ds _. step-fine k b yes)
+      askExists-fine = own-fine k b of-a h (stop 5) (λ z. omega (arith, z)) (λ ds _. yes-fine k b)
 
       askMx-fine : (n : ℕ) → Fine (StepKept c) (askMx client n k m)
       unfolding mxItems
       askMx-fine n =
-          own-fine k b of-mx h (stop 5)
+          own-fine k b of-mx h (stop 5) (λ z. omega (arith, z))
           (λ ds e. alike-cond (leb (length ds) most-hosts)
-          (λ _. hosts-fine client n (byPreference ds) (λ s. hosts-ok ds (fits s 15 m (items ds) e)) k b) (λ _. step-fine k b (stop 6)))
+          (λ _. hosts-fine client n (byPreference ds) (λ s. hosts-ok ds (fits s 15 m (items ds) e)) k b) (λ _. step-fine k b (stop 6) (λ z. omega (arith, z))))
 
       askPtr-fine : Fine (StepKept c) (askPtr client k m)
       unfolding namesOf
       askPtr-fine =
-          own-fine k b of-ptr (λ _. reversed-ok client) no
+          own-fine k b of-ptr (λ _. reversed-ok client) no tt
           (λ ds e. names-fine client m (namesOf (items ds)) (λ s. names-ok (items ds) (fits s 12 _ (items ds) e)) k b)
 
     having-fine : {A : Type 0} (x : Optional A) {go : A → Check Step} → ((a : A) → Fine (StepKept c) (go a)) → Fine (StepKept c) (having x go k)
     unfolding having
-    having-fine absent f = step-fine k b no
+    having-fine absent f = no-fine k b
     having-fine (present a) f = f a
 
     network-fine : (mail : Mail) (a : Optional Address) (n : Optional ℕ) → Fine (StepKept c) (networkStep mail a n k)
@@ -276,17 +308,23 @@ module _ (t : Table) (Sound : Type 0) (fits : Sound → Fitting t) (c : Counts) 
     network-fine mail a n = having-fine a (λ x. having-fine n (λ l. matched-fine k b (matchesAt (mail .client) x l)))
 
     -- a result without an explanation
-    ended-fine : (v : ℕ) → Fine (ResultKept c) (ended v k)
-    ended-fine v = alike-give (plain v k (within b))
+    ended-fine : (v : ℕ) → NoFail v → Fine (ResultKept Sound c) (ended v k)
+    ended-fine v n = alike-give (plain v k (within b) n)
 
     -- record lookup
-    lookup-fine : (d : List ℕ) → Askable d → Fine Any (recordLookup d k)
+    selection-ends : (ss : List (List ℕ)) → EndsWithout (selection ss)
+    unfolding selection
+    selection-ends [] = λ z. omega (arith, z)
+    selection-ends (s ∷ []) = tt
+    selection-ends (s ∷ u ∷ ss) = λ z. omega (arith, z)
+
+    lookup-fine : (d : List ℕ) → Askable d → Fine EndsWithout (recordLookup d k)
     unfolding recordLookup textReply
     lookup-fine d h = alike-ask (asked k b of-txt h) (λ r _. reply r)
       where
-        reply : (r : Reply) → Fine Any (textReply r)
-        reply failed = alike-give tt
-        reply (items ss) = alike-give tt
+        reply : (r : Reply) → Fine EndsWithout (textReply r)
+        reply failed = alike-give (λ z. omega (arith, z))
+        reply (items ss) = alike-give (selection-ends (versioned ss))
 
   -- what counts as a lookup
   counting-fine : {A : Type 0} {P : A → Type 0} (refused go go′ : Counts → Check A) (k : Counts) → Bounded c k → FineBoth P (refused k) (refused k)
@@ -299,24 +337,24 @@ module _ (t : Table) (Sound : Type 0) (fits : Sound → Fitting t) (c : Counts) 
       → ((k : Counts) → Bounded c k → (m : List ℕ) → Askable m → Fine (StepKept c) (go k m))
       → (k : Counts) → Bounded c k → Fine (StepKept c) (countedStep mail d spec go k)
   unfolding countedStep targetStep atTarget NamingOk
-  counted-fine mail d h spec go f k b = counting-fine _ _ _ k b (step-fine k b (stop 6)) (λ l. alike-bind (targetOr-fine (begun k) l mail d h spec) (with l))
+  counted-fine mail d h spec go f k b = counting-fine _ _ _ k b (step-fine k b (stop 6) (λ z. omega (arith, z))) (λ l. alike-bind (targetOr-fine (begun k) l mail d h spec) (with l))
     where
       with : Bounded c (begun k) → (x : Naming) → NameFits x → Fine (StepKept c) (atTarget (go (begun k)) (begun k) x)
-      with l malformed q = step-fine (begun k) l no
+      with l malformed q = no-fine (begun k) l
       with l (name m) q = f (begun k) l m q
 
   -- a mechanism other than include
   plain-fine : (mail : Mail) (d : List ℕ) → Askable d → (x : Said) (k : Counts) → Bounded c k → Fine (StepKept c) (plainStep mail d x k)
   unfolding plainStep aStep mxStep ptrStep existsStep
   plain-fine mail d h x k b =
-      alike-cond (same (x .name) (bytes "all")) (λ _. step-fine k b yes)
+      alike-cond (same (x .name) (bytes "all")) (λ _. yes-fine k b)
       (λ _. alike-cond (same (x .name) (bytes "a")) (λ _. having-fine k b (lengthFor client x) (λ n. asks (x .argument) (λ k b m q. askA-fine k b client n m q)))
       (λ _. alike-cond (same (x .name) (bytes "mx")) (λ _. having-fine k b (lengthFor client x) (λ n. asks (x .argument) (λ k b m q. askMx-fine k b client m q n)))
       (λ _. alike-cond (same (x .name) (bytes "ptr")) (λ _. asks (x .argument) (λ k b m q. askPtr-fine k b client m q))
       (λ _. alike-cond (same (x .name) (bytes "exists")) (λ _. having-fine k b (x .argument) (λ spec. asks (present spec) (λ k b m q. askExists-fine k b client m q)))
       (λ _. alike-cond (same (x .name) (bytes "ip4")) (λ _. network-fine k b mail (x .address) (x .four))
       (λ _. alike-cond (same (x .name) (bytes "ip6")) (λ _. network-fine k b mail (x .address) (x .six))
-      (λ _. step-fine k b no)))))))
+      (λ _. no-fine k b)))))))
     where
       client : Address
       client = mail .client
@@ -327,32 +365,32 @@ module _ (t : Table) (Sound : Type 0) (fits : Sound → Fitting t) (c : Counts) 
 
   -- with two checks one level down that settle the same and are fine
   module _ (mail : Mail) (sub sub′ : Sub)
-      (below : (x : Naming) (k : Counts) → Bounded c k → c .lookups < k .lookups → NameFits x → FineBoth (ResultKept c) (sub x k) (sub′ x k)) where
-    begunCheck-fine : (d spec : List ℕ) (k : Counts) → Bounded c k → FineBoth (ResultKept c) (begunCheck mail sub d spec k) (begunCheck mail sub′ d spec k)
+      (below : (x : Naming) (k : Counts) → Bounded c k → c .lookups < k .lookups → NameFits x → FineBoth (ResultKept Sound c) (sub x k) (sub′ x k)) where
+    begunCheck-fine : (d spec : List ℕ) (k : Counts) → Bounded c k → FineBoth (ResultKept Sound c) (begunCheck mail sub d spec k) (begunCheck mail sub′ d spec k)
     unfolding begunCheck checkTarget
     begunCheck-fine d spec k b =
-        counting-fine _ _ _ k b (ended-fine k b 6)
+        counting-fine _ _ _ k b (ended-fine k b 6 (λ z. omega (arith, z)))
         (λ l. alike-bind (target-fine (begun k) l mail d spec) (λ x h. below x (begun k) l (omega (arith, b .lookups-grow)) h))
 
     include-fine : (d spec : List ℕ) (k : Counts) → Bounded c k → FineBoth (StepKept c) (includeStep mail sub d spec k) (includeStep mail sub′ d spec k)
     unfolding includeStep includeOf
     include-fine d spec k b = alike-bind (begunCheck-fine d spec k b) (λ r h. alike-give (includeMatch-kept (r .value) (r .counts) (h .reported)))
 
-    noMatch-fine : (d : List ℕ) (spec : Optional (List ℕ)) (k : Counts) → Bounded c k → FineBoth (ResultKept c) (noMatch mail sub d spec k) (noMatch mail sub′ d spec k)
+    noMatch-fine : (d : List ℕ) (spec : Optional (List ℕ)) (k : Counts) → Bounded c k → FineBoth (ResultKept Sound c) (noMatch mail sub d spec k) (noMatch mail sub′ d spec k)
     unfolding noMatch redirectOf
-    noMatch-fine d absent k b = ended-fine k b 1
+    noMatch-fine d absent k b = ended-fine k b 1 (λ z. omega (arith, z))
     noMatch-fine d (present spec) k b = alike-bind (begunCheck-fine d spec k b) (λ r h. alike-give (redirect-kept r h))
 
-    afterStep-fine : (d : List ℕ) (ts : List Placed) (sign : Optional ℕ) (m : Match) (k : Counts) (rest rest′ : Counts → Check Result) → MatchKept c m k
-        → ((k : Counts) → Bounded c k → FineBoth (ResultKept c) (rest k) (rest′ k)) → FineBoth (ResultKept c) (afterStep d ts sign m k rest) (afterStep d ts sign m k rest′)
+    afterStep-fine : (d : List ℕ) → Askable d → (ts : List Placed) (sign : Optional ℕ) (m : Match) (k : Counts) (rest rest′ : Counts → Check Result) → MatchKept c m k
+        → ((k : Counts) → Bounded c k → FineBoth (ResultKept Sound c) (rest k) (rest′ k)) → FineBoth (ResultKept Sound c) (afterStep d ts sign m k rest) (afterStep d ts sign m k rest′)
     unfolding afterStep matchResult signed MatchKept
-    afterStep-fine d ts sign yes k rest rest′ b f = by (signResult sign)
+    afterStep-fine d h ts sign yes k rest rest′ b f = by (signResult sign)
       where
-        by : (v : Optional ℕ) → FineBoth (ResultKept c) (matchResult d ts v k rest) (matchResult d ts v k rest′)
+        by : (v : Optional ℕ) → FineBoth (ResultKept Sound c) (matchResult d ts v k rest) (matchResult d ts v k rest′)
         by absent = f k b
-        by (present v) = alike-give (signed-kept d ts v k b)
-    afterStep-fine d ts sign no k rest rest′ b f = f k b
-    afterStep-fine d ts sign (stop v) k rest rest′ r f = alike-give (plain v k r)
+        by (present v) = alike-give (signed-kept d h ts v k b)
+    afterStep-fine d h ts sign no k rest rest′ b f = f k b
+    afterStep-fine d h ts sign (stop v) k rest rest′ r f = alike-give (plain v k (r .0) (r .1))
 
     -- a domain whose name is followed
     module _ (d : List ℕ) (h : Askable d) where
@@ -362,39 +400,39 @@ module _ (t : Table) (Sound : Type 0) (fits : Sound → Fitting t) (c : Counts) 
         where
           include : (spec : Optional (List ℕ))
               → FineBoth (StepKept c) (having spec (λ s. includeStep mail sub d s k) k) (having spec (λ s. includeStep mail sub′ d s k) k)
-          include absent = step-fine k b no
+          include absent = no-fine k b
           include (present s) = include-fine d s k b
 
       pub term-fine : (x : Said) (sign : Optional ℕ) (k : Counts) → Bounded c k → FineBoth (StepKept c) (termStep mail sub d x sign k) (termStep mail sub′ d x sign k)
       unfolding termStep
-      term-fine x absent k b = step-fine k b no
+      term-fine x absent k b = no-fine k b
       term-fine x (present sign) k b = mechanism-fine x k b
 
-      terms-fine : (all-terms ts : List Placed) (k : Counts) → Bounded c k → FineBoth (ResultKept c) (tryTerms mail sub d all-terms ts k) (tryTerms mail sub′ d all-terms ts k)
+      terms-fine : (all-terms ts : List Placed) (k : Counts) → Bounded c k → FineBoth (ResultKept Sound c) (tryTerms mail sub d all-terms ts k) (tryTerms mail sub′ d all-terms ts k)
       unfolding tryTerms
       terms-fine all-terms [] k b = noMatch-fine d (modifierOf (bytes "redirect") all-terms) k b
       terms-fine all-terms (x ∷ ts) k b =
           alike-bind (term-fine (x .said) (x .said .sign) k b)
-          (λ s q. afterStep-fine d all-terms (x .said .sign) (s .match) (s .counts) _ _ q (terms-fine all-terms ts))
+          (λ s q. afterStep-fine d h all-terms (x .said .sign) (s .match) (s .counts) _ _ q (terms-fine all-terms ts))
 
-      afterLookup-fine : (k : Counts) → Bounded c k → (x : Selection) → FineBoth (ResultKept c) (afterLookup mail sub d k x) (afterLookup mail sub′ d k x)
+      afterLookup-fine : (k : Counts) → Bounded c k → (x : Selection) → EndsWithout x → FineBoth (ResultKept Sound c) (afterLookup mail sub d k x) (afterLookup mail sub′ d k x)
       unfolding afterLookup readOutcome
-      afterLookup-fine k b (ends v) = ended-fine k b v
-      afterLookup-fine k b (one s) = read (readRecord s)
+      afterLookup-fine k b (ends v) n = ended-fine k b v n
+      afterLookup-fine k b (one s) n = read (readRecord s)
         where
-          read : (a : RecordAnswer) → FineBoth (ResultKept c) (readOutcome mail sub d s a k) (readOutcome mail sub′ d s a k)
+          read : (a : RecordAnswer) → FineBoth (ResultKept Sound c) (readOutcome mail sub d s a k) (readOutcome mail sub′ d s a k)
           read (RecordAnswer.Accepted next) = terms-fine (termsOf s next) (termsOf s next) k b
-          read (RecordAnswer.Refused number at) = ended-fine k b 6
+          read (RecordAnswer.Refused number at) = ended-fine k b 6 (λ z. omega (arith, z))
 
-    pub checkName-fine : (x : Naming) (k : Counts) → Bounded c k → NameFits x → FineBoth (ResultKept c) (checkName mail sub x k) (checkName mail sub′ x k)
+    pub checkName-fine : (x : Naming) (k : Counts) → Bounded c k → NameFits x → FineBoth (ResultKept Sound c) (checkName mail sub x k) (checkName mail sub′ x k)
     unfolding checkName NamingOk
-    checkName-fine malformed k b h = ended-fine k b 0
+    checkName-fine malformed k b h = ended-fine k b 0 (λ z. omega (arith, z))
     checkName-fine (name d) k b h =
-        alike-cond (leb (labelCount d) 1) (λ _. ended-fine k b 0) (λ _. alike-bind (lookup-fine k b d h) (λ x _. afterLookup-fine d h k b x))
+        alike-cond (leb (labelCount d) 1) (λ _. ended-fine k b 0 (λ z. omega (arith, z))) (λ _. alike-bind (lookup-fine k b d h) (λ x n. afterLookup-fine d h k b x n))
 
-  pub check-fine : (n : ℕ) (mail : Mail) (x : Naming) (k : Counts) → Bounded c k → NameFits x → Fine (ResultKept c) (check n mail x k)
+  pub check-fine : (n : ℕ) (mail : Mail) (x : Naming) (k : Counts) → Bounded c k → NameFits x → Fine (ResultKept Sound c) (check n mail x k)
   unfolding check
-  check-fine zero mail x k b h = ended-fine k b 6
+  check-fine zero mail x k b h = ended-fine k b 6 (λ z. omega (arith, z))
   check-fine (suc n) mail x k b h = checkName-fine mail (check n mail) (check n mail) (λ x k b _ h. check-fine n mail x k b h) x k b h
 
   -- the explanation
@@ -417,13 +455,14 @@ module _ (t : Table) (Sound : Type 0) (fits : Sound → Fitting t) (c : Counts) 
     explainName-fine malformed h = alike-give empty
     explainName-fine (name n) h = alike-ask (asked k b of-txt h) (λ r _. explainReply-fine r)
 
-  pub explanation-fine : (mail : Mail) (f : Optional Failing) (k : Counts) → ((x : Failing) → f ≡ present x → Bounded c k)
-      → Fine (TextKept f) (explanation mail f k)
+  pub explanation-fine : (mail : Mail) (d : List ℕ) (exp : Optional (List ℕ)) (k : Counts) → Bounded c k → Fine (λ x. length x ≤ most-text) (explanation mail d exp k)
   unfolding explanation
-  explanation-fine mail absent k h = alike-give (record { unexplained = λ _. refl; short = omega arith })
-  explanation-fine mail (present f) k h =
-      alike-bind (target-fine k (h f refl) mail (f .domain) (f .exp))
-      (explainName-fine mail k (h f refl) (text [] (omega arith)) (λ s. text (shown s) (shown-short s)) (f .domain))
-    where
-      text : (x : List ℕ) → length x ≤ most-text → TextKept (present f) x
-      text x l = record { unexplained = λ e. absurd (let z : _≡_ {A = ℕ} 0 1 = cc in omega arith); short = l }
+  explanation-fine mail d absent k b = alike-give (omega arith)
+  explanation-fine mail d (present exp) k b = alike-bind (target-fine k b mail d exp) (explainName-fine mail k b (omega arith) shown-short d)
+
+  pub explanationOf-fine : (mail : Mail) (f : Optional Failing) (k : Counts) → ((x : Failing) → f ≡ present x → Bounded c k)
+      → Fine (TextKept f) (explanationOf mail f k)
+  unfolding explanationOf
+  explanationOf-fine mail absent k h = alike-give (record { unexplained = λ _. refl; short = omega arith })
+  explanationOf-fine mail (present f) k h =
+      alike-weaken (λ x l. record { unexplained = λ e. absurd (let z : _≡_ {A = ℕ} 0 1 = cc in omega arith); short = l }) (explanation-fine mail (f .domain) (f .exp) k (h f refl))

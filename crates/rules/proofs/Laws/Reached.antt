@@ -13,7 +13,7 @@ use Rattle.rules.specs.declared.Counts.{Counts}
 use Rattle.rules.specs.Tree.{Table, Check, Settled, settled, bind, run}
 use Rattle.rules.proofs.Laws.Runs.{bind-is}
 use Rattle.rules.specs.Mechanisms.{Mail, no, stop, Step, target, most-lookups, begun, counting}
-use Rattle.rules.specs.Evaluation.{Result, Sub, includeMatch, checkTarget, begunCheck, includeOf, includeStep, having, mechanismStep, termStep, noneIsPermerror, redirectOf, noMatch, afterStep, tryTerms, whole, noCounts, evaluation, explanation, verdict}
+use Rattle.rules.specs.Evaluation.{Result, Sub, includeMatch, checkTarget, begunCheck, includeOf, includeStep, having, mechanismStep, termStep, noneIsPermerror, redirectOf, noMatch, afterStep, tryTerms, whole, noCounts, evaluation, explanationOf, verdict}
 use Rattle.rules.proofs.Laws.Steps.{term-then, no-bounded}
 use Rattle.rules.specs.Reached.{Selects, Begins, past-term, by-include, by-redirect, Reaches, here, below, Outside}
 use Rattle.rules.proofs.Laws.Produced.{produced-runs, outside-permerror}
@@ -77,13 +77,20 @@ never-evaluated t mail {c = c} {e = e} s l here p o = outside-permerror t mail e
 never-evaluated t mail {k = k} s l (below {d = d} {s = r} {ts = ts} {c = c} g h y b w) p o =
     produced-runs t mail d r ts c l g h y ∙ terms-error t mail (whole mail) d ts k b (never-evaluated t mail s (begins-grows t mail d ts b .1) w p o)
 
--- The same of the whole answer: permerror, those counts, and no explanation.
+-- The same of an evaluation of a domain as it was given.
+pub evaluation-never-evaluated : (t : Table) (mail : Mail) (domain : List ℕ) {k : Counts} {e : List ℕ} (s : List ℕ)
+    → Reaches t mail (normal domain) noCounts e k → Selects t e s → Outside s
+    → run t (evaluation mail domain) ≡ settled (record { value = 6; counts = k; failing = absent })
+unfolding evaluation
+evaluation-never-evaluated t mail domain s r p o = never-evaluated t mail s (omega arith) r p o
+
+-- And of the whole answer: permerror, those counts, and no explanation.
 pub verdict-never-evaluated : (t : Table) (mail : Mail) (domain : List ℕ) {k : Counts} {e : List ℕ} (s : List ℕ)
     → Reaches t mail (normal domain) noCounts e k → Selects t e s → Outside s
     → run t (verdict mail domain) ≡ settled (record { value = 6; counts = k; text = [] })
-unfolding verdict evaluation explanation bind run
+unfolding verdict explanationOf bind run
 verdict-never-evaluated t mail domain {k = k} s r p o =
-    bind-is t (whole mail (normal domain) noCounts) _ (record { value = 6; counts = k; failing = absent }) (never-evaluated t mail s (omega arith) r p o)
+    bind-is t (evaluation mail domain) _ (record { value = 6; counts = k; failing = absent }) (evaluation-never-evaluated t mail domain s r p o)
 
 -- as in the example of specs/ReachedExample.antt
 pub reached-example : answer rows ≡ decided 6 2 0

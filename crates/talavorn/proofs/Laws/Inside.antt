@@ -1,5 +1,5 @@
 -- The argument of a term that was read stands within the term, so that it is a part of the record. From the reader's definitions, the laws of runs,
--- and where a term stands in its record (selection).
+-- and where a term stands in its record.
 use Prim.Native.Nat.{ℕ, _+_, _-_, _≤_, _<_}
 use mathlib.Core.Path.{_≡_, refl, sym, subst, _∙_}
 use mathlib.Core.List.{List}
@@ -39,7 +39,7 @@ use Rattle.records.proofs.Laws.Networks.{network-elim}
 use Rattle.records.proofs.Laws.Modifiers.{modifier-elim}
 use Rattle.records.proofs.Laws.Tokens.{token-elim}
 use Rattle.records.proofs.Laws.Checking.{optional-bytes}
-use Rattle.record_lookup.proofs.Laws.Arguments.{stands}
+use Rattle.records.proofs.Laws.Arguments.{stands}
 use Rattle.talavorn.specs.Numbers.{networkShape, shapeOf, Inside}
 use Rattle.talavorn.specs.Calls.{ArgumentStands}
 

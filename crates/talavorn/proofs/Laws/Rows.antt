@@ -16,30 +16,20 @@ use Rattle.answer_entry.specs.Numbers.{outcomeOf}
 use Rattle.macros.specs.declared.Expanded.{Expanded}
 use Rattle.records.specs.declared.Term.{Term}
 use Rattle.records.proofs.Term as term-type
-use Rattle.rules.specs.declared.Counts.{Counts}
 use Rattle.evaluation.specs.declared.Answer.{Answer}
+use Rattle.evaluation.specs.declared.explaining.Explanation.{Explanation}
 use Rattle.talavorn.specs.declared.numbers.Shape.{Shape}
-use Rattle.talavorn.specs.Numbers.{encoded, appendedNumbers, expandedNumbers, shape, networkShape, shapeOf, Inside, networkOf, termRow}
+use Rattle.talavorn.specs.Numbers.{encoded, encodedExplanation, appendedNumbers, expandedNumbers, shape, networkShape, shapeOf, Inside, networkOf, termRow}
 
--- `put_answer`
-module _ (x : Answer) where
-  pub answer-decided : (v : ℕ) (c : Counts) (n : ℕ) → x ≡ Answer.Decided v c n → (v ∷ 0 ∷ c .lookups ∷ c .voids ∷ n ∷ []) ≡ encoded x
-  unfolding encoded
-  answer-decided v c n e = rw e
+-- `put_answer`: the row of the case that the answer is
+pub answer-row : (x y : Answer) → x ≡ y → (r : List ℕ) → r ≡ encoded y → r ≡ encoded x
+answer-row x y e r h = rw e h
 
-  pub answer-wanting : (k n : ℕ) (c : Counts) → x ≡ Answer.Wanting k n c → (7 ∷ k ∷ c .lookups ∷ c .voids ∷ n ∷ []) ≡ encoded x
-  unfolding encoded
-  answer-wanting k n c e = rw e
+-- `put_explanation`, likewise
+pub explanation-row : (x y : Explanation) → x ≡ y → (r : List ℕ) → r ≡ encodedExplanation y → r ≡ encodedExplanation x
+explanation-row x y e r h = rw e h
 
-  pub answer-refused : (n : ℕ) → x ≡ Answer.Refused n → (n ∷ 0 ∷ 0 ∷ 0 ∷ 0 ∷ []) ≡ encoded x
-  unfolding encoded
-  answer-refused n e = rw e
-
-  pub answer-refused-at : (n p : ℕ) → x ≡ Answer.RefusedAt n p → (n ∷ p ∷ 0 ∷ 0 ∷ 0 ∷ []) ≡ encoded x
-  unfolding encoded
-  answer-refused-at n p e = rw e
-
--- `put_appended`: the row of the case that the answer is
+-- `put_appended`, likewise
 pub appended-row : (size : ℕ) (x y : AppendAnswer) → x ≡ y → (r : List ℕ) → r ≡ appendedNumbers size (outcomeOf y) → r ≡ appendedNumbers size (outcomeOf x)
 appended-row size x y e r h = rw e h
 

@@ -34,42 +34,53 @@ use Rattle.records.specs.declared.RecordAnswer.{RecordAnswer}
 use Rattle.records.specs.declared.TermAnswer.{TermAnswer}
 use Rattle.records.proofs.Laws.Terms.{term-unpointed}
 use Rattle.evaluation.specs.declared.Answer.{Answer}
-use Rattle.evaluation.specs.Numbers.{Outcome, refused, answerOf, nameAfter, textAfter, Says}
-use Rattle.evaluation.specs.Evaluating.{evaluated}
-use Rattle.evaluation.specs.Answers.{lent, handed, Evaluates}
+use Rattle.evaluation.specs.declared.explaining.Explanation.{Explanation}
+use Rattle.evaluation.specs.First as first
+use Rattle.evaluation.specs.Second as second
 use Rattle.talavorn.specs.declared.numbers.FormAnswer.{FormAnswer}
-use Rattle.talavorn.specs.Numbers.{encoded, recordNumbers, tableNumbers, expandedNumbers, matchNumber, addressOctets, shapeOf, Inside, networkOf, termRow, termNumbers, termOctets}
-use Rattle.talavorn.specs.Calls.{evaluateFor, EvaluateSays, EvaluateOutcome, EvaluateAnswers, RecordSays, ArgumentStands, TermSays, expandFor, ExpandSays, ExpandOutcome, ExpandAnswers, MatchSays, TableSays, AddressSays}
+use Rattle.talavorn.specs.Numbers.{encoded, encodedExplanation, recordNumbers, tableNumbers, expandedNumbers, matchNumber, addressOctets, shapeOf, Inside, networkOf, termRow, termNumbers, termOctets}
+use Rattle.talavorn.specs.Calls.{EvaluateOutcome, EvaluateAnswers, ExplainOutcome, ExplainAnswers, RecordSays, ArgumentStands, TermSays, expandFor, ExpandSays, ExpandOutcome, ExpandAnswers, MatchSays, TableSays, AddressSays}
 use Rattle.talavorn.proofs.Laws.Rows.{nothing-written}
 use Rattle.talavorn.proofs.Laws.Inside.{term-inside, argument-stands}
 
 -- `talavorn_evaluate`
-module _ (client x : FromOctets) (p : x ≡ client) (domain sender helo receiver : List ℕ) (seconds : ℕ) (table name text : List ℕ) where
-  -- what the call comes to
-  abbrev outcome-for : Address → Outcome
-  outcome-for a = evaluated a domain sender helo receiver seconds table name text
-
-  pub evaluate-no-client : x ≡ NoAddress → EvaluateSays (evaluateFor client outcome-for) (90 ∷ 0 ∷ 0 ∷ 0 ∷ 0 ∷ []) name name text text
-      × EvaluateAnswers client domain sender helo receiver seconds table (90 ∷ 0 ∷ 0 ∷ 0 ∷ 0 ∷ []) name name text text
-  unfolding encoded answerOf nameAfter textAfter
+module _ (client x : FromOctets) (p : x ≡ client) (domain sender helo receiver : List ℕ) (seconds : ℕ) (table name : List ℕ) where
+  pub evaluate-no-client : x ≡ NoAddress
+      → EvaluateAnswers client domain sender helo receiver seconds table (90 ∷ 0 ∷ 0 ∷ 0 ∷ 0 ∷ 0 ∷ 0 ∷ []) name name
+  unfolding encoded first.answerOf first.nameAfter
   evaluate-no-client e =
-      let q : client ≡ NoAddress = sym p ∙ e in
-      let s : EvaluateSays (refused 90) (90 ∷ 0 ∷ 0 ∷ 0 ∷ 0 ∷ []) name name text text = record { answer = refl; name-buffer = refl; text-buffer = refl } in
-      (rw q s, record { outcome = refused 90; answers = EvaluateOutcome.no-client q; says = s })
+      record { outcome = first.refused 90; answers = EvaluateOutcome.no-client (sym p ∙ e); says = record { answer = refl; name-buffer = refl } }
 
-  pub evaluate-for-client : (a : Address) → x ≡ Is a → (r : Answer) (name′ text′ : List ℕ) → Says (outcome-for a) r name name′ text text′
-      → Evaluates (lent a domain sender helo receiver seconds table name text) (handed r name′ text′) → (numbers : List ℕ) → numbers ≡ encoded r
-      → EvaluateSays (evaluateFor client outcome-for) numbers name name′ text text′
-      × EvaluateAnswers client domain sender helo receiver seconds table numbers name name′ text text′
-  evaluate-for-client a e r name′ text′ s h numbers n =
-      let q : client ≡ Is a = sym p ∙ e in (
-        rw q (record { answer = n ∙ ap encoded (s .answer); name-buffer = s .name-buffer; text-buffer = s .text-buffer }),
-        record {
-          outcome = h .outcome;
-          answers = EvaluateOutcome.for-client q (h .answers);
-          says = record { answer = n ∙ ap encoded (h .says .answer); name-buffer = h .says .name-buffer; text-buffer = h .says .text-buffer };
-        },
-      )
+  pub evaluate-for-client : (a : Address) → x ≡ Is a → (r : Answer) (name′ : List ℕ)
+      → first.Evaluates (first.lent a domain sender helo receiver seconds table name) (first.handed r name′)
+      → (numbers : List ℕ) → numbers ≡ encoded r → EvaluateAnswers client domain sender helo receiver seconds table numbers name name′
+  evaluate-for-client a e r name′ h numbers n = record {
+    outcome = h .outcome;
+    answers = EvaluateOutcome.for-client (sym p ∙ e) (h .answers);
+    says = record { answer = n ∙ ap encoded (h .says .answer); name-buffer = h .says .name-buffer };
+  }
+
+-- `talavorn_explain`
+module _ (client x : FromOctets) (p : x ≡ client) (domain sender helo receiver : List ℕ) (seconds : ℕ) (table : List ℕ) (place size : ℕ)
+    (name text : List ℕ) where
+  pub explain-no-client : x ≡ NoAddress
+      → ExplainAnswers client domain sender helo receiver seconds table place size (90 ∷ 0 ∷ 0 ∷ []) name name text text
+  unfolding encodedExplanation second.answerOf second.nameAfter second.textAfter
+  explain-no-client e = record {
+    outcome = second.refused 90;
+    answers = ExplainOutcome.no-client (sym p ∙ e);
+    says = record { answer = refl; name-buffer = refl; text-buffer = refl };
+  }
+
+  pub explain-for-client : (a : Address) → x ≡ Is a → (r : Explanation) (name′ text′ : List ℕ)
+      → second.Explains (second.lent a domain sender helo receiver seconds table place size name text) (second.handed r name′ text′)
+      → (numbers : List ℕ) → numbers ≡ encodedExplanation r
+      → ExplainAnswers client domain sender helo receiver seconds table place size numbers name name′ text text′
+  explain-for-client a e r name′ text′ h numbers n = record {
+    outcome = h .outcome;
+    answers = ExplainOutcome.for-client (sym p ∙ e) (h .answers);
+    says = record { answer = n ∙ ap encodedExplanation (h .says .answer); name-buffer = h .says .name-buffer; text-buffer = h .says .text-buffer };
+  }
 
 -- `talavorn_read_record`
 module _ (s : List ℕ) (x : RecordAnswer) (p : x ≡ pointedRecord s) (h : RecordAnswers s (recordReport x)) where

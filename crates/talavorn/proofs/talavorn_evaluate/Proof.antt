@@ -14,7 +14,7 @@ enum-told : tie.Need-enum-told
 enum-told c = search needs
 
 returns : tie.Need-returns
-returns c = evaluate-no-client _ _ (c .before .before .before .from-octets .ensures) _ _ _ _ _ _ _ _ (c .before .enum-told .given .1)
+returns c = search evaluate-no-client
 
 evaluate-requires : tie.Need-evaluate-requires
 evaluate-requires c κs = search needs
@@ -25,11 +25,8 @@ put-answer-requires c κs = search needs
 same-length : tie.Need-same-length
 same-length c = search needs
 
-same-length-2 : tie.Need-same-length-2
-same-length-2 c = search needs
-
 returns-2 : tie.Need-returns-2
-returns-2 c = evaluate-for-client _ _ (c .before .before .before .before .before .before .before .before .before .before .before .before .from-octets .ensures) _ _ _ _ _ _ _ _ _ (c .before .before .before .before .before .before .before .before .before .before .a .given .1) _ _ _ (c .before .before .before .before .before .before .evaluate .ensures .0) (c .before .before .before .before .before .before .evaluate .ensures .1) _ (c .put-answer .ensures)
+returns-2 c = search evaluate-for-client
 
 pub talavorn-evaluate-spec : {M : Type 1} → statement M
 talavorn-evaluate-spec =
@@ -42,5 +39,4 @@ talavorn-evaluate-spec =
     evaluate-requires
     put-answer-requires
     same-length
-    same-length-2
     returns-2)

@@ -5,8 +5,8 @@ use borrow.Author.Needs.{needs}
 use native.Mathlib.Omega.{arith}
 use lib.ListN.{length}
 use Rattle.rules.specs.Outcomes.{mailOf, spanOf}
-use Rattle.evaluation.proofs.Laws.Beginning.{begin-eleventh, begin-malformed, begin-wants, begin-checked, target-small, span-small, domain-single, domain-ends, domain-wants, domain-one, place-small, include-done, tried-step, tried-include, nothing-left, redirected}
-use Rattle.evaluation.proofs.Laws.Leading.{walk-opened, open-passing, record-refused, record-tried, record-matched}
+use Rattle.evaluation.proofs.Laws.Beginning.{begin-eleventh, begin-malformed, begin-wants, begin-checked, target-small, span-small, domain-single, domain-ends, domain-missing, domain-one, domain-selected, include-done, tried-step, tried-include, nothing-left, redirected}
+use Rattle.evaluation.proofs.Laws.Leading.{walk-opened, open-fits, matched-fits, open-underway, underway-failable, record-refused, record-tried, record-matched}
 use Rattle.evaluation.proofs.Laws.Walking.{Walk, walk-past, walk-ended, walk-yes, walk-stop, walk-no, walk-less, walk-small, walk-few}
 use Prim.Native.Nat.{ℕ, _<_, _+_, _-_, _*_}
 use Rattle.evaluation.proofs.check.sign_of.Reads as sign-of-reads
@@ -40,12 +40,13 @@ use Rattle.evaluation.proofs.check.none_is_permerror.Reads as none-is-p
 use Rattle.evaluation.proofs.check.sign_result.Reads as sign-result-reads
 use Rattle.evaluation.proofs.check.signed.Reads as signed-reads
 use Rattle.evaluation.proofs.check.wanting.Reads as wanting-reads
-use Rattle.record_lookup.proofs.modifiers.find_redirect.Reads as find-redirect-reads
 use Rattle.target_name.proofs.make_target.Reads as make-target-reads
 use Rattle.record_lookup.proofs.select_record.Reads as select-record-reads
 use Rattle.mechanisms.proofs.try_plain.Reads as try-plain-reads
 use Rattle.records.proofs.opening.open_record.Reads as open-record-reads
 use Rattle.records.proofs.next_term.Reads as next-term-reads
+use Rattle.client_match.proofs.want.Reads as want-reads
+use Rattle.evaluation.proofs.check.in_table.Reads as in-table-reads
 use Rattle.text.proofs.bytes.part.Reads as part-reads
 use Rattle.evaluation.proofs.check.+begin_check+check_domain+evaluate_record+include+no_match+try_term+try_terms.{
   statement,
@@ -74,7 +75,7 @@ abbrev μ-try-term : Measures 6 try-term-kinds.ps ℕ
 μ-try-term κs a = 7 * (10 - a .1 .1 .1 .1 .1 .1 .1 .1 .1 .0 .lookups) + 3
 
 abbrev μ-try-terms : Measures 5 try-terms-kinds.ps ℕ
-μ-try-terms κs a = 7 * (10 - a .1 .1 .1 .1 .1 .1 .1 .1 .1 .1 .0 .lookups) + 4
+μ-try-terms κs a = 7 * (10 - a .1 .1 .1 .1 .1 .1 .1 .1 .1 .1 .1 .0 .lookups) + 4
 
 -- a call at the measure t, and one below it
 abbrev begin-check-at : ℕ → In 6 begin-check-kinds.ps
@@ -135,11 +136,11 @@ begin-check-claims t =
 
 abbrev check-domain-claims : ℕ → check-domain-lts.Claims
 check-domain-claims t =
-    (count-labels-reads.Asked, count-labels-reads.Learnt, ended-reads.Asked, ended-reads.Learnt, select-record-reads.Asked, select-record-reads.Learnt, wanting-reads.Asked, wanting-reads.Learnt, evaluate-record-below t, evaluate-record.Post)
+    (count-labels-reads.Asked, count-labels-reads.Learnt, ended-reads.Asked, ended-reads.Learnt, select-record-reads.Asked, select-record-reads.Learnt, want-reads.Asked, want-reads.Learnt, wanting-reads.Asked, wanting-reads.Learnt, evaluate-record-below t, evaluate-record.Post)
 
 abbrev evaluate-record-claims : ℕ → evaluate-record-lts.Claims
 evaluate-record-claims t =
-    (part-reads.Asked, part-reads.Learnt, open-record-reads.Asked, open-record-reads.Learnt, ended-reads.Asked, ended-reads.Learnt, sign-result-reads.Asked, sign-result-reads.Learnt, try-terms-below t, try-terms.Post)
+    (part-reads.Asked, part-reads.Learnt, open-record-reads.Asked, open-record-reads.Learnt, ended-reads.Asked, ended-reads.Learnt, in-table-reads.Asked, in-table-reads.Learnt, sign-result-reads.Asked, sign-result-reads.Learnt, try-terms-below t, try-terms.Post)
 
 abbrev include-claims : ℕ → include-lts.Claims
 include-claims t =
@@ -147,7 +148,7 @@ include-claims t =
 
 abbrev no-match-claims : ℕ → no-match-lts.Claims
 no-match-claims t =
-    (find-redirect-reads.Asked, find-redirect-reads.Learnt, ended-reads.Asked, ended-reads.Learnt, part-reads.Asked, part-reads.Learnt, begin-check-below t, begin-check.Post, none-is-permerror-reads.Asked, none-is-permerror-reads.Learnt)
+    (ended-reads.Asked, ended-reads.Learnt, part-reads.Asked, part-reads.Learnt, begin-check-below t, begin-check.Post, none-is-permerror-reads.Asked, none-is-permerror-reads.Learnt)
 
 abbrev try-term-claims : ℕ → try-term-lts.Claims
 try-term-claims t =
@@ -235,8 +236,11 @@ check-domain-enum-known-value t c = search needs
 check-domain-ended-requires-2 : (t : ℕ) → check-domain-lts.Need-ended-requires-2 (check-domain-claims t) (check-domain-at t) check-domain.Post
 check-domain-ended-requires-2 t c κs = search needs
 
-check-domain-enum-known-kind : (t : ℕ) → check-domain-lts.Need-enum-known-kind (check-domain-claims t) (check-domain-at t) check-domain.Post
-check-domain-enum-known-kind t c = search needs
+check-domain-enum-told : (t : ℕ) → check-domain-lts.Need-enum-told (check-domain-claims t) (check-domain-at t) check-domain.Post
+check-domain-enum-told t c = search needs
+
+check-domain-want-requires : (t : ℕ) → check-domain-lts.Need-want-requires (check-domain-claims t) (check-domain-at t) check-domain.Post
+check-domain-want-requires t c κs = search needs
 
 check-domain-wanting-requires : (t : ℕ) → check-domain-lts.Need-wanting-requires (check-domain-claims t) (check-domain-at t) check-domain.Post
 check-domain-wanting-requires t c κs = search needs
@@ -245,25 +249,22 @@ check-domain-enum-known-place : (t : ℕ) → check-domain-lts.Need-enum-known-p
 check-domain-enum-known-place t c = search needs
 
 check-domain-evaluate-record-requires : (t : ℕ) → check-domain-lts.Need-evaluate-record-requires (check-domain-claims t) (check-domain-at t) check-domain.Post
-check-domain-evaluate-record-requires t c κs = (omega arith, search (place-small, needs))
-
-check-domain-same-length : (t : ℕ) → check-domain-lts.Need-same-length (check-domain-claims t) (check-domain-at t) check-domain.Post
-check-domain-same-length t c = cc
+check-domain-evaluate-record-requires t c κs = (omega arith, search (domain-selected, needs))
 
 check-domain-returns-2 : (t : ℕ) → check-domain-lts.Need-returns-2 (check-domain-claims t) (check-domain-at t) check-domain.Post
 check-domain-returns-2 t c = search domain-ends
 
+check-domain-same-length : (t : ℕ) → check-domain-lts.Need-same-length (check-domain-claims t) (check-domain-at t) check-domain.Post
+check-domain-same-length t c = cc
+
+check-domain-returns-3 : (t : ℕ) → check-domain-lts.Need-returns-3 (check-domain-claims t) (check-domain-at t) check-domain.Post
+check-domain-returns-3 t c = search domain-missing
+
 check-domain-same-length-2 : (t : ℕ) → check-domain-lts.Need-same-length-2 (check-domain-claims t) (check-domain-at t) check-domain.Post
 check-domain-same-length-2 t c = cc
 
-check-domain-returns-3 : (t : ℕ) → check-domain-lts.Need-returns-3 (check-domain-claims t) (check-domain-at t) check-domain.Post
-check-domain-returns-3 t c = search domain-wants
-
-check-domain-same-length-3 : (t : ℕ) → check-domain-lts.Need-same-length-3 (check-domain-claims t) (check-domain-at t) check-domain.Post
-check-domain-same-length-3 t c = cc
-
 check-domain-returns-4 : (t : ℕ) → check-domain-lts.Need-returns-4 (check-domain-claims t) (check-domain-at t) check-domain.Post
-check-domain-returns-4 t c = search (domain-one, c .before .before .before .before .before .before .before .before .before .before .before .before .before .before .before .before .before .before .before .pre)
+check-domain-returns-4 t c = search (domain-one, c .before .before .before .before .before .before .before .before .before .before .before .before .before .before .before .before .pre)
 
 evaluate-record-part-requires : (t : ℕ) → evaluate-record-lts.Need-part-requires (evaluate-record-claims t) (evaluate-record-at t) evaluate-record.Post
 evaluate-record-part-requires t c κs = search needs
@@ -277,17 +278,23 @@ evaluate-record-enum-told t c = search needs
 evaluate-record-ended-requires : (t : ℕ) → evaluate-record-lts.Need-ended-requires (evaluate-record-claims t) (evaluate-record-at t) evaluate-record.Post
 evaluate-record-ended-requires t c κs = search needs
 
-evaluate-record-enum-known-sign : (t : ℕ) → evaluate-record-lts.Need-enum-known-sign (evaluate-record-claims t) (evaluate-record-at t) evaluate-record.Post
-evaluate-record-enum-known-sign t c = search needs
+evaluate-record-enum-known-opening : (t : ℕ) → evaluate-record-lts.Need-enum-known-opening (evaluate-record-claims t) (evaluate-record-at t) evaluate-record.Post
+evaluate-record-enum-known-opening t c = search needs
+
+evaluate-record-in-table-requires : (t : ℕ) → evaluate-record-lts.Need-in-table-requires (evaluate-record-claims t) (evaluate-record-at t) evaluate-record.Post
+evaluate-record-in-table-requires t c κs = search (matched-fits, needs)
 
 evaluate-record-sign-result-requires : (t : ℕ) → evaluate-record-lts.Need-sign-result-requires (evaluate-record-claims t) (evaluate-record-at t) evaluate-record.Post
 evaluate-record-sign-result-requires t c κs = search needs
 
-evaluate-record-enum-known-at : (t : ℕ) → evaluate-record-lts.Need-enum-known-at (evaluate-record-claims t) (evaluate-record-at t) evaluate-record.Post
-evaluate-record-enum-known-at t c = search needs
+evaluate-record-enum-known-opening-2 : (t : ℕ) → evaluate-record-lts.Need-enum-known-opening-2 (evaluate-record-claims t) (evaluate-record-at t) evaluate-record.Post
+evaluate-record-enum-known-opening-2 t c = search needs
+
+evaluate-record-in-table-requires-2 : (t : ℕ) → evaluate-record-lts.Need-in-table-requires-2 (evaluate-record-claims t) (evaluate-record-at t) evaluate-record.Post
+evaluate-record-in-table-requires-2 t c κs = search (open-fits, needs)
 
 evaluate-record-try-terms-requires : (t : ℕ) → evaluate-record-lts.Need-try-terms-requires (evaluate-record-claims t) (evaluate-record-at t) evaluate-record.Post
-evaluate-record-try-terms-requires t c κs = (omega arith, search (open-passing, needs))
+evaluate-record-try-terms-requires t c κs = (omega arith, search (open-underway, needs))
 
 evaluate-record-returns : (t : ℕ) → evaluate-record-lts.Need-returns (evaluate-record-claims t) (evaluate-record-at t) evaluate-record.Post
 evaluate-record-returns t c = search record-refused
@@ -313,11 +320,8 @@ include-same-length t c = cc
 include-returns : (t : ℕ) → include-lts.Need-returns (include-claims t) (include-at t) include.Post
 include-returns t c = search include-done
 
-no-match-find-redirect-requires : (t : ℕ) → no-match-lts.Need-find-redirect-requires (no-match-claims t) (no-match-at t) no-match.Post
-no-match-find-redirect-requires t c κs = search needs
-
-no-match-enum-known-from : (t : ℕ) → no-match-lts.Need-enum-known-from (no-match-claims t) (no-match-at t) no-match.Post
-no-match-enum-known-from t c = search needs
+no-match-enum-known-redirect : (t : ℕ) → no-match-lts.Need-enum-known-redirect (no-match-claims t) (no-match-at t) no-match.Post
+no-match-enum-known-redirect t c = search needs
 
 no-match-enum-told : (t : ℕ) → no-match-lts.Need-enum-told (no-match-claims t) (no-match-at t) no-match.Post
 no-match-enum-told t c = search needs
@@ -374,10 +378,10 @@ try-term-returns-2 : (t : ℕ) → try-term-lts.Need-returns-2 (try-term-claims 
 try-term-returns-2 t c = search tried-include
 
 abbrev try-terms-Inv-loop : try-terms-lts.InvT-loop
-try-terms-Inv-loop client sender helo receiver seconds table domain text first start out₀ s at₀ so-far₀ out at so-far = Walk table (mailOf client sender helo receiver seconds) (spanOf table domain) s first out₀ so-far₀ out at so-far
+try-terms-Inv-loop client sender helo receiver seconds table domain redirect exp start out₀ s at₀ so-far₀ out at so-far = Walk table (mailOf client sender helo receiver seconds) (spanOf table domain) s 6 out₀ so-far₀ out at so-far
 
 abbrev try-terms-μ-loop : try-terms-lts.MeasureT-loop
-try-terms-μ-loop client sender helo receiver seconds table domain text first start out₀ s at₀ so-far₀ out at so-far = length s + 1 - at
+try-terms-μ-loop client sender helo receiver seconds table domain redirect exp start out₀ s at₀ so-far₀ out at so-far = length s + 1 - at
 
 try-terms-part-requires : (t : ℕ) → try-terms-lts.Need-part-requires (try-terms-claims t) (try-terms-at t) try-terms.Post try-terms-Inv-loop try-terms-μ-loop
 try-terms-part-requires t c κs = search needs
@@ -416,7 +420,7 @@ try-terms-same-length-2 : (t : ℕ) → try-terms-lts.Need-same-length-2 (try-te
 try-terms-same-length-2 t c = c .before .before .before .before .before .out2 .given ∙ ap length (c .before .before .before .before .before .before .before .before .before .before .before .before .before .before .loop .inv .kept)
 
 try-terms-returns-2 : (t : ℕ) → try-terms-lts.Need-returns-2 (try-terms-claims t) (try-terms-at t) try-terms.Post try-terms-Inv-loop try-terms-μ-loop
-try-terms-returns-2 t c = walk-yes _ _ _ _ _ _ _ _ _ _ _ _ _ (c .signed .ensures) refl refl _ _ _ _ (c .before .before .before .before .before .before .before .before .before .before .before .before .before .before .loop .inv) (c .before .before .before .before .before .before .before .before .before .before .before .before .before .before .before .part .ensures) _ (c .before .before .before .before .before .before .before .before .before .before .before .before .next-term .ensures) _ _ (c .before .before .before .before .before .before .before .before .before .before .place .given .1) (c .before .before .before .before .before .before .before .before .before .before .before .before .before .loop-test .taken) _ (c .before .before .before .before .before .before .before .before .part2 .ensures) (c .before .before .before .before .before .before .try-term .ensures) (c .before .enum-told .given .1)
+try-terms-returns-2 t c = walk-yes _ _ _ _ _ _ _ _ _ _ _ _ _ (c .signed .ensures) refl (underway-failable (c .before .before .before .before .before .before .before .before .before .before .before .before .before .before .before .before .before .before .before .before .before .pre .1 .3)) _ _ _ _ (c .before .before .before .before .before .before .before .before .before .before .before .before .before .before .loop .inv) (c .before .before .before .before .before .before .before .before .before .before .before .before .before .before .before .part .ensures) _ (c .before .before .before .before .before .before .before .before .before .before .before .before .next-term .ensures) _ _ (c .before .before .before .before .before .before .before .before .before .before .place .given .1) (c .before .before .before .before .before .before .before .before .before .before .before .before .before .loop-test .taken) _ (c .before .before .before .before .before .before .before .before .part2 .ensures) (c .before .before .before .before .before .before .try-term .ensures) (c .before .enum-told .given .1)
 
 try-terms-enum-known-matched : (t : ℕ) → try-terms-lts.Need-enum-known-matched (try-terms-claims t) (try-terms-at t) try-terms.Post try-terms-Inv-loop try-terms-μ-loop
 try-terms-enum-known-matched t c = search needs
@@ -488,15 +492,15 @@ pub +begin-check+check-domain+evaluate-record+include+no-match+try-term+try-term
     (check-domain-select-record-requires t)
     (check-domain-enum-known-value t)
     (check-domain-ended-requires-2 t)
-    (check-domain-enum-known-kind t)
+    (check-domain-enum-told t)
+    (check-domain-want-requires t)
     (check-domain-wanting-requires t)
     (check-domain-enum-known-place t)
     (check-domain-evaluate-record-requires t)
-    (check-domain-same-length t)
     (check-domain-returns-2 t)
-    (check-domain-same-length-2 t)
+    (check-domain-same-length t)
     (check-domain-returns-3 t)
-    (check-domain-same-length-3 t)
+    (check-domain-same-length-2 t)
     (check-domain-returns-4 t))
     (λ t. evaluate-record-lts.spec (evaluate-record-claims t)
     (evaluate-record-at t)
@@ -505,9 +509,11 @@ pub +begin-check+check-domain+evaluate-record+include+no-match+try-term+try-term
     (evaluate-record-open-record-requires t)
     (evaluate-record-enum-told t)
     (evaluate-record-ended-requires t)
-    (evaluate-record-enum-known-sign t)
+    (evaluate-record-enum-known-opening t)
+    (evaluate-record-in-table-requires t)
     (evaluate-record-sign-result-requires t)
-    (evaluate-record-enum-known-at t)
+    (evaluate-record-enum-known-opening-2 t)
+    (evaluate-record-in-table-requires-2 t)
     (evaluate-record-try-terms-requires t)
     (evaluate-record-returns t)
     (evaluate-record-returns-2 t)
@@ -523,8 +529,7 @@ pub +begin-check+check-domain+evaluate-record+include+no-match+try-term+try-term
     (λ t. no-match-lts.spec (no-match-claims t)
     (no-match-at t)
     no-match.Post
-    (no-match-find-redirect-requires t)
-    (no-match-enum-known-from t)
+    (no-match-enum-known-redirect t)
     (no-match-enum-told t)
     (no-match-ended-requires t)
     (no-match-returns t)

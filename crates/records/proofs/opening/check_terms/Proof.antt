@@ -1,6 +1,6 @@
--- `records::opening::check_terms` meets its contract. From the rules of Laws.Openings: part way through the terms, what is answered from here on is
--- answered of all, and the terms so far are as the opening says.
-use Rattle.records.proofs.Laws.Openings.{Opens, opens-start, opens-end, opens-refused, opens-repeats, opens-less, opens-next, opens-past}
+-- `records::opening::check_terms` meets its contract. From the laws of Openings: at each place the answer from there on is the whole's, the terms so far
+-- are as the opening says, and their redirect and exp stand where the modifiers say.
+use Rattle.records.proofs.Laws.Openings.{Opens, opens-start, opens-end, opens-refused, opens-repeats, opens-notes, opens-less, opens-next, opens-past}
 use Prim.Native.Nat.{_+_, _-_}
 use lib.ListN.{length}
 use borrow.Author.Needs.{needs}
@@ -8,10 +8,10 @@ use Rattle.records.proofs.opening.check_terms.Statement.{statement}
 use Rattle.records.proofs.opening.check_terms.Tie as tie
 
 abbrev Inv-loop : tie.InvT-loop
-Inv-loop s first client at₀ redirect₀ explanation₀ opening₀ at redirect explanation opening = Opens client s first at redirect explanation opening
+Inv-loop s first client at₀ modifiers₀ opening₀ at modifiers opening = Opens client s first at modifiers opening
 
 abbrev μ-loop : tie.MeasureT-loop
-μ-loop s first client at₀ redirect₀ explanation₀ opening₀ at redirect explanation opening = length s + 1 - at
+μ-loop s first client at₀ modifiers₀ opening₀ at modifiers opening = length s + 1 - at
 
 loop-holds : tie.Need-loop-holds Inv-loop μ-loop
 loop-holds c = search opens-start
@@ -28,26 +28,23 @@ enum-known-answer-2 c = search needs
 returns : tie.Need-returns Inv-loop μ-loop
 returns c = search opens-end
 
+refused-requires : tie.Need-refused-requires Inv-loop μ-loop
+refused-requires c κs = search needs
+
 returns-2 : tie.Need-returns-2 Inv-loop μ-loop
 returns-2 c = search opens-refused
 
 repeats-requires : tie.Need-repeats-requires Inv-loop μ-loop
 repeats-requires c κs = search needs
 
+refused-requires-2 : tie.Need-refused-requires-2 Inv-loop μ-loop
+refused-requires-2 c κs = search needs
+
 returns-3 : tie.Need-returns-3 Inv-loop μ-loop
 returns-3 c = search opens-repeats
 
-is-redirect-requires : tie.Need-is-redirect-requires Inv-loop μ-loop
-is-redirect-requires c κs = search needs
-
-either-requires : tie.Need-either-requires Inv-loop μ-loop
-either-requires c κs = search needs
-
-is-explanation-requires : tie.Need-is-explanation-requires Inv-loop μ-loop
-is-explanation-requires c κs = search needs
-
-either-requires-2 : tie.Need-either-requires-2 Inv-loop μ-loop
-either-requires-2 c κs = search needs
+note-requires : tie.Need-note-requires Inv-loop μ-loop
+note-requires c κs = search opens-notes
 
 lead-on-requires : tie.Need-lead-on-requires Inv-loop μ-loop
 lead-on-requires c κs = search needs
@@ -72,13 +69,12 @@ check-terms-spec =
     enum-known-answer
     enum-known-answer-2
     returns
+    refused-requires
     returns-2
     repeats-requires
+    refused-requires-2
     returns-3
-    is-redirect-requires
-    either-requires
-    is-explanation-requires
-    either-requires-2
+    note-requires
     lead-on-requires
     loop-less
     loop-again

@@ -1,15 +1,12 @@
 -- `robustness::checks::evaluate_front` meets its contract.
-use lib.ListN.{length-take}
 use native.Mathlib.Omega.{arith}
+use lib.ListN.{length-take}
 use borrow.Author.Needs.{needs}
 use Rattle.robustness.proofs.checks.evaluate_front.Statement.{statement}
 use Rattle.robustness.proofs.checks.evaluate_front.Tie as tie
 
 name-room-requires : tie.Need-name-room-requires
 name-room-requires c κs = search needs
-
-text-room-requires : tie.Need-text-room-requires
-text-room-requires c κs = search needs
 
 pick-seconds-requires : tie.Need-pick-seconds-requires
 pick-seconds-requires c κs = search needs
@@ -20,20 +17,11 @@ slice-relend-prefix-evaluate c = search needs
 slice-aggregate-evaluate : tie.Need-slice-aggregate-evaluate
 slice-aggregate-evaluate c = simp length-take (omega arith)
 
-slice-relend-prefix-evaluate-2 : tie.Need-slice-relend-prefix-evaluate-2
-slice-relend-prefix-evaluate-2 c = search needs
-
-slice-aggregate-evaluate-2 : tie.Need-slice-aggregate-evaluate-2
-slice-aggregate-evaluate-2 c = simp length-take (omega arith)
-
 evaluate-requires : tie.Need-evaluate-requires
 evaluate-requires c κs = search needs
 
 same-length : tie.Need-same-length
 same-length c = search needs
-
-same-length-2 : tie.Need-same-length-2
-same-length-2 c = search needs
 
 returns : tie.Need-returns
 returns c = search needs
@@ -41,23 +29,15 @@ returns c = search needs
 returns-2 : tie.Need-returns-2
 returns-2 c = search needs
 
-returns-3 : tie.Need-returns-3
-returns-3 c = search needs
-
 pub evaluate-front-spec : {M : Type 1} → statement M
 evaluate-front-spec =
     tie.close
     (tie.spec
     name-room-requires
-    text-room-requires
     pick-seconds-requires
     slice-relend-prefix-evaluate
     slice-aggregate-evaluate
-    slice-relend-prefix-evaluate-2
-    slice-aggregate-evaluate-2
     evaluate-requires
     same-length
-    same-length-2
     returns
-    returns-2
-    returns-3)
+    returns-2)

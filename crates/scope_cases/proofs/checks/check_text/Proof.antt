@@ -4,15 +4,16 @@ use lib.ListN.{length-take}
 use borrow.Author.Needs.{needs}
 use Rattle.scope_cases.proofs.checks.check_text.Statement.{statement}
 use Rattle.scope_cases.proofs.checks.check_text.Tie as tie
+use Rattle.scope_cases.proofs.checks.check_text.Reads as reads
+use Rattle.scope_cases.proofs.checks.check_text.Lts as lts
+use Rattle.case_support.proofs.print_line.Reads as print-line-reads
+use Rattle.scope_cases.proofs.checks.print_lent.Reads as print-lent-reads
 
-slice-relend-prefix-check-input : tie.Need-slice-relend-prefix-check-input
-slice-relend-prefix-check-input c = search needs
+slice-relend-prefix-print-lent : tie.Need-slice-relend-prefix-print-lent
+slice-relend-prefix-print-lent c = search needs
 
-slice-aggregate-check-input : tie.Need-slice-aggregate-check-input
-slice-aggregate-check-input c = simp length-take (omega arith)
-
-check-input-requires : tie.Need-check-input-requires
-check-input-requires c κs = search needs
+slice-aggregate-print-lent : tie.Need-slice-aggregate-print-lent
+slice-aggregate-print-lent c = simp length-take (omega arith)
 
 print-lent-requires : tie.Need-print-lent-requires
 print-lent-requires c κs = search needs
@@ -22,6 +23,9 @@ same-length c = search needs
 
 same-length-2 : tie.Need-same-length-2
 same-length-2 c = search needs
+
+same-length-3 : tie.Need-same-length-3
+same-length-3 c = search needs
 
 returns : tie.Need-returns
 returns c = search needs
@@ -39,12 +43,12 @@ pub check-text-spec : {M : Type 1} → statement M
 check-text-spec =
     tie.close
     (tie.spec
-    slice-relend-prefix-check-input
-    slice-aggregate-check-input
-    check-input-requires
+    slice-relend-prefix-print-lent
+    slice-aggregate-print-lent
     print-lent-requires
     same-length
     same-length-2
+    same-length-3
     returns
     slice-aggregate-print-line
     print-line-requires
