@@ -19,6 +19,8 @@ use Rattle.records.specs.declared.opening.Unaided.{Unaided}
 use Rattle.records.specs.declared.opening.Opening.{Opening}
 use Rattle.records.specs.declared.opening.Modifier.{Modifier}
 use Rattle.records.specs.declared.opening.Modifiers.{Modifiers}
+use Rattle.records.specs.declared.opening.Place.{Place}
+use Rattle.records.specs.declared.opening.Met.{Met}
 use Rattle.records.specs.declared.opening.Reading.{Reading}
 use Rattle.records.specs.Reader.{readTerm, isRedirect, isExplanation, after-version, checkFrom, readRecord, Reads}
 
@@ -97,6 +99,12 @@ pub record OpeningOf (client : Address) (s : List ℕ) (r : Reading) : Type 0 wh
 abbrev pub noneMet : Modifiers
 noneMet = record { redirect = Modifier.Absent; exp = Modifier.Absent }
 
+unfoldable pub modifierAt : Place → Modifier
+modifierAt m = cond (eqb (m .to) 0) Modifier.Absent (Modifier.Part (m .from) (m .to))
+
+abbrev pub modifiersOf : Met → Modifiers
+modifiersOf m = record { redirect = modifierAt (m .redirect); exp = modifierAt (m .exp) }
+
 unfoldable pub isMet : Modifier → Bool
 isMet Modifier.Absent = false
 isMet (Modifier.Part from to) = true
@@ -116,10 +124,10 @@ noted m p (Term.Network sign from to a n) = m
 noted m p (Term.Exists sign from to) = m
 noted m p (Term.Unknown name to) = m
 
--- the places of a redirect or exp that begins at p are numbers of the machine
+-- the places of a redirect or exp that begins at p are numbers of the machine, and not 0
 pub record NoteFits (p : ℕ) (x : Term) : Type 0 where
-  pub redirect : (from to : ℕ) → x ≡ Term.Redirect from to → (from ≤ to) × (p + to ≤ most-bytes)
-  pub exp : (from to : ℕ) → x ≡ Term.Explanation from to → (from ≤ to) × (p + to ≤ most-bytes)
+  pub redirect : (from to : ℕ) → x ≡ Term.Redirect from to → (from ≤ to) × (p + to ≤ most-bytes) × (0 < to)
+  pub exp : (from to : ℕ) → x ≡ Term.Explanation from to → (from ≤ to) × (p + to ≤ most-bytes) × (0 < to)
 
 abbrev pub refusedOf : ℕ → ℕ → Reading
 refusedOf number p = record { opening = Opening.Refused number p; modifiers = noneMet }

@@ -2,7 +2,7 @@
 ghost use mathlib.Core.Path.{_≡_};
 ghost use Prim.Native.Nat.{_≤_};
 ghost use lib.ListN.{length};
-ghost use Rattle.records.specs.Opening.{unaided, ledOn, isMet, repeatedBy, NoteFits, noted, refusedOf, Opened, OpeningOf};
+ghost use Rattle.records.specs.Opening.{unaided, ledOn, modifierAt, modifiersOf, isMet, repeatedBy, NoteFits, noted, refusedOf, Opened, OpeningOf};
 use crate::AFTER_VERSION;
 use crate::MOST_BYTES;
 use crate::Term;
@@ -36,6 +36,18 @@ pub enum Modifier {
 pub struct Modifiers {
     pub redirect: Modifier,
     pub exp: Modifier,
+}
+
+// Where the argument of a modifier that was met stands, as two numbers; both are 0 where none was met.
+pub struct Place {
+    pub from: usize,
+    pub to: usize,
+}
+
+// Where those of the redirect and the exp that were met stand: what the walk over the terms carries, numbers alone.
+pub struct Met {
+    pub redirect: Place,
+    pub exp: Place,
 }
 
 // What reading a record for a client answers; a refused record has no modifiers.
@@ -114,47 +126,67 @@ fn lead_on(opening: Opening, client: Address, at: usize, next: usize, term: Term
     Opening::Open { at: start }
 }
 
-// Whether a modifier has been met.
-fn is_met(m: Modifier) -> bool
-    ensures { λ r. ⌜ r ≡ isMet m ⌝ }
+// A modifier by its place.
+fn modifier_at(place: Place) -> Modifier
+    ensures { λ r. ⌜ r ≡ modifierAt place ⌝ }
 {
-    let Modifier::Part { from: _, to: _ } = m else {
+    let from = place.from;
+    let to = place.to;
+    if to == 0 {
+        return Modifier::Absent;
+    }
+    Modifier::Part { from, to }
+}
+
+// The modifiers that were met.
+fn modifiers_of(met: Met) -> Modifiers
+    ensures { λ r. ⌜ r ≡ modifiersOf met ⌝ }
+{
+    Modifiers {
+        redirect: modifier_at(met.redirect),
+        exp: modifier_at(met.exp),
+    }
+}
+
+// Whether a modifier has been met.
+fn is_met(place: Place) -> bool
+    ensures { λ r. ⌜ r ≡ isMet (modifierAt place) ⌝ }
+{
+    if place.to == 0 {
         return false;
-    };
+    }
     true
 }
 
 // Whether a term is a second redirect or a second exp, by those that have stood before it.
-fn repeats(met: Modifiers, term: Term) -> bool
-    ensures { λ r. ⌜ r ≡ repeatedBy met term ⌝ }
+fn repeats(met: Met, term: Term) -> bool
+    ensures { λ r. ⌜ r ≡ repeatedBy (modifiersOf met) term ⌝ }
 {
-    let redirect = met.redirect;
-    let exp = met.exp;
     match term {
-        Term::Redirect { from: _, to: _ } => is_met(redirect),
-        Term::Explanation { from: _, to: _ } => is_met(exp),
+        Term::Redirect { from: _, to: _ } => is_met(met.redirect),
+        Term::Explanation { from: _, to: _ } => is_met(met.exp),
         _ => false,
     }
 }
 
 // The modifiers met with one more term, which begins at a place.
-fn note(met: Modifiers, place: usize, term: Term) -> Modifiers
+fn note(met: Met, place: usize, term: Term) -> Met
     requires { ⌜ NoteFits place term ⌝ }
-    ensures { λ r. ⌜ r ≡ noted met place term ⌝ }
+    ensures { λ r. ⌜ modifiersOf r ≡ noted (modifiersOf met) place term ⌝ }
 {
     let redirect = met.redirect;
     let exp = met.exp;
     match term {
-        Term::Redirect { from, to } => Modifiers {
-            redirect: Modifier::Part {
+        Term::Redirect { from, to } => Met {
+            redirect: Place {
                 from: place + from,
                 to: place + to,
             },
             exp,
         },
-        Term::Explanation { from, to } => Modifiers {
+        Term::Explanation { from, to } => Met {
             redirect,
-            exp: Modifier::Part {
+            exp: Place {
                 from: place + from,
                 to: place + to,
             },
@@ -182,9 +214,9 @@ fn check_terms(s: &[u8], first: usize, client: Address) -> Reading
     ensures { λ r. ⌜ Opened client (now (s .entry)) first r ⌝ }
 {
     let mut at = first;
-    let mut modifiers = Modifiers {
-        redirect: Modifier::Absent,
-        exp: Modifier::Absent,
+    let mut met = Met {
+        redirect: Place { from: 0, to: 0 },
+        exp: Place { from: 0, to: 0 },
     };
     let mut opening = Opening::Open { at: first };
     while at <= s.len() {
@@ -196,18 +228,24 @@ fn check_terms(s: &[u8], first: usize, client: Address) -> Reading
         } = answer
         else {
             let TermAnswer::Refused { number, at: place } = answer else {
-                return Reading { opening, modifiers };
+                return Reading {
+                    opening,
+                    modifiers: modifiers_of(met),
+                };
             };
             return refused(number, place);
         };
-        if repeats(modifiers, term) {
+        if repeats(met, term) {
             return refused(33, place);
         }
-        modifiers = note(modifiers, place, term);
+        met = note(met, place, term);
         opening = lead_on(opening, client, at, next, term);
         at = next;
     }
-    Reading { opening, modifiers }
+    Reading {
+        opening,
+        modifiers: modifiers_of(met),
+    }
 }
 
 // Reads a record for a client: refused as read_record has it, with 32 at the term's first byte, or accepted, with the places of its modifiers.

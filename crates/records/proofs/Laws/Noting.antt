@@ -1,12 +1,13 @@
--- The modifiers met, with one more term: the ways out of `repeats` and `note`, and that the places noted are where the modifiers stand. From the
--- definitions of Opening and the laws of Standing, by whether the term is a redirect, an exp or neither.
-use Prim.Native.Nat.{ℕ, _+_}
+-- The modifiers met, with one more term: the ways out of `modifier_at`, `is_met`, `repeats` and `note`, and that the places noted are where the
+-- modifiers stand. From the definitions of Opening and the laws of Standing, by whether the term is a redirect, an exp or neither.
+use Prim.Native.Nat.{ℕ, _+_, _<_}
 use mathlib.Core.Path.{_≡_, refl, sym, ap, _∙_}
 use mathlib.Core.List.{List, [], _∷_}
-use mathlib.Core.Bool.{Bool, false, _||_, and-true, and-false, or-true, or-false}
+use mathlib.Core.Bool.{Bool, true, false, _||_, and-true, and-false, or-true, or-false}
 use native.Mathlib.Omega.{arith}
 use mir.Syntax.{w64}
 use mir.Val.{Fits}
+use borrow.Author.Tests.{eq-eqb, ne-eqb}
 use types.Run.{OneOf, miss}
 use denote.Enum.Declared.{tagOf, declared}
 use Rattle.text.specs.Bytes.{part}
@@ -17,7 +18,9 @@ use Rattle.records.specs.declared.Term.{Term}
 use Rattle.records.specs.declared.TermAnswer.{TermAnswer}
 use Rattle.records.specs.declared.opening.Modifier.{Modifier}
 use Rattle.records.specs.declared.opening.Modifiers.{Modifiers}
-use Rattle.records.specs.Opening.{isMet, repeatedBy, noted, NoteFits}
+use Rattle.records.specs.declared.opening.Place.{Place}
+use Rattle.records.specs.declared.opening.Met.{Met}
+use Rattle.records.specs.Opening.{modifierAt, modifiersOf, isMet, repeatedBy, noted, NoteFits}
 use Rattle.records.proofs.Term as term-type
 use Rattle.records.proofs.Laws.Tokens.{redirect-name, explanation-name}
 use Rattle.records.proofs.Laws.Arguments.{stands, redirect-argument, explanation-argument}
@@ -57,32 +60,66 @@ told-neither redirect h = absurd (miss (0 ∷ 1 ∷ 2 ∷ 3 ∷ 4 ∷ 5 ∷ 6 �
 told-neither exp h = absurd (miss (0 ∷ 1 ∷ 2 ∷ 3 ∷ 4 ∷ 5 ∷ 6 ∷ 9 ∷ []) 8 tt h)
 told-neither (neither n) h = n
 
+-- a modifier by its place
+module _ (m : Place) where
+  pub at-none : m .to ≡ 0 → Modifier.Absent ≡ modifierAt m
+  unfolding modifierAt
+  at-none h = sym (simp (eq-eqb (m .to) 0 h))
+
+  pub at-some : (m .to ≡ 0 → ⊥) → Modifier.Part (m .from) (m .to) ≡ modifierAt m
+  unfolding modifierAt
+  at-some h = sym (simp (ne-eqb (m .to) 0 h))
+
+  pub met-none : m .to ≡ 0 → false ≡ isMet (modifierAt m)
+  unfolding isMet
+  met-none h = ap isMet (at-none h)
+
+  pub met-some : (m .to ≡ 0 → ⊥) → true ≡ isMet (modifierAt m)
+  unfolding isMet
+  met-some h = ap isMet (at-some h)
+
 module _ (m : Modifiers) (t : Term) where
-  -- `repeats`
-  pub repeats-redirect : (from to : ℕ) → t ≡ Term.Redirect from to → (x : Bool) → x ≡ isMet (m .redirect) → x ≡ repeatedBy m t
+  repeats-redirect : (from to : ℕ) → t ≡ Term.Redirect from to → (x : Bool) → x ≡ isMet (m .redirect) → x ≡ repeatedBy m t
   unfolding repeatedBy isRedirect isExplanation
   repeats-redirect from to e x h = h ∙ sym (simp (e, and-true, and-false, or-false))
 
-  pub repeats-exp : (from to : ℕ) → t ≡ Term.Explanation from to → (x : Bool) → x ≡ isMet (m .exp) → x ≡ repeatedBy m t
+  repeats-exp : (from to : ℕ) → t ≡ Term.Explanation from to → (x : Bool) → x ≡ isMet (m .exp) → x ≡ repeatedBy m t
   unfolding repeatedBy isRedirect isExplanation
   repeats-exp from to e x h = h ∙ sym (simp (e, and-true, and-false))
 
-  pub repeats-neither : Told t → false ≡ repeatedBy m t
+  repeats-neither : Told t → false ≡ repeatedBy m t
   unfolding repeatedBy
   repeats-neither h = let n = told-neither (case-of t) h in sym (simp (n .no-redirect, n .no-exp, and-false))
 
-  -- `note`
-  module _ (p : ℕ) where
-    pub note-redirect : (from to : ℕ) → t ≡ Term.Redirect from to → record { redirect = Modifier.Part (p + from) (p + to); exp = m .exp } ≡ noted m p t
-    unfolding noted
-    note-redirect from to e = ap (noted m p) (sym e)
+-- `repeats`, `note`
+module _ (m : Met) (t : Term) where
+  pub met-redirect : (from to : ℕ) → t ≡ Term.Redirect from to → (x : Bool) → x ≡ isMet (modifierAt (m .redirect)) → x ≡ repeatedBy (modifiersOf m) t
+  met-redirect = repeats-redirect (modifiersOf m) t
 
-    pub note-exp : (from to : ℕ) → t ≡ Term.Explanation from to → record { redirect = m .redirect; exp = Modifier.Part (p + from) (p + to) } ≡ noted m p t
-    unfolding noted
-    note-exp from to e = ap (noted m p) (sym e)
+  pub met-exp : (from to : ℕ) → t ≡ Term.Explanation from to → (x : Bool) → x ≡ isMet (modifierAt (m .exp)) → x ≡ repeatedBy (modifiersOf m) t
+  met-exp = repeats-exp (modifiersOf m) t
 
-    pub note-neither : Told t → m ≡ noted m p t
-    note-neither h = sym (told-neither (case-of t) h .kept m p)
+  pub met-neither : Told t → false ≡ repeatedBy (modifiersOf m) t
+  met-neither = repeats-neither (modifiersOf m) t
+
+  module _ (p : ℕ) (f : NoteFits p t) where
+    part-of : (from to : ℕ) → 0 < to → modifierAt (record { from = p + from; to = p + to }) ≡ Modifier.Part (p + from) (p + to)
+    part-of from to h = sym (at-some (record { from = p + from; to = p + to }) (λ z. omega (arith, h, z)))
+
+    pub note-redirect : (from to : ℕ) → t ≡ Term.Redirect from to
+        → modifiersOf (record { redirect = record { from = p + from; to = p + to }; exp = m .exp }) ≡ noted (modifiersOf m) p t
+    unfolding noted
+    note-redirect from to e =
+        ap (λ (x : Modifier). record { redirect = x; exp = modifierAt (m .exp) }) (part-of from to (f .redirect from to e .2)) ∙ ap (noted (modifiersOf m) p) (sym e)
+
+    pub note-exp : (from to : ℕ) → t ≡ Term.Explanation from to
+        → modifiersOf (record { redirect = m .redirect; exp = record { from = p + from; to = p + to } }) ≡ noted (modifiersOf m) p t
+    unfolding noted
+    note-exp from to e =
+        ap (λ (x : Modifier). record { redirect = modifierAt (m .redirect); exp = x }) (part-of from to (f .exp from to e .2)) ∙ ap (noted (modifiersOf m) p) (sym e)
+
+    pub note-neither : Told t → modifiersOf m ≡ noted (modifiersOf m) p t
+    note-neither h = sym (told-neither (case-of t) h .kept (modifiersOf m) p)
 
 -- its sums
 module _ (p : ℕ) (t : Term) (f : NoteFits p t) (from to : ℕ) where
@@ -100,8 +137,8 @@ module _ (p : ℕ) (t : Term) (f : NoteFits p t) (from to : ℕ) where
 
 pub note-fits : (s : List ℕ) (i p n : ℕ) (t : Term) → readTerm s i ≡ TermAnswer.Is p n t → NoteFits p t
 note-fits s i p n t q = record {
-  redirect = λ from to e. let a = redirect-argument s i p n from to (q ∙ ap (TermAnswer.Is p n) e) in (a .order, a .fits);
-  exp = λ from to e. let a = explanation-argument s i p n from to (q ∙ ap (TermAnswer.Is p n) e) in (a .order, a .fits);
+  redirect = λ from to e. let a = redirect-argument s i p n from to (q ∙ ap (TermAnswer.Is p n) e) in (a .order, a .fits, omega (arith, a .first, a .order));
+  exp = λ from to e. let a = explanation-argument s i p n from to (q ∙ ap (TermAnswer.Is p n) e) in (a .order, a .fits, omega (arith, a .first, a .order));
 }
 
 -- which are met then

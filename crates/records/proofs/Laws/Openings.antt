@@ -23,7 +23,7 @@ use Rattle.records.specs.declared.opening.Reading.{Reading}
 use Rattle.records.specs.Answers.{most-bytes}
 use Rattle.records.specs.Reader.{readTerm, isRedirect, isExplanation, checkAfter, checkFrom, hasVersion, readRecord, after-version}
 use Rattle.records.proofs.TermAnswer as answer-type
-use Rattle.records.specs.Opening.{unaided, Passing, Leads, ModifiersAre, Accepts, Opened, OpeningOf, answerOf, noneMet, isMet, repeatedBy, noted, NoteFits, refusedOf, ledBy, ledOn}
+use Rattle.records.specs.Opening.{modifierAt, modifiersOf, unaided, Passing, Leads, ModifiersAre, Accepts, Opened, OpeningOf, answerOf, noneMet, isMet, repeatedBy, noted, NoteFits, refusedOf, ledBy, ledOn}
 use Rattle.records.proofs.opening.Opening as opening-type
 use Rattle.records.proofs.Laws.Checking.{Checking, checking-start, checking-ended, checking-repeats, checking-less, checking-next, record-long, record-other, record-checked}
 use Rattle.records.proofs.Laws.Standing.{Sought, sought-start, sought-end}
@@ -129,7 +129,7 @@ pub record Opens (client : Address) (s : List ℕ) (i₀ i : ℕ) (m : Modifiers
   pub redirect : Sought s (bytes "redirect") i₀ i (m .redirect)
   pub exp : Sought s (bytes "exp") i₀ i (m .exp)
 
-pub opens-start : (client : Address) (s : List ℕ) (i : ℕ) → i ≤ length s → Opens client s i i noneMet (Opening.Open i)
+opens-start : (client : Address) (s : List ℕ) (i : ℕ) → i ≤ length s → Opens client s i i noneMet (Opening.Open i)
 unfolding answerOf isMet
 opens-start client s i h = record {
   checks = checking-start s i h;
@@ -138,6 +138,11 @@ opens-start client s i h = record {
   redirect = sought-start s (bytes "redirect") i;
   exp = sought-start s (bytes "exp") i;
 }
+
+pub opens-begin : (client : Address) (s : List ℕ) (i : ℕ) → i ≤ length s
+    → Opens client s i i (modifiersOf (record { redirect = record { from = 0; to = 0 }; exp = record { from = 0; to = 0 } })) (Opening.Open i)
+unfolding modifierAt
+opens-begin client s i h = opens-start client s i h
 
 -- a refusal tells nothing of the terms
 no-modifiers : (s : List ℕ) (i number p : ℕ) → Accepts (Opening.Refused number p) → ModifiersAre s i noneMet
@@ -150,8 +155,8 @@ unfolding answerOf
 refused-opened client s i number p h r e = rw e (record { checks = h; leads = Leads.refused; modifiers = no-modifiers s i number p })
 
 module _ (client : Address) (s : List ℕ) (i₀ i : ℕ) (m : Modifiers) (o : Opening) (w : Opens client s i₀ i m o) where
-  pub opens-past : length s < i → Opened client s i₀ (record { opening = o; modifiers = m })
-  opens-past h = absurd (omega (arith, w .checks .inside))
+  pub opens-past : length s < i → (y : Modifiers) → Opened client s i₀ (record { opening = o; modifiers = y })
+  opens-past h y = absurd (omega (arith, w .checks .inside))
 
   -- which modifiers have been met
   abbrev r : Bool
@@ -162,9 +167,9 @@ module _ (client : Address) (s : List ℕ) (i₀ i : ℕ) (m : Modifiers) (o : O
 
   module _ (a : TermAnswer) (p : a ≡ readTerm s i) where
     pub opens-end : OneOf (1 ∷ 2 ∷ []) (tagOf (declared answer-type.enum) a) → OneOf (0 ∷ 1 ∷ []) (tagOf (declared answer-type.enum) a)
-        → Opened client s i₀ (record { opening = o; modifiers = m })
+        → (y : Modifiers) → y ≡ m → Opened client s i₀ (record { opening = o; modifiers = y })
     unfolding checkAfter
-    opens-end h k = by a p h k
+    opens-end h k y f = rw f (by a p h k)
       where
         by : (b : TermAnswer) → b ≡ readTerm s i → OneOf (1 ∷ 2 ∷ []) (tagOf (declared answer-type.enum) b) → OneOf (0 ∷ 1 ∷ []) (tagOf (declared answer-type.enum) b)
             → Opened client s i₀ (record { opening = o; modifiers = m })

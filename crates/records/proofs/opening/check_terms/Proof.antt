@@ -1,20 +1,21 @@
 -- `records::opening::check_terms` meets its contract. From the laws of Openings: at each place the answer from there on is the whole's, the terms so far
 -- are as the opening says, and their redirect and exp stand where the modifiers say.
-use Rattle.records.proofs.Laws.Openings.{Opens, opens-start, opens-end, opens-refused, opens-repeats, opens-notes, opens-less, opens-next, opens-past}
+use Rattle.records.proofs.Laws.Openings.{Opens, opens-begin, opens-end, opens-refused, opens-repeats, opens-notes, opens-less, opens-next, opens-past}
 use Prim.Native.Nat.{_+_, _-_}
 use lib.ListN.{length}
+use Rattle.records.specs.Opening.{modifiersOf}
 use borrow.Author.Needs.{needs}
 use Rattle.records.proofs.opening.check_terms.Statement.{statement}
 use Rattle.records.proofs.opening.check_terms.Tie as tie
 
 abbrev Inv-loop : tie.InvT-loop
-Inv-loop s first client at₀ modifiers₀ opening₀ at modifiers opening = Opens client s first at modifiers opening
+Inv-loop s first client at₀ met₀ opening₀ at met opening = Opens client s first at (modifiersOf met) opening
 
 abbrev μ-loop : tie.MeasureT-loop
-μ-loop s first client at₀ modifiers₀ opening₀ at modifiers opening = length s + 1 - at
+μ-loop s first client at₀ met₀ opening₀ at met opening = length s + 1 - at
 
 loop-holds : tie.Need-loop-holds Inv-loop μ-loop
-loop-holds c = search opens-start
+loop-holds c = search opens-begin
 
 next-term-requires : tie.Need-next-term-requires Inv-loop μ-loop
 next-term-requires c κs = search needs
@@ -24,6 +25,9 @@ enum-known-answer c = search needs
 
 enum-known-answer-2 : tie.Need-enum-known-answer-2 Inv-loop μ-loop
 enum-known-answer-2 c = search needs
+
+modifiers-of-requires : tie.Need-modifiers-of-requires Inv-loop μ-loop
+modifiers-of-requires c κs = search needs
 
 returns : tie.Need-returns Inv-loop μ-loop
 returns c = search opens-end
@@ -55,6 +59,9 @@ loop-less c = search opens-less
 loop-again : tie.Need-loop-again Inv-loop μ-loop
 loop-again c = search opens-next
 
+modifiers-of-requires-2 : tie.Need-modifiers-of-requires-2 Inv-loop μ-loop
+modifiers-of-requires-2 c κs = search needs
+
 returns-4 : tie.Need-returns-4 Inv-loop μ-loop
 returns-4 c = search opens-past
 
@@ -68,6 +75,7 @@ check-terms-spec =
     next-term-requires
     enum-known-answer
     enum-known-answer-2
+    modifiers-of-requires
     returns
     refused-requires
     returns-2
@@ -78,4 +86,5 @@ check-terms-spec =
     lead-on-requires
     loop-less
     loop-again
+    modifiers-of-requires-2
     returns-4)

@@ -3,6 +3,8 @@ use Rattle.records.proofs.Laws.Noting.{note-redirect, note-exp, note-ne
 use borrow.Author.Needs.{needs}
 use Rattle.records.proofs.opening.note.Statement.{statement}
 use Rattle.records.proofs.opening.note.Tie as tie
+use Rattle.records.proofs.opening.note.Reads as reads
+use Rattle.records.proofs.opening.note.Lts as lts
 
 enum-known-term : tie.Need-enum-known-term
 enum-known-term c = search needs
