@@ -9,6 +9,7 @@
 // stays; `touched` comes after an answer if the call changed a byte that it doesn't say it wrote. Any other line is printed as it is.
 use address::Address;
 use case_support::Line;
+use case_support::is_kept;
 use evaluation::Answer;
 use evaluation::evaluate;
 use evaluation::explaining::Explanation;
@@ -17,22 +18,7 @@ use rules::Counts;
 use text::bytes::part;
 use text::words;
 
-// The byte of which a lent buffer is full before a call.
-const FULL_OF: u8 = 165;
-
-// Whether a buffer is as it was before the call from a place on.
-fn is_kept(out: &[u8], from: usize) -> bool {
-    let mut i = from;
-    while i < out.len() {
-        if out[i] != FULL_OF {
-            return false;
-        }
-        i += 1;
-    }
-    true
-}
-
-// The same of two buffers.
+// Whether two buffers are as they were before the call, each from a place on.
 fn are_kept(a: &[u8], a_end: usize, b: &[u8], b_end: usize) -> bool {
     if is_kept(a, a_end) {
         return is_kept(b, b_end);
@@ -212,12 +198,14 @@ fn explain_front(
 
 // The call that a line names, once the arguments are read.
 fn run_call(line: &[u8], domain: &[u8], sender: &[u8], helo: &[u8], receiver: &[u8], table: &[u8]) {
-    let mut name = [FULL_OF; 512];
+    let mut name = [0u8; 512];
+    case_support::fill(&mut name);
     if words::equal(case_support::word(line, 0), b"first") {
         let answer = evaluate_front(line, domain, sender, helo, receiver, table, &mut name);
         return print_answer(answer, &name);
     }
-    let mut text = [FULL_OF; 1024];
+    let mut text = [0u8; 1024];
+    case_support::fill(&mut text);
     let explanation = explain_front(
         line,
         case_support::address_of(case_support::word(line, 5)),

@@ -1,4 +1,4 @@
-// What the programs that run cases share: lines of the input, their words, what the words write, and answers printed.
+// What the programs that run cases share: lines of the input, their words, what the words write, answers printed, and which bytes a call kept.
 ghost use Prim.Native.Nat.{_<_, min};
 ghost use mathlib.Core.Path.{_≡_};
 ghost use lib.ListN.{length};
@@ -156,4 +156,30 @@ pub fn print_address(a: Address) {
         Address::IPv6(high, low) => print_bytes(&address::octets16(high, low)),
     }
     print_line(b"");
+}
+
+// The byte that a buffer has at a place before a call.
+fn pattern(i: usize) -> u8 {
+    (i % 251) as u8
+}
+
+// Fills a buffer before a call.
+pub fn fill(out: &mut [u8]) {
+    let mut i = 0;
+    while i < out.len() {
+        out[i] = pattern(i);
+        i += 1;
+    }
+}
+
+// Whether a buffer is as it was filled from a place on.
+pub fn is_kept(out: &[u8], from: usize) -> bool {
+    let mut i = from;
+    while i < out.len() {
+        if out[i] != pattern(i) {
+            return false;
+        }
+        i += 1;
+    }
+    true
 }

@@ -122,7 +122,7 @@ fn run_turn(
     digest: u64,
 ) -> Turn {
     let mut name = [0u8; 300];
-    tally::fill(&mut name);
+    case_support::fill(&mut name);
     let t = part(table, 0, size);
     let answer = evaluate_front(rooms, client, domain, sender, helo, receiver, t, &mut name);
     let noted = note_answer(answer, &name, counts, digest);

@@ -121,8 +121,8 @@ fn run_turn(
 ) -> Turn {
     let mut name = [0u8; 300];
     let mut text = [0u8; 600];
-    tally::fill(&mut name);
-    tally::fill(&mut text);
+    case_support::fill(&mut name);
+    case_support::fill(&mut text);
     let answer = explain_front(
         told,
         client,

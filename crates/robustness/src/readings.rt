@@ -170,7 +170,7 @@ fn run_expansion(
     let mut p = [0u8; 512];
     let mut out = [0u8; 700];
     let n = arguments::put_p(random::draw(seed, 1), &mut p);
-    tally::fill(&mut out);
+    case_support::fill(&mut out);
     let answer = expand_front(
         random::draw(seed, 2),
         s,

@@ -69,36 +69,10 @@ pub fn count(counts: &mut [u64], start: u8, number: u8) {
     }
 }
 
-// The byte that a buffer has at a place before a call.
-fn pattern(i: usize) -> u8 {
-    (i % 251) as u8
-}
-
-// Fills a buffer before a call.
-pub fn fill(out: &mut [u8]) {
-    let mut i = 0;
-    while i < out.len() {
-        out[i] = pattern(i);
-        i += 1;
-    }
-}
-
-// Whether a buffer is as it was filled from a place on.
-fn is_kept(out: &[u8], from: usize) -> bool {
-    let mut i = from;
-    while i < out.len() {
-        if out[i] != pattern(i) {
-            return false;
-        }
-        i += 1;
-    }
-    true
-}
-
 // Counts whether two buffers are as they were filled but for so many bytes at the front of each.
 pub fn count_kept(a: &[u8], a_end: usize, b: &[u8], b_end: usize, counts: &mut [u64]) {
-    if is_kept(a, a_end) {
-        if is_kept(b, b_end) {
+    if case_support::is_kept(a, a_end) {
+        if case_support::is_kept(b, b_end) {
             count(counts, KEPT, 0);
             return;
         }

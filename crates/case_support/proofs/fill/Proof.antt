@@ -1,10 +1,10 @@
--- `robustness_inputs::tally::fill` meets its contract.
+-- `case_support::fill` meets its contract.
 use lib.ListN.{length, length-set}
 use Prim.Native.Nat.{_-_}
 use mathlib.Core.Path.{_≡_}
 use borrow.Author.Needs.{needs}
-use Rattle.robustness_inputs.proofs.tally.fill.Statement.{statement}
-use Rattle.robustness_inputs.proofs.tally.fill.Tie as tie
+use Rattle.case_support.proofs.fill.Statement.{statement}
+use Rattle.case_support.proofs.fill.Tie as tie
 
 abbrev Inv-loop : tie.InvT-loop
 Inv-loop out₀ i₀ out i = length out ≡ length out₀

@@ -1,9 +1,9 @@
--- `call_cases::is_kept` meets its contract.
-use Prim.Native.Nat.{_-_}
+-- `case_support::is_kept` meets its contract.
 use lib.ListN.{length}
+use Prim.Native.Nat.{_-_}
 use borrow.Author.Needs.{needs}
-use Rattle.call_cases.proofs.is_kept.Statement.{statement}
-use Rattle.call_cases.proofs.is_kept.Tie as tie
+use Rattle.case_support.proofs.is_kept.Statement.{statement}
+use Rattle.case_support.proofs.is_kept.Tie as tie
 
 abbrev Inv-loop : tie.InvT-loop
 Inv-loop out from i₀ i = Unit {0}
@@ -16,6 +16,9 @@ loop-holds c = search needs
 
 shared-slice-read-if1 : tie.Need-shared-slice-read-if1 Inv-loop μ-loop
 shared-slice-read-if1 c = search needs
+
+pattern-requires : tie.Need-pattern-requires Inv-loop μ-loop
+pattern-requires c κs = search needs
 
 returns : tie.Need-returns Inv-loop μ-loop
 returns c = search needs
@@ -40,6 +43,7 @@ is-kept-spec =
     μ-loop
     loop-holds
     shared-slice-read-if1
+    pattern-requires
     returns
     add-i
     loop-less
