@@ -1,5 +1,5 @@
 -- An address as its octets, high-order first.
-use Prim.Native.Nat.{ℕ, zero, suc, _+_, _*_, _/_, _%_}
+use Prim.Native.Nat.{ℕ, zero, suc, _+_, _*_, _/_, _%_, _^_, _<_}
 use mathlib.Core.List.{List, [], _∷_, _++_}
 use mathlib.Core.Bool.{cond, _&&_}
 use lib.ListN.{length, take, drop, replicate}
@@ -9,6 +9,11 @@ use Rattle.address.specs.declared.Address.{Address}
 use Rattle.address.specs.declared.Address.the-variants.{IPv4, IPv6}
 use Rattle.address.specs.declared.FromOctets.{FromOctets}
 use Rattle.address.specs.declared.FromOctets.the-variants.{Is, NoAddress}
+
+-- the numbers of an address as its types hold them
+abbrev pub InRange : Address → Type 0
+InRange (IPv4 v) = v < 2 ^ 32
+InRange (IPv6 high low) = (high < 2 ^ 64) × (low < 2 ^ 64)
 
 -- the n low-order octets of a number, high-order first
 unfoldable pub octetsOf : ℕ → ℕ → List ℕ

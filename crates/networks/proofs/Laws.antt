@@ -30,3 +30,5 @@ pub mod Addresses
 pub mod Plain
 -- Beginnings: what networks and prefix lengths begin with.
 pub mod Beginnings
+-- Ranges: the address that a text writes is in range.
+pub mod Ranges

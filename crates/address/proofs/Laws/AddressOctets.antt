@@ -1,5 +1,5 @@
 -- An address and its octets, one from the other. Assumes nothing.
-use Prim.Native.Nat.{ℕ, _-_, _^_, _<_}
+use Prim.Native.Nat.{ℕ, _-_}
 use mathlib.Core.Path.{_≡_, ap, subst, _∙_}
 use mathlib.Core.List.{List, _++_}
 use native.Mathlib.Omega.{arith}
@@ -12,13 +12,8 @@ use Rattle.address.specs.declared.Address.{Address}
 use Rattle.address.specs.declared.Address.the-variants.{IPv4, IPv6}
 use Rattle.address.specs.declared.FromOctets.{FromOctets}
 use Rattle.address.specs.declared.FromOctets.the-variants.{Is, NoAddress}
-use Rattle.address.specs.Octets.{octetsOf, octets, valueOf, fromOctets}
+use Rattle.address.specs.Octets.{InRange, octetsOf, octets, valueOf, fromOctets}
 use Rattle.address.proofs.Laws.OctetValues.{Bytes, length-octetsOf, octets-value, octets-injective, octets-first, bytes-take, bytes-drop, bytes-append, bytes-octets}
-
--- the numbers of an address as its types hold them
-abbrev pub InRange : Address → Type 0
-InRange (IPv4 v) = v < 2 ^ 32
-InRange (IPv6 high low) = (high < 2 ^ 64) × (low < 2 ^ 64)
 
 pub length-four : (v : ℕ) → length (octets (IPv4 v)) ≡ 4
 unfolding octets

@@ -14,9 +14,9 @@ use Rattle.text.proofs.Laws.Tests.{and-left, and-right, and-both, same-tests}
 use Rattle.text.proofs.Laws.Words.{same-true, same-refl}
 use Rattle.address.specs.declared.Address.{Address}
 use Rattle.address.specs.declared.Address.the-variants.{IPv4, IPv6}
-use Rattle.address.specs.Octets.{octetsOf, octets, mappedPrefix, clientOctets, asClient}
+use Rattle.address.specs.Octets.{InRange, octetsOf, octets, mappedPrefix, clientOctets, asClient}
 use Rattle.address.proofs.Laws.OctetValues.{length-octetsOf, octets-split, octets-add, octets-injective, octets-first}
-use Rattle.address.proofs.Laws.AddressOctets.{InRange, length-four, length-sixteen}
+use Rattle.address.proofs.Laws.AddressOctets.{length-four, length-sixteen}
 
 -- the octets of an IPv6 address, cut before the last four
 module _ (high low : ℕ) where
