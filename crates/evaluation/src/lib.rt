@@ -1,11 +1,9 @@
 // An evaluation in two calls: whether a client may send for a domain, or the one question that is missing; and then, for a fail, its explanation.
 ghost use Prim.Native.Nat.{_≤_};
 ghost use mathlib.Core.Path.{_≡_};
-ghost use mathlib.Core.Bool.{_&&_};
 ghost use lib.ListN.{length};
 ghost use Rattle.rules.specs.Tree.{run};
 ghost use Rattle.rules.specs.Tables.{tableIn};
-ghost use Rattle.macros.specs.Expansion.{isHost};
 ghost use Rattle.rules.specs.Evaluation.{evaluation};
 ghost use Rattle.rules.specs.Outcomes.{mailOf, SaysCheck, FailingAt};
 ghost use Rattle.evaluation.specs.Evaluating.{refusalOf};
@@ -54,22 +52,12 @@ pub enum Answer {
     },
 }
 
-// Whether both are hosts.
-fn are_hosts(helo: &[u8], receiver: &[u8]) -> bool
-    ensures { λ r. ⌜ r ≡ (isHost (now (helo .entry)) && isHost (now (receiver .entry))) ⌝ }
-{
-    if values::is_host(helo) {
-        return values::is_host(receiver);
-    }
-    false
-}
-
 // 20 to 23 in that order, 23 for a name buffer's length; 0 where the arguments fit.
 fn refusal(domain: &[u8], sender: &[u8], helo: &[u8], receiver: &[u8], name: usize) -> u8
     ensures { λ r. ⌜ r ≡ refusalOf (now (domain .entry)) (now (sender .entry)) (now (helo .entry)) (now (receiver .entry)) name ⌝ }
 {
     if values::is_sender(sender) {
-        if are_hosts(helo, receiver) {
+        if values::are_hosts(helo, receiver) {
             if values::is_short(domain) {
                 if MOST_NAME <= name {
                     return 0;

@@ -12,7 +12,7 @@ ghost use Rattle.macros.specs.Reader.{pieces, scanOf, isMacroString, use
 ghost use Rattle.domain.specs.Normal.{nameAnswer, nameBuffer};
 ghost use Rattle.address_text.specs.Digits.{inDecimal};
 ghost use Rattle.address_text.specs.Forms.{dotted, readable, family};
-ghost use Rattle.macros.specs.Expansion.{given, letters, receiverName, lettersOf, textOf, isHost, isShort};
+ghost use Rattle.macros.specs.Expansion.{given, letters, receiverName, lettersOf, textOf, isShort};
 ghost use Rattle.macros.specs.Numbers.{fitted, outcome, Says};
 ghost use Rattle.macros.specs.Answers.{Answered};
 ghost use Rattle.macros.specs.Question.{questionName};
@@ -139,16 +139,6 @@ pub fn uses_p(form: Form, text: &[u8]) -> bool
 pub enum Expanded {
     Written(usize),
     Refused(u8),
-}
-
-// Whether two texts are a HELO name and a receiver.
-fn are_hosts(helo: &[u8], receiver: &[u8]) -> bool
-    ensures { λ r. ⌜ r ≡ (isHost (now (helo .entry)) && isHost (now (receiver .entry))) ⌝ }
-{
-    if values::is_host(helo) {
-        return values::is_host(receiver);
-    }
-    false
 }
 
 // Whether two texts are a domain and a p value.
@@ -311,7 +301,7 @@ pub fn expand(
     ensures { λ r. ⌜ Answered form (now (text .entry)) (given (now (sender .entry)) (now (helo .entry)) (now (receiver .entry)) (now (domain .entry)) (now (p .entry)) client seconds) r (now (out .entry)) (now (out .exit)) ⌝ }
 {
     if values::is_sender(sender) {
-        if are_hosts(helo, receiver) {
+        if values::are_hosts(helo, receiver) {
             if are_short(domain, p) {
                 if read_macro_string(form, text) {
                     return write_expansion(

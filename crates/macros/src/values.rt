@@ -1,5 +1,6 @@
 // The values that an expansion is given: their tests, and the parts of a sender.
 ghost use mathlib.Core.Path.{_≡_};
+ghost use mathlib.Core.Bool.{_&&_};
 ghost use mathlib.Core.List.{_∷_, _++_};
 ghost use Rattle.text.specs.Writing.{Wrote};
 ghost use Rattle.macros.specs.Expansion.{senderDomain, localAsWritten, localPart, isSender, isHost, isShort};
@@ -28,6 +29,16 @@ pub fn is_host(s: &[u8]) -> bool
         return false;
     }
     words::every(s, Class::Visible)
+}
+
+// 21: whether both the HELO name and the receiver pass.
+pub fn are_hosts(helo: &[u8], receiver: &[u8]) -> bool
+    ensures { λ r. ⌜ r ≡ (isHost (now (helo .entry)) && isHost (now (receiver .entry))) ⌝ }
+{
+    if is_host(helo) {
+        return is_host(receiver);
+    }
+    false
 }
 
 // 22: whether a domain or a p value is up to 255 bytes.

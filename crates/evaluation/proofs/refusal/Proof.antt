@@ -4,11 +4,6 @@ use Rattle.text.proofs.Laws.Tests.{ways}
 use borrow.Author.Needs.{needs}
 use Rattle.evaluation.proofs.refusal.Statement.{statement}
 use Rattle.evaluation.proofs.refusal.Tie as tie
-use Rattle.evaluation.proofs.refusal.Reads as reads
-use Rattle.evaluation.proofs.refusal.Lts as lts
-use Rattle.evaluation.proofs.are_hosts.Reads as are-hosts-reads
-use Rattle.macros.proofs.values.is_sender.Reads as is-sender-reads
-use Rattle.macros.proofs.values.is_short.Reads as is-short-reads
 
 is-sender-requires : tie.Need-is-sender-requires
 is-sender-requires c κs = search needs

@@ -1,8 +1,8 @@
--- `macros::are_hosts` meets its contract. From the laws of Tests.
+-- `macros::values::are_hosts` meets its contract. From the laws of Tests.
 use Rattle.text.proofs.Laws.Tests.{tests}
 use borrow.Author.Needs.{needs}
-use Rattle.macros.proofs.are_hosts.Statement.{statement}
-use Rattle.macros.proofs.are_hosts.Tie as tie
+use Rattle.macros.proofs.values.are_hosts.Statement.{statement}
+use Rattle.macros.proofs.values.are_hosts.Tie as tie
 
 is-host-requires : tie.Need-is-host-requires
 is-host-requires c κs = search needs
