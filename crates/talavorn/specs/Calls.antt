@@ -25,10 +25,15 @@ use Rattle.records.specs.Numbers.{recordReport, saidOf, termReport}
 use Rattle.records.specs.Answers.{RecordAnswers, TermAnswers}
 use Rattle.records.specs.Beginnings.{pointedTerm, pointedRecord}
 use Rattle.records.specs.declared.TermAnswer.{TermAnswer}
+use Rattle.received.specs.Numbers.{Outcome as Line, refused as line-refused, answerOf as writtenOf, bufferOf as lineBuffer}
+use Rattle.received.specs.Answers.{Given as LineGiven, Writes, ReadsLine, Unquotes}
+use Rattle.received.specs.declared.Identity.{Identity}
+use Rattle.received.specs.declared.LineAnswer.{LineAnswer}
 use Rattle.evaluation.specs.First as first
 use Rattle.evaluation.specs.Second as second
 use Rattle.talavorn.specs.declared.numbers.FormAnswer.{FormAnswer}
-use Rattle.talavorn.specs.Numbers.{no-address, no-form, encoded, encodedExplanation, recordNumbers, tableNumbers, appendedNumbers, expandedNumbers, matchNumber, addressOctets, shapeOf, termNumbers, termOctets}
+use Rattle.talavorn.specs.declared.numbers.IdentityAnswer.{IdentityAnswer}
+use Rattle.talavorn.specs.Numbers.{no-address, no-form, no-identity, encoded, encodedExplanation, recordNumbers, tableNumbers, appendedNumbers, expandedNumbers, writtenNumbers, lineNumbers, matchNumber, addressOctets, shapeOf, termNumbers, termOctets}
 
 -- an evaluation, by the table's list of entries: octets that are no client's are refused before all else. What is lent determines what is handed back
 -- (`first-one`, evaluation/proofs/Laws/Deciding.antt)
@@ -105,6 +110,35 @@ pub record ExpandAnswers (form : FormAnswer) (client : FromOctets) (text : List 
   pub outcome : Expansion
   pub answers : ExpandOutcome form client text g (length before) outcome
   pub says : ExpandSays outcome numbers before after
+
+-- writing a Received-SPF line (W-202): an identity that is none and then octets that are no client's are refused before all else. What is lent determines
+-- what is handed back (`writes-one`, received/proofs/Laws/Deciding.antt)
+pub data WriteOutcome (identity : IdentityAnswer) (client : FromOctets) (g : Address → Identity → LineGiven) (room : ℕ) : Line → Type 0 where
+  no-kind : identity ≡ IdentityAnswer.NoIdentity → WriteOutcome identity client g room (line-refused no-identity)
+  no-client : {i : Identity} → identity ≡ IdentityAnswer.Is i → client ≡ NoAddress → WriteOutcome identity client g room (line-refused no-address)
+  for-client : {i : Identity} {a : Address} {o : Line} → identity ≡ IdentityAnswer.Is i → client ≡ Is a → Writes (g a i) room o
+      → WriteOutcome identity client g room o
+
+pub record WriteSays (o : Line) (numbers before after : List ℕ) : Type 0 where
+  pub answer : numbers ≡ writtenNumbers (writtenOf o)
+  pub buffer : after ≡ lineBuffer o before
+
+pub record WriteAnswers (identity : IdentityAnswer) (client : FromOctets) (g : Address → Identity → LineGiven) (numbers before after : List ℕ) : Type 0 where
+  pub outcome : Line
+  pub answers : WriteOutcome identity client g (length before) outcome
+  pub says : WriteSays outcome numbers before after
+
+-- reading it back (`reads-one`)
+pub record LineSays (s numbers : List ℕ) : Type 0 where
+  pub answer : LineAnswer
+  pub reads : ReadsLine s answer
+  pub numbers-are : numbers ≡ lineNumbers answer
+
+-- unquoting one of its parts (`unquotes-one`)
+pub record UnquoteAnswers (s numbers before after : List ℕ) : Type 0 where
+  pub outcome : Line
+  pub answers : Unquotes s (length before) outcome
+  pub says : WriteSays outcome numbers before after
 
 -- a match: 1 exactly when two addresses match
 pub record MatchSays (client network : FromOctets) (bits r : ℕ) : Type 0 where

@@ -18,15 +18,22 @@ use Rattle.records.specs.declared.Term.{Term}
 use Rattle.records.specs.declared.TermAnswer.{TermAnswer}
 use Rattle.evaluation.specs.declared.Answer.{Answer}
 use Rattle.evaluation.specs.declared.explaining.Explanation.{Explanation}
+use Rattle.received.specs.declared.Identity.{Identity}
+use Rattle.received.specs.declared.Written.{Written}
+use Rattle.received.specs.declared.LineAnswer.{LineAnswer}
 use Rattle.talavorn.specs.declared.numbers.Shape.{Shape}
 use Rattle.talavorn.specs.declared.numbers.FormAnswer.{FormAnswer}
+use Rattle.talavorn.specs.declared.numbers.IdentityAnswer.{IdentityAnswer}
 
--- what the house rules have no number for: octets that are neither 4 nor 16, and a form that is none
+-- what the house rules have no number for: octets that are neither 4 nor 16, a form that is none, and an identity that is none
 abbrev pub no-address : ℕ
 no-address = 90
 
 abbrev pub no-form : ℕ
 no-form = 91
+
+abbrev pub no-identity : ℕ
+no-identity = 92
 
 -- an evaluation: the result's or refusal's number; kind or place; both counts; the length of the name that was written, a wanted question's or the failing
 -- record's domain; the place and length of its exp argument. 0 for what an answer has not
@@ -69,6 +76,23 @@ expandedNumbers (Expanded.Refused number) = number ∷ 0 ∷ []
 -- the form of a number: "told whether it reads a domain-spec or an explanation text"
 unfoldable pub formOf : ℕ → FormAnswer
 formOf n = cond (eqb n 0) (FormAnswer.Is Form.DomainSpec) (cond (eqb n 1) (FormAnswer.Is Form.Explanation) FormAnswer.NoForm)
+
+-- a line that is written (W-202), and a part that is unquoted: 0; the length. Or the refusal's number; 0
+unfoldable pub writtenNumbers : Written → List ℕ
+writtenNumbers (Written.Length n) = 0 ∷ n ∷ []
+writtenNumbers (Written.Refused number) = number ∷ 0 ∷ []
+
+-- the identity of a number: 0 `mailfrom`, 1 `helo`
+unfoldable pub identityFor : ℕ → IdentityAnswer
+identityFor n = cond (eqb n 0) (IdentityAnswer.Is Identity.MailFrom) (cond (eqb n 1) (IdentityAnswer.Is Identity.Helo) IdentityAnswer.NoIdentity)
+
+-- a line that is read: 0; the result's number; of each value in the line's order the place of its part and the place after it. Or the refusal's number;
+-- eleven times 0
+unfoldable pub lineNumbers : LineAnswer → List ℕ
+lineNumbers (LineAnswer.Read f) =
+    0 ∷ f .result ∷ f .receiver .from ∷ f .receiver .to ∷ f .client .from ∷ f .client .to ∷ f .sender .from ∷ f .sender .to ∷ f .helo .from ∷ f .helo .to
+    ∷ f .identity .from ∷ f .identity .to ∷ []
+lineNumbers (LineAnswer.Refused number) = number ∷ 0 ∷ 0 ∷ 0 ∷ 0 ∷ 0 ∷ 0 ∷ 0 ∷ 0 ∷ 0 ∷ 0 ∷ 0 ∷ []
 
 -- whether a client matches a network at a prefix length
 unfoldable pub matchNumber : FromOctets → FromOctets → ℕ → ℕ

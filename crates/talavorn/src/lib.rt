@@ -5,13 +5,15 @@ ghost use lib.ListN.{length};
 ghost use Rattle.address.specs.Octets.{fromOctets};
 ghost use Rattle.macros.specs.Expansion.{given};
 ghost use Rattle.macros.specs.Numbers.{outcome};
-ghost use Rattle.talavorn.specs.Numbers.{formOf};
-ghost use Rattle.talavorn.specs.Calls.{expandFor, EvaluateAnswers, ExplainAnswers, RecordSays, TermSays, ExpandSays, ExpandAnswers, MatchSays, TableSays, AppendSays, AddressSays};
+ghost use Rattle.received.specs.Answers.{given as lineGiven};
+ghost use Rattle.talavorn.specs.Numbers.{formOf, identityFor};
+ghost use Rattle.talavorn.specs.Calls.{expandFor, EvaluateAnswers, ExplainAnswers, RecordSays, TermSays, ExpandSays, ExpandAnswers, WriteAnswers, LineSays, UnquoteAnswers, MatchSays, TableSays, AppendSays, AddressSays};
 use address::FromOctets;
 use answer_table::TableAnswer;
 use evaluation::explaining;
 use networks::Network;
 use numbers::FormAnswer;
+use numbers::IdentityAnswer;
 use records::RecordAnswer;
 use records::TermAnswer;
 
@@ -152,6 +154,49 @@ pub extern "C" fn talavorn_expand(
     };
     let answer = macros::expand(f, text, sender, helo, receiver, domain, p, a, seconds, out);
     numbers::put_expanded(answer, size)
+}
+
+// Writes the Received-SPF line at the front of a buffer: 92 for an identity that is neither 0, `mailfrom`, nor 1, `helo`; 90 for a client that is not 4 or
+// 16 octets; then as received::write_line.
+#[no_mangle]
+pub extern "C" fn talavorn_write_line(
+    result: u8,
+    client: &[u8],
+    sender: &[u8],
+    helo: &[u8],
+    receiver: &[u8],
+    identity: u8,
+    out: &mut [u8],
+    size: &mut usize,
+) -> u8
+    ensures { λ r. ⌜ WriteAnswers (identityFor identity) (fromOctets (now (client .entry))) (λ a i. lineGiven result a (now (sender .entry)) (now (helo .entry)) (now (receiver .entry)) i) (r ∷ now (size .exit) ∷ []) (now (out .entry)) (now (out .exit)) ⌝ }
+{
+    let IdentityAnswer::Is(i) = numbers::identity_for(identity) else {
+        *size = 0;
+        return 92;
+    };
+    let FromOctets::Is(a) = address::from_octets(client) else {
+        *size = 0;
+        return 90;
+    };
+    let answer = received::write_line(result, a, sender, helo, receiver, i, out);
+    numbers::put_written(answer, size)
+}
+
+// Reads a Received-SPF line: 0, its result and where the parts of its five values stand, or 51.
+#[no_mangle]
+pub extern "C" fn talavorn_read_line(line: &[u8], values: &mut [usize; 11]) -> u8
+    ensures { λ r. ⌜ LineSays (now (line .entry)) (r ∷ now (values .exit)) ⌝ }
+{
+    numbers::put_line(received::read_line(line), values)
+}
+
+// Takes the backslashes out of a part of a Received-SPF line: 0 and the value's length, the value at the front of a buffer; or 51, 50.
+#[no_mangle]
+pub extern "C" fn talavorn_unquote(part: &[u8], out: &mut [u8], size: &mut usize) -> u8
+    ensures { λ r. ⌜ UnquoteAnswers (now (part .entry)) (r ∷ now (size .exit) ∷ []) (now (out .entry)) (now (out .exit)) ⌝ }
+{
+    numbers::put_written(received::unquote(part, out), size)
 }
 
 // Whether a client matches a network at a prefix length: 1 or 0; 90 where one of the two is not 4 or 16 octets.

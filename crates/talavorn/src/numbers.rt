@@ -6,13 +6,16 @@ ghost use lib.ListN.{length};
 ghost use Rattle.text.specs.Writing.{overwritten};
 ghost use Rattle.address.specs.Octets.{octets};
 ghost use Rattle.answer_entry.specs.Numbers.{outcomeOf};
-ghost use Rattle.talavorn.specs.Numbers.{encoded, encodedExplanation, appendedNumbers, expandedNumbers, formOf, Inside, shape, networkShape, shapeOf, termRow, networkOf};
+ghost use Rattle.talavorn.specs.Numbers.{encoded, encodedExplanation, appendedNumbers, expandedNumbers, formOf, writtenNumbers, identityFor, lineNumbers, Inside, shape, networkShape, shapeOf, termRow, networkOf};
 use address::Address;
 use answer_entry::AppendAnswer;
 use evaluation::Answer;
 use evaluation::explaining::Explanation;
 use macros::Expanded;
 use macros::Form;
+use received::Identity;
+use received::LineAnswer;
+use received::Written;
 use records::Term;
 use text::writing;
 
@@ -20,6 +23,12 @@ use text::writing;
 pub enum FormAnswer {
     Is(Form),
     NoForm,
+}
+
+// The identity of a number, or that it is none.
+pub enum IdentityAnswer {
+    Is(Identity),
+    NoIdentity,
 }
 
 // The numbers of a term: its kind, its sign or 0, where its argument stands in the term's own text, and its prefix lengths or 0.
@@ -270,6 +279,68 @@ pub fn put_appended(answer: AppendAnswer, size: &mut usize, place: &mut usize) -
         AppendAnswer::Unfit => {
             *place = 0;
             65
+        }
+    }
+}
+
+// The identity of a number.
+pub fn identity_for(n: u8) -> IdentityAnswer
+    ensures { λ r. ⌜ r ≡ identityFor n ⌝ }
+{
+    if n == 0 {
+        return IdentityAnswer::Is(Identity::MailFrom);
+    }
+    if n == 1 {
+        return IdentityAnswer::Is(Identity::Helo);
+    }
+    IdentityAnswer::NoIdentity
+}
+
+// Writes the length of a line or a value; answers the number.
+pub fn put_written(answer: Written, size: &mut usize) -> u8
+    ensures { λ r. ⌜ (r ∷ now (size .exit) ∷ []) ≡ writtenNumbers answer ⌝ }
+{
+    match answer {
+        Written::Length(n) => {
+            *size = n;
+            0
+        }
+        Written::Refused(number) => {
+            *size = 0;
+            number
+        }
+    }
+}
+
+// Writes what reading a line answers: the result's number and the places of the five parts; answers the number.
+pub fn put_line(answer: LineAnswer, values: &mut [usize; 11]) -> u8
+    ensures { λ r. ⌜ (r ∷ now (values .exit)) ≡ lineNumbers answer ⌝ }
+{
+    match answer {
+        LineAnswer::Read(parts) => {
+            let receiver = parts.receiver;
+            let client = parts.client;
+            let sender = parts.sender;
+            let helo = parts.helo;
+            let identity = parts.identity;
+            *values = [
+                parts.result as usize,
+                receiver.from,
+                receiver.to,
+                client.from,
+                client.to,
+                sender.from,
+                sender.to,
+                helo.from,
+                helo.to,
+                identity.from,
+                identity.to,
+            ];
+            0
+        }
+        LineAnswer::Refused(number) => {
+            *values = [0, 0, 0, 0, 0, 0, 0, 0, 0, 0, 0];
+            number
         }
     }
 }

@@ -33,13 +33,18 @@ use Rattle.records.specs.declared.Term.{Term}
 use Rattle.records.specs.declared.RecordAnswer.{RecordAnswer}
 use Rattle.records.specs.declared.TermAnswer.{TermAnswer}
 use Rattle.records.proofs.Laws.Terms.{term-unpointed}
+use Rattle.received.specs.Numbers.{refused as line-refused}
+use Rattle.received.specs.Answers.{Given as LineGiven, WritesLine, UnquotesPart}
+use Rattle.received.specs.declared.Identity.{Identity}
+use Rattle.received.specs.declared.Written.{Written}
 use Rattle.evaluation.specs.declared.Answer.{Answer}
 use Rattle.evaluation.specs.declared.explaining.Explanation.{Explanation}
 use Rattle.evaluation.specs.First as first
 use Rattle.evaluation.specs.Second as second
 use Rattle.talavorn.specs.declared.numbers.FormAnswer.{FormAnswer}
-use Rattle.talavorn.specs.Numbers.{encoded, encodedExplanation, recordNumbers, tableNumbers, expandedNumbers, matchNumber, addressOctets, shapeOf, Inside, networkOf, termRow, termNumbers, termOctets}
-use Rattle.talavorn.specs.Calls.{EvaluateOutcome, EvaluateAnswers, ExplainOutcome, ExplainAnswers, RecordSays, ArgumentStands, TermSays, expandFor, ExpandSays, ExpandOutcome, ExpandAnswers, MatchSays, TableSays, AddressSays}
+use Rattle.talavorn.specs.declared.numbers.IdentityAnswer.{IdentityAnswer}
+use Rattle.talavorn.specs.Numbers.{encoded, encodedExplanation, recordNumbers, tableNumbers, expandedNumbers, writtenNumbers, matchNumber, addressOctets, shapeOf, Inside, networkOf, termRow, termNumbers, termOctets}
+use Rattle.talavorn.specs.Calls.{EvaluateOutcome, EvaluateAnswers, ExplainOutcome, ExplainAnswers, RecordSays, ArgumentStands, TermSays, expandFor, ExpandSays, ExpandOutcome, ExpandAnswers, WriteOutcome, WriteAnswers, UnquoteAnswers, MatchSays, TableSays, AddressSays}
 use Rattle.talavorn.proofs.Laws.Rows.{nothing-written}
 use Rattle.talavorn.proofs.Laws.Inside.{term-inside, argument-stands}
 
@@ -203,6 +208,34 @@ module _ (form : FormAnswer) (f : FormAnswer) (pf : f ≡ form) (client : FromOc
             says = record { answer = n ∙ ap expandedNumbers (h .says .answer); buffer = h .says .buffer };
           },
         )
+
+-- `talavorn_write_line`
+module _ (identity i : IdentityAnswer) (pi : i ≡ identity) (client : FromOctets) (g : Address → Identity → LineGiven) (b : List ℕ) where
+  pub write-no-identity : i ≡ IdentityAnswer.NoIdentity → WriteAnswers identity client g (92 ∷ 0 ∷ []) b b
+  unfolding writtenNumbers
+  write-no-identity e = record { outcome = line-refused 92; answers = WriteOutcome.no-kind (sym pi ∙ e); says = record { answer = refl; buffer = refl } }
+
+  module _ (k : Identity) (e : i ≡ IdentityAnswer.Is k) (x : FromOctets) (px : x ≡ client) where
+    pub write-no-client : x ≡ NoAddress → WriteAnswers identity client g (90 ∷ 0 ∷ []) b b
+    unfolding writtenNumbers
+    write-no-client e′ =
+        record { outcome = line-refused 90; answers = WriteOutcome.no-client (sym pi ∙ e) (sym px ∙ e′); says = record { answer = refl; buffer = refl } }
+
+    pub write-for-client : (a : Address) → x ≡ Is a → (r : Written) (d : List ℕ) → WritesLine (g a k) r b d → (numbers : List ℕ) → numbers ≡ writtenNumbers r
+        → WriteAnswers identity client g numbers b d
+    write-for-client a e′ r d h numbers n = record {
+      outcome = h .outcome;
+      answers = WriteOutcome.for-client (sym pi ∙ e) (sym px ∙ e′) (h .writes);
+      says = record { answer = n ∙ ap writtenNumbers (h .says .answer); buffer = h .says .buffer };
+    }
+
+-- `talavorn_unquote`
+pub part-unquoted : (s b : List ℕ) (r : Written) (d : List ℕ) → UnquotesPart s r b d → (numbers : List ℕ) → numbers ≡ writtenNumbers r → UnquoteAnswers s numbers b d
+part-unquoted s b r d h numbers n = record {
+  outcome = h .outcome;
+  answers = h .unquotes;
+  says = record { answer = n ∙ ap writtenNumbers (h .says .answer); buffer = h .says .buffer };
+}
 
 -- `talavorn_read_term`
 pub term-fits : (s : List ℕ) (i : ℕ) (x : TermAnswer) → x ≡ pointedTerm s i → (at next : ℕ) (t : Term) → x ≡ TermAnswer.Is at next t → (at ≤ next) × Inside (next - at) t
