@@ -96,6 +96,130 @@ static void expansions(void)
            "a mapped client");
 }
 
+/* Received-SPF lines: written into the front of a buffer whose other bytes are kept, and read. */
+#define FRONT "Received-SPF: pass receiver=mx.example; client-ip="
+#define REST "; envelope-from=\"user@example.com\"; helo=mail.example; identity=mailfrom\r\n"
+#define ABOUT TEXT("user@example.com"), TEXT("mail.example"), TEXT("mx.example")
+
+static uint8_t written[2000];
+static size_t written_size;
+
+static uint8_t write_line(
+    uint8_t result, const uint8_t *from, size_t from_len, const void *sender, size_t sender_len,
+    const void *helo, size_t helo_len, const void *receiver, size_t receiver_len, uint8_t identity,
+    size_t room)
+{
+    memset(written, 0xee, sizeof written);
+    written_size = 99;
+    return talavorn_write_line(result, from, from_len, sender, sender_len, helo, helo_len,
+                               receiver, receiver_len, identity, written, room, &written_size);
+}
+
+/* Whether so many bytes at the front were written, these, and none behind them. */
+static int is_written(const void *bytes, size_t len)
+{
+    for (size_t i = len; i < sizeof written; i++)
+        if (written[i] != 0xee)
+            return 0;
+    return written_size == len && memcmp(written, bytes, len) == 0;
+}
+
+static void lines_written(void)
+{
+    static const char passed[] = FRONT "192.0.2.129" REST;
+    static const char six[] = FRONT "\"2001:1db8:0:0:0:0:0:1\"" REST;
+    static const char odd[] = "Received-SPF: none receiver=\"\"; client-ip=192.0.2.129; "
+                              "envelope-from=\"a\\\"\\\\b\"; helo=a=b; identity=helo\r\n";
+    expect(write_line(2, client, 4, ABOUT, 0, 135) == 0 && is_written(TEXT(passed)),
+           "a line in a buffer of its length");
+    expect(write_line(2, client, 4, ABOUT, 0, 134) == TALAVORN_LONG_LINE && is_written("", 0),
+           "a line without room");
+    expect(write_line(2, mapped, 16, ABOUT, 0, 1500) == 0 && is_written(TEXT(passed)),
+           "a line of a mapped client");
+    expect(write_line(2, client6, 16, ABOUT, 0, 1500) == 0 && is_written(TEXT(six)),
+           "a line of an IPv6 client");
+    expect(write_line(0, client, 4, TEXT("a\"\\b"), TEXT("a=b"), TEXT(""), 1, 1500) == 0
+               && is_written(TEXT(odd)),
+           "quotes, backslashes, an empty value");
+}
+
+static void lines_refused(void)
+{
+    char most[320], host[255], other[255];
+    memset(most, '"', sizeof most);
+    memset(host, '"', sizeof host);
+    expect(write_line(7, client, 3, TEXT(""), TEXT("a b"), TEXT(""), 2, 0) == TALAVORN_BAD_IDENTITY
+               && is_written("", 0),
+           "an identity that is none");
+    expect(write_line(7, client, 3, TEXT(""), TEXT("a b"), TEXT(""), 1, 0) == TALAVORN_BAD_ADDRESS
+               && is_written("", 0),
+           "a line of three octets");
+    expect(write_line(7, client, 4, TEXT(""), TEXT("a b"), TEXT(""), 1, 0) == TALAVORN_BAD_SENDER
+               && is_written("", 0),
+           "20 of a line");
+    expect(write_line(7, client, 4, TEXT("a"), TEXT("a b"), TEXT(""), 1, 0) == TALAVORN_BAD_HOST
+               && is_written("", 0),
+           "21 of a line");
+    expect(write_line(7, client, 4, TEXT("a"), TEXT("a"), TEXT(""), 1, 0) == TALAVORN_NO_RESULT
+               && is_written("", 0),
+           "52 before 50");
+    expect(write_line(6, client, 4, TEXT("a"), TEXT("a"), TEXT(""), 1, 0) == TALAVORN_LONG_LINE
+               && is_written("", 0),
+           "50 of a line");
+    /* 100 bytes besides these three values, 642 of the sender, 512 of HELO: 246 of the receiver */
+    expect(write_line(5, client, 4, most, 320, host, 255, host, 122, 0, 2000) == 0
+               && written_size == 1500,
+           "a line of 1,500 bytes");
+    host[122] = 'a';
+    memset(other, '"', sizeof other);
+    expect(write_line(5, client, 4, most, 320, other, 255, host, 123, 0, 2000) == TALAVORN_LONG_LINE
+               && is_written("", 0),
+           "a line of 1,501 bytes");
+}
+
+static void lines_read(void)
+{
+    static const char line[] = "Received-SPF: pass receiver=mx.example; client-ip=192.0.2.1; "
+                               "envelope-from=\"user@example.com\"; helo=mail.example; "
+                               "identity=mailfrom\r\n";
+    static const size_t places[TALAVORN_LINE_VALUES] = { 2, 28, 38, 50, 59, 76, 92, 100, 112, 123,
+                                                         131 };
+    static const size_t zeros[TALAVORN_LINE_VALUES];
+    size_t values[TALAVORN_LINE_VALUES];
+    char value[321];
+    expect(talavorn_read_line(TEXT(line), values) == 0
+               && memcmp(values, places, sizeof values) == 0,
+           "a line read");
+    expect(talavorn_line_value(line, values, TALAVORN_LINE_SENDER, value) == 16
+               && strcmp(value, "user@example.com") == 0,
+           "a value of it");
+    expect(talavorn_read_line(line, sizeof line - 2, values) == TALAVORN_NO_LINE
+               && memcmp(values, zeros, sizeof values) == 0,
+           "a line without LF");
+    expect(talavorn_read_line(line, sizeof line, values) == TALAVORN_NO_LINE, "a byte behind it");
+    expect(talavorn_read_line(TEXT(""), values) == TALAVORN_NO_LINE, "no bytes");
+}
+
+static uint8_t unquote(const void *part, size_t part_len, size_t room)
+{
+    memset(written, 0xee, sizeof written);
+    written_size = 99;
+    return talavorn_unquote(part, part_len, written, room, &written_size);
+}
+
+static void parts_unquoted(void)
+{
+    char most[321];
+    memset(most, 'y', sizeof most);
+    expect(unquote(TEXT("a\\\"\\\\b"), 4) == 0 && is_written(TEXT("a\"\\b")), "a part");
+    expect(unquote(TEXT("\\\""), 0) == TALAVORN_LONG_LINE && is_written("", 0), "no room for one");
+    expect(unquote(TEXT("\\a"), 0) == TALAVORN_NO_LINE && is_written("", 0), "51 before 50");
+    expect(unquote(TEXT("\""), 9) == TALAVORN_NO_LINE && is_written("", 0), "a quote");
+    expect(unquote(TEXT(""), 0) == 0 && is_written("", 0), "the empty part");
+    expect(unquote(most, 320, 320) == 0 && is_written(most, 320), "320 bytes");
+    expect(unquote(most, 321, 2000) == TALAVORN_NO_LINE && is_written("", 0), "321 bytes");
+}
+
 static void matches(void)
 {
     expect(talavorn_matches(client, 4, network, 4, 24) == 1, "/24");
@@ -1238,6 +1362,10 @@ int main(void)
     records();
     terms();
     expansions();
+    lines_written();
+    lines_refused();
+    lines_read();
+    parts_unquoted();
     matches();
     tables();
     additions();

@@ -1,15 +1,18 @@
 #!/bin/sh
-# compare.sh CALLER..: runs each caller and the proved program check_host on the same inputs, and
-# compares what they print. The inputs are check_host's stored one and those made below; INPUTS may
-# name further files. The status is 0 only if all agree.
+# compare.sh PROGRAM CALLER..: runs each caller and the proved program, check_host or received_line,
+# on the same inputs, and compares what they print. The inputs are the program's stored one and
+# those made below; INPUTS may name further files. The status is 0 only if all agree.
 set -u
 cd "$(dirname "$0")/.." || exit 2
-proved=target/bin/check_host
-[ -x "$proved" ] || { echo "compare.sh: no $proved: run 'rt check check_host'" >&2; exit 2; }
+program=$1
+shift
+proved=target/bin/$program
+[ -x "$proved" ] || { echo "compare.sh: no $proved: run 'rt check $program'" >&2; exit 2; }
 dir=$(mktemp -d) || exit 2
 trap 'rm -rf "$dir"' EXIT
 
-# mail CLIENT DOMAIN SENDER HELO RECEIVER T: six lines
+# mail LINE..: client, domain, sender, HELO, receiver and t of check_host, or result, client, sender,
+# HELO, receiver and identity of received_line
 mail() { for line in "$@"; do printf '%s\n' "$line"; done; }
 usual() {
     mail 192.0.2.129 example.com user@example.com mail.example.com mx.relay.example 1700000000
@@ -27,28 +30,73 @@ explained() {
 }
 text() { printf '\027\000\020\000\000\011e.example\010\000for %%{d}'; }
 
-cp crates/check_host/stdin "$dir/stored"
-: >"$dir/empty"
-usual >"$dir/no_table"
-{ usual; record; } >"$dir/fail"
-{ usual; explained; } >"$dir/fail_wanting_text"
-{ usual; explained; text; } >"$dir/fail_with_text"
-{ usual; explained; text; record; } >"$dir/fail_repeated"
-{ usual; gone; } >"$dir/none"
-{ usual; record; gone; } >"$dir/repeated"
-{ usual; record; printf '\001'; } >"$dir/malformed"
-{ usual; repeat 4097 0123456789abcdef; } >"$dir/long_table"
-{ mail ::ffff:192.0.2.129 example.com user@example.com '' '' 007; record; } >"$dir/mapped"
-{ mail 2001:db8::1 example.com. @example.com h.example '' 0; record; } >"$dir/six"
-mail 192.0.2.01 example.com user@example.com h '' 7 >"$dir/bad_client"
-mail 192.0.2.129 example.com user@example.com h '' +7 >"$dir/bad_t"
-mail 192.0.2.129 example.com user@example.com h '' 18446744073709551616 >"$dir/large_t"
-mail 192.0.2.129 example.com user@example.com h '' 00018446744073709551615 >"$dir/largest_t"
-mail 192.0.2.129 example.com '' h '' 7 >"$dir/no_sender"
-mail 192.0.2.129 example.com u@x 'a b' '' 7 >"$dir/bad_helo"
-mail 192.0.2.129 "$(repeat 128 a.)" u@x h '' 7 >"$dir/long_domain"
-mail 192.0.2.129 "$(repeat 126 a.)b" u@x h '' 7 >"$dir/longest_name"
-printf '192.0.2.129\nexample.com\nu@x\n\n\n7' >"$dir/no_last_newline"
+checks() {
+    : >"$dir/empty"
+    usual >"$dir/no_table"
+    { usual; record; } >"$dir/fail"
+    { usual; explained; } >"$dir/fail_wanting_text"
+    { usual; explained; text; } >"$dir/fail_with_text"
+    { usual; explained; text; record; } >"$dir/fail_repeated"
+    { usual; gone; } >"$dir/none"
+    { usual; record; gone; } >"$dir/repeated"
+    { usual; record; printf '\001'; } >"$dir/malformed"
+    { usual; repeat 4097 0123456789abcdef; } >"$dir/long_table"
+    { mail ::ffff:192.0.2.129 example.com user@example.com '' '' 007; record; } >"$dir/mapped"
+    { mail 2001:db8::1 example.com. @example.com h.example '' 0; record; } >"$dir/six"
+    mail 192.0.2.01 example.com user@example.com h '' 7 >"$dir/bad_client"
+    mail 192.0.2.129 example.com user@example.com h '' +7 >"$dir/bad_t"
+    mail 192.0.2.129 example.com user@example.com h '' 18446744073709551616 >"$dir/large_t"
+    mail 192.0.2.129 example.com user@example.com h '' 00018446744073709551615 >"$dir/largest_t"
+    mail 192.0.2.129 example.com '' h '' 7 >"$dir/no_sender"
+    mail 192.0.2.129 example.com u@x 'a b' '' 7 >"$dir/bad_helo"
+    mail 192.0.2.129 "$(repeat 128 a.)" u@x h '' 7 >"$dir/long_domain"
+    mail 192.0.2.129 "$(repeat 126 a.)b" u@x h '' 7 >"$dir/longest_name"
+    printf '192.0.2.129\nexample.com\nu@x\n\n\n7' >"$dir/no_last_newline"
+}
+
+# odd: a sender with quotes and backslashes
+odd='"a b"\\@x.y'
+# line REST: a Received-SPF line that begins so
+line() { printf 'Received-SPF: pass %s\r\n' "$1"; }
+lines() {
+    : >"$dir/empty"
+    for result in none neutral pass fail softfail temperror permerror; do
+        mail "$result" 192.0.2.1 user@example.com h.example mx.example mailfrom >"$dir/$result"
+        "$proved" <"$dir/$result" >"$dir/read_$result"
+    done
+    mail pass ::ffff:192.0.2.1 "$odd" '' '' helo >"$dir/mapped"
+    mail pass 2001:db8::1 @x.y 'a..b' '[192.0.2.1]' helo >"$dir/six"
+    for input in mapped six; do "$proved" <"$dir/$input" >"$dir/read_$input"; done
+    mail wanting 192.0.2.1 u@x h r helo >"$dir/bad_word"
+    mail Pass 192.0.2.1 u@x h r helo >"$dir/upper_word"
+    mail pass 192.0.2.01 u@x h r helo >"$dir/bad_client"
+    mail pass 192.0.2.1 u@x h r mail >"$dir/bad_identity"
+    mail pass 192.0.2.1 u@x h r helo more >"$dir/seventh"
+    mail pass 192.0.2.1 u@x h r helo '' >"$dir/empty_seventh"
+    printf 'pass\n192.0.2.1\nu@x\nh\nr\nhelo' >"$dir/no_last_newline"
+    printf 'pass\r\n192.0.2.1\r\nu@x\r\nh\r\nr\r\nhelo\r\n' >"$dir/crlf"
+    printf 'pass\n192.0.2.1\nu@x\nh\nr\n' >"$dir/no_identity"
+    mail pass 192.0.2.1 '' 'a b' r helo >"$dir/no_sender"
+    mail pass 192.0.2.1 u@x 'a b' r helo >"$dir/bad_helo"
+    mail pass 192.0.2.1 "$(repeat 321 y)" h r helo >"$dir/long_sender"
+    mail pass 192.0.2.1 "$(repeat 320 '"')" "$(repeat 255 '"')" "$(repeat 255 '"')" helo \
+        >"$dir/long_line"
+    mail pass 192.0.2.1 "$(repeat 4096 y)" h r helo >"$dir/long_input"
+    line 'receiver=a; client-ip=192.0.2.1; envelope-from=a; helo=a; identity=helo' >"$dir/read"
+    line 'receiver="a"; client-ip=192.0.2.1; envelope-from=a; helo=a; identity=helo' \
+        >"$dir/read_quoted"
+    printf 'Received-SPF: pass\n' >"$dir/read_short"
+    printf 'Received-SPF:' >"$dir/read_name"
+    { printf 'Received-SPF: '; repeat 5000 y; } >"$dir/read_long"
+    { cat "$dir/read"; cat "$dir/read"; } >"$dir/read_twice"
+}
+
+cp "crates/$program/stdin" "$dir/stored"
+case $program in
+check_host) checks ;;
+received_line) lines ;;
+*) echo "compare.sh: no inputs for $program" >&2; exit 2 ;;
+esac
 
 agree=0 differ=0
 for input in "$dir"/[a-z]* ${INPUTS-}; do
@@ -62,5 +110,5 @@ for input in "$dir"/[a-z]* ${INPUTS-}; do
         fi
     done
 done
-echo "$agree agree, $differ differ"
+echo "$program: $agree agree, $differ differ"
 [ "$differ" -eq 0 ] && [ "$agree" -gt 0 ]

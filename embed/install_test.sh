@@ -39,6 +39,7 @@ client 192.0.2.1
   TXT example.com
   TXT _spf.example.net
   pass, lookups 1, voids 0
+  Received-SPF: pass receiver=mx.relay.example; client-ip=192.0.2.1; envelope-from="user@example.com"; helo=mail.example.com; identity=mailfrom
   questions: 2
 client 198.51.100.7
   TXT example.com
@@ -46,6 +47,7 @@ client 198.51.100.7
   MX example.com
   A mail.example.com
   pass, lookups 2, voids 0
+  Received-SPF: pass receiver=mx.relay.example; client-ip=198.51.100.7; envelope-from="user@example.com"; helo=mail.example.com; identity=mailfrom
   questions: 4
 client 203.0.113.9
   TXT example.com
@@ -54,6 +56,7 @@ client 203.0.113.9
   A mail.example.com
   A gone.example.com
   fail, lookups 2, voids 1
+  Received-SPF: fail receiver=mx.relay.example; client-ip=203.0.113.9; envelope-from="user@example.com"; helo=mail.example.com; identity=mailfrom
   TXT why.example.com
   the domain example.com explains: 203.0.113.9 may not send mail for example.com
   questions: 6
@@ -64,6 +67,7 @@ client 2001:db8::1
   AAAA mail.example.com
   AAAA gone.example.com
   fail, lookups 2, voids 2
+  Received-SPF: fail receiver=mx.relay.example; client-ip="2001:db8:0:0:0:0:0:1"; envelope-from="user@example.com"; helo=mail.example.com; identity=mailfrom
   TXT why.example.com
   the domain example.com explains: 2001:db8:0:0:0:0:0:1 may not send mail for example.com
   questions: 6
@@ -72,6 +76,7 @@ client 192.0.2.1
   TXT example.com
   TXT _spf.example.net
   pass, lookups 1, voids 0
+  Received-SPF: pass receiver=mx.relay.example; client-ip=192.0.2.1; envelope-from="user@example.com"; helo=mail.example.com; identity=mailfrom
   questions: 2
 client 198.51.100.7
   TXT example.com
@@ -79,6 +84,7 @@ client 198.51.100.7
   MX example.com
   A mail.example.com
   pass, lookups 2, voids 0
+  Received-SPF: pass receiver=mx.relay.example; client-ip=198.51.100.7; envelope-from="user@example.com"; helo=mail.example.com; identity=mailfrom
   questions: 4
 client 203.0.113.9
   TXT example.com
@@ -87,6 +93,7 @@ client 203.0.113.9
   A mail.example.com
   A gone.example.com
   fail, lookups 2, voids 1
+  Received-SPF: fail receiver=mx.relay.example; client-ip=203.0.113.9; envelope-from="user@example.com"; helo=mail.example.com; identity=mailfrom
   questions: 5
 client 2001:db8::1
   TXT example.com
@@ -95,12 +102,15 @@ client 2001:db8::1
   AAAA mail.example.com
   AAAA gone.example.com
   fail, lookups 2, voids 2
+  Received-SPF: fail receiver=mx.relay.example; client-ip="2001:db8:0:0:0:0:0:1"; envelope-from="user@example.com"; helo=mail.example.com; identity=mailfrom
   questions: 5
 client 203.0.113.9, parked for the explanation alone: no text is sent
   fail, lookups 2, voids 1
+  Received-SPF: fail receiver=mx.relay.example; client-ip=203.0.113.9; envelope-from="user@example.com"; helo=mail.example.com; identity=mailfrom
   questions: 0
 client 203.0.113.9, parked for the explanation alone: the text is sent
   fail, lookups 2, voids 1
+  Received-SPF: fail receiver=mx.relay.example; client-ip=203.0.113.9; envelope-from="user@example.com"; helo=mail.example.com; identity=mailfrom
   TXT why.example.com
   the domain example.com explains: 203.0.113.9 may not send mail for example.com
   questions: 1
@@ -132,6 +142,14 @@ int main()
     char text[501];
     a = talavorn_check(&mail, table, size);
     if (talavorn_fail_text(&mail, &a, table, size, text).text_len != 0 || text[0] != 0)
+        return 1;
+    char line[1501], value[321];
+    std::size_t values[TALAVORN_LINE_VALUES];
+    std::size_t n = talavorn_received(&mail, a.number, TALAVORN_IDENTITY_MAILFROM, line);
+    if (talavorn_read_line(line, n, values) != 0 || values[TALAVORN_LINE_RESULT] != TALAVORN_FAIL)
+        return 1;
+    if (talavorn_line_value(line, values, TALAVORN_LINE_SENDER, value) != 16
+        || std::strcmp(value, "user@example.com") != 0)
         return 1;
     return std::strcmp(talavorn_result_name(a.number), "fail");
 }

@@ -1,8 +1,8 @@
 /* What a relay does that sends the domain's explanation, and what one does that never sends it:
  * each checks four clients from an empty table each. Each question that is wanting is printed and
- * asked, here of a little zone in place of the DNS. Then the result is printed, and how many
- * questions were asked. At the end both take up a letter that lacks the explanation's answer alone.
- */
+ * asked, here of a little zone in place of the DNS. Then the result is printed, with the header
+ * line that goes into an accepted message, and how many questions were asked. At the end both take
+ * up a letter that lacks the explanation's answer alone. */
 #include <stdio.h>
 
 #include <talavorn.h>
@@ -109,8 +109,9 @@ static void explain(struct letter *l, const struct talavorn_answer *failed, char
 /* Decides a letter, and makes the text if this relay sends it. */
 static void handle(struct letter *l, int sends_text)
 {
-    char text[501] = "";
+    char text[501] = "", line[1501];
     struct talavorn_answer a;
+    size_t n;
     l->asked = 0;
     a = decide(l);
     if (20 <= a.number) {
@@ -118,6 +119,9 @@ static void handle(struct letter *l, int sends_text)
         return;
     }
     printf("  %s, lookups %u, voids %u\n", talavorn_result_name(a.number), a.lookups, a.voids);
+    n = talavorn_received(&l->mail, a.number, TALAVORN_IDENTITY_MAILFROM, line);
+    if (n) /* without its CR LF */
+        printf("  %.*s\n", (int)n - 2, line);
     if (a.number == TALAVORN_FAIL && sends_text)
         explain(l, &a, text);
     if (*text)

@@ -149,10 +149,14 @@ enum {
     TALAVORN_BEYOND_RECORD = 34,    /* place beyond the record's length */
     TALAVORN_BAD_MACRO = 40,        /* macro string outside the grammar */
     TALAVORN_NO_ROOM = 41,          /* expansion doesn't fit the buffer */
+    TALAVORN_LONG_LINE = 50,        /* line over 1,500 bytes; line or value that has no room */
+    TALAVORN_NO_LINE = 51,          /* no line, or part of one, that talavorn_write_line gives */
+    TALAVORN_NO_RESULT = 52,        /* result of 7 or above for a line */
     TALAVORN_IN_TABLE = 64,         /* kind and name of a new entry stand in the table */
     TALAVORN_UNFIT_ENTRY = 65,      /* new entry malformed, or too much for table or buffer */
     TALAVORN_BAD_ADDRESS = 90,      /* client or network that isn't 4 or 16 octets */
-    TALAVORN_BAD_FORM = 91          /* form that is neither 0 nor 1 */
+    TALAVORN_BAD_FORM = 91,         /* form that is neither 0 nor 1 */
+    TALAVORN_BAD_IDENTITY = 92      /* identity that is neither 0 nor 1 */
 };
 
 /* ---- 5  The calls ---------------------------------------------------------------------------- */
@@ -411,6 +415,83 @@ uint8_t talavorn_expand(
     void *out, size_t out_len,
     size_t *size);
 
+/* Which identity a Received-SPF line is about. */
+enum { TALAVORN_IDENTITY_MAILFROM = 0, TALAVORN_IDENTITY_HELO = 1 };
+
+/* Writes the header field Received-SPF of RFC 7208 section 9.1, one line such as
+ *
+ *     Received-SPF: pass receiver=mx.example; client-ip=192.0.2.1;
+ *      envelope-from="user@example.com"; helo=mail.example; identity=mailfrom
+ *
+ * but unfolded, and with CR LF at its end.
+ *
+ * result    0 to 6, what talavorn_evaluate returned
+ * identity  TALAVORN_IDENTITY_MAILFROM or TALAVORN_IDENTITY_HELO
+ * client, sender, helo, receiver  as they were given to talavorn_evaluate. client-ip is written as
+ *           macro c writes it: an IPv6 address as eight groups in lower case, and an IPv4-mapped
+ *           one as IPv4. The others are written as they are given, an empty one as ""
+ * out       a line that is written has at most 1,500 bytes
+ *
+ * A value that isn't dot-atom-text (RFC 5322 section 3.2.3) stands in quotes, with a backslash
+ * before quotes and backslashes and before nothing else.
+ *
+ * Tests in this order, and returns the first that holds, with *size 0 and nothing written to out:
+ *     92  identity is neither 0 nor 1
+ *     90  client isn't 4 or 16 octets
+ *     20  sender, 21 helo or receiver
+ *     52  result is 7 or above
+ *     50  the line, its CR LF included, is over 1,500 bytes or doesn't fit out
+ * Otherwise returns 0: the line is written at the front of out, *size bytes. *size is written by
+ * every call.
+ *
+ * RFC 5322 section 2.1.1 allows 998 bytes before CR LF. Longer lines are written, too, but only if
+ * values have quotes or backslashes: without any a line has at most 964 bytes before CR LF. Leave
+ * such a line out of the message, or fold it; talavorn_read_line doesn't read a folded one. */
+uint8_t talavorn_write_line(
+    uint8_t result,
+    const void *client, size_t client_len,
+    const void *sender, size_t sender_len,
+    const void *helo, size_t helo_len,
+    const void *receiver, size_t receiver_len,
+    uint8_t identity,
+    void *out, size_t out_len,
+    size_t *size);
+
+/* Where what talavorn_read_line writes stands in `values`. A value's part is the bytes of the line
+ * from the place values[n] up to the place values[n + 1]. */
+enum {
+    TALAVORN_LINE_RESULT = 0,       /* the result, 0 to 6 */
+    TALAVORN_LINE_RECEIVER = 1,
+    TALAVORN_LINE_CLIENT = 3,       /* client-ip */
+    TALAVORN_LINE_SENDER = 5,       /* envelope-from */
+    TALAVORN_LINE_HELO = 7,
+    TALAVORN_LINE_IDENTITY = 9,     /* `mailfrom` or `helo` */
+    TALAVORN_LINE_VALUES = 11
+};
+
+/* Reads a Received-SPF line back.
+ *
+ * line      the whole line, CR LF included, and nothing else
+ *
+ * Returns 0 for just the lines that talavorn_write_line gives for some arguments, with the result
+ * and where the part of each value stands: without the quotes, with its backslashes, which
+ * talavorn_unquote takes out. Otherwise returns 51, and all of values is 0: another order, case or
+ * space, quotes round dot-atom-text, a client-ip in another form, a value that talavorn_write_line
+ * refuses, a folded line, CR LF missing or twice, over 1,500 bytes. All of values is written by
+ * every call. */
+uint8_t talavorn_read_line(const void *line, size_t line_len, size_t values[11]);
+
+/* Takes the backslashes out of a value's part of a Received-SPF line.
+ *
+ * Tests in this order, and returns the first that holds, with *size 0 and nothing written to out:
+ *     51  no line has this part: a byte that isn't 32 to 126, a quote without a backslash, a
+ *         backslash before another byte or at the end, or a value over 320 bytes
+ *     50  the value doesn't fit out
+ * Otherwise returns 0: the value is written at the front of out, *size bytes, 0 to 320. *size is
+ * written by every call. */
+uint8_t talavorn_unquote(
+    const void *part, size_t part_len, void *out, size_t out_len, size_t *size);
+
 /* Whether a client matches a network: 1 if both are of one family, bits is at most its width, 32 or
  * 128, and the first `bits` bits of both are the same; otherwise 0; 90 if one of them isn't 4 or 16
  * octets. In bytes: the first bits / 8 are equal, and if bits % 8 are left over, so are these
@@ -569,6 +650,41 @@ static inline const char *talavorn_result_name(unsigned number)
     static const char *const names[] = { "none",     "neutral",   "pass",      "fail",
                                          "softfail", "temperror", "permerror", "wanting" };
     return number < sizeof names / sizeof *names ? names[number] : "refused";
+}
+
+/* talavorn_write_line for a mail: its header line with a final 0 in `line`; returns its length.
+ *
+ * number    talavorn_check's, 0 to 6; any other is no result, and has no line
+ * identity  what was checked: TALAVORN_IDENTITY_MAILFROM, for an empty MAIL FROM too, or
+ *           TALAVORN_IDENTITY_HELO
+ *
+ * Returns 0, with "", where the call refuses. */
+static inline size_t talavorn_received(
+    const struct talavorn_mail *mail, uint8_t number, uint8_t identity, char line[1501])
+{
+    size_t size;
+    talavorn_write_line(
+        number, mail->client.at, mail->client.len, mail->sender.at, mail->sender.len,
+        mail->helo.at, mail->helo.len, mail->receiver.at, mail->receiver.len, identity,
+        line, 1500, &size);
+    line[size] = 0;
+    return size;
+}
+
+/* talavorn_unquote for a line that talavorn_read_line read: a value with a final 0 in `value`;
+ * returns its length.
+ *
+ * values    what talavorn_read_line wrote for this line
+ * which     TALAVORN_LINE_RECEIVER, .._CLIENT, .._SENDER, .._HELO or .._IDENTITY */
+static inline size_t talavorn_line_value(
+    const void *line, const size_t values[11], unsigned which, char value[321])
+{
+    size_t size;
+    talavorn_unquote(
+        (const uint8_t *)line + values[which], values[which + 1] - values[which], value, 320,
+        &size);
+    value[size] = 0;
+    return size;
 }
 
 /* The items of one answer, made one after the other in lent memory. */

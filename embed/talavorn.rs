@@ -3,6 +3,8 @@
 //! links the static library. rustc 1.82 or later, any edition.
 #![allow(dead_code)] // a program uses what it needs
 
+use std::ops::Range;
+
 // Numbers of a check: SPF's results, and that an answer is missing. 20 and above are refusals.
 pub const NONE: u8 = 0;
 pub const NEUTRAL: u8 = 1;
@@ -59,6 +61,20 @@ unsafe extern "C" {
         place: *mut usize,
     ) -> u8;
     fn talavorn_read_address(text: *const u8, text_len: usize, octets: *mut [u8; 16]) -> u8;
+    fn talavorn_write_line(
+        result: u8,
+        client: *const u8, client_len: usize,
+        sender: *const u8, sender_len: usize,
+        helo: *const u8, helo_len: usize,
+        receiver: *const u8, receiver_len: usize,
+        identity: u8,
+        out: *mut u8, out_len: usize,
+        size: *mut usize,
+    ) -> u8;
+    fn talavorn_read_line(line: *const u8, line_len: usize, values: *mut [usize; 11]) -> u8;
+    fn talavorn_unquote(
+        part: *const u8, part_len: usize, out: *mut u8, out_len: usize, size: *mut usize,
+    ) -> u8;
 }
 
 /// What an evaluation is given besides the table. For an empty MAIL FROM, and to check HELO, the
@@ -130,8 +146,27 @@ pub struct Refusal {
     pub place: usize,
 }
 
+/// Which identity a Received-SPF line is about.
+#[derive(Clone, Copy, Debug, PartialEq)]
+pub enum Identity {
+    MailFrom = 0,
+    Helo = 1,
+}
+
+/// A Received-SPF line that was read: the result, and where the part of each value stands in the
+/// line. `unquote` takes the backslashes out of a part.
+#[derive(Clone, Debug, PartialEq)]
+pub struct Line {
+    pub result: u8,
+    pub receiver: Range<usize>,
+    pub client: Range<usize>,
+    pub sender: Range<usize>,
+    pub helo: Range<usize>,
+    pub identity: Range<usize>,
+}
+
 // Every slice is valid, a lent one overlaps nothing, and the library asks for nothing else: so the
-// four functions below are safe.
+// functions below are safe.
 
 /// Evaluates a domain for a client over a table of DNS answers.
 pub fn evaluate(mail: &Mail, table: &[u8]) -> Answer {
@@ -224,6 +259,49 @@ pub fn read_address(text: &[u8]) -> Option<Vec<u8>> {
     let mut octets = [0u8; 16];
     let n = unsafe { talavorn_read_address(text.as_ptr(), text.len(), &mut octets) };
     if n == 0 { None } else { Some(octets[..n as usize].to_vec()) }
+}
+
+/// The Received-SPF line of a result, 0 to 6, for a mail that was checked, with CR LF at its end; or
+/// the number of a refusal: 90, 20, 21, 52, 50. Of the mail the domain and the seconds aren't used.
+pub fn write_line(result: u8, mail: &Mail, identity: Identity) -> Result<Vec<u8>, u8> {
+    let (mut out, mut size) = ([0; 1500], 0);
+    let number = unsafe {
+        talavorn_write_line(
+            result,
+            mail.client.as_ptr(), mail.client.len(),
+            mail.sender.as_ptr(), mail.sender.len(),
+            mail.helo.as_ptr(), mail.helo.len(),
+            mail.receiver.as_ptr(), mail.receiver.len(),
+            identity as u8,
+            out.as_mut_ptr(), out.len(),
+            &mut size,
+        )
+    };
+    if number == 0 { Ok(out[..size].to_vec()) } else { Err(number) }
+}
+
+/// Reads a Received-SPF line, CR LF included, that `write_line` gives; none for any other.
+pub fn read_line(line: &[u8]) -> Option<Line> {
+    let mut values = [0; 11];
+    let number = unsafe { talavorn_read_line(line.as_ptr(), line.len(), &mut values) };
+    let [result, a, b, c, d, e, f, g, h, i, j] = values;
+    (number == 0).then(|| Line {
+        result: result as u8,
+        receiver: a..b,
+        client: c..d,
+        sender: e..f,
+        helo: g..h,
+        identity: i..j,
+    })
+}
+
+/// The value of a part of a Received-SPF line; none for bytes that no line has as a part.
+pub fn unquote(part: &[u8]) -> Option<Vec<u8>> {
+    let (mut out, mut size) = ([0; 320], 0);
+    let number = unsafe {
+        talavorn_unquote(part.as_ptr(), part.len(), out.as_mut_ptr(), out.len(), &mut size)
+    };
+    (number == 0).then(|| out[..size].to_vec())
 }
 
 #[cfg(test)]
@@ -321,5 +399,35 @@ mod tests {
         assert_eq!(refused(1, 0, b"a", &mut 18), Refusal { number: 25, place: 17 });
         assert_eq!(refused(1, 0, b"a", &mut 26), Refusal { number: 24, place: 0 });
         assert_eq!((table, size), (first, 17));
+    }
+
+    #[test]
+    fn a_line_is_written_and_read_back() {
+        let mail = Mail { sender: b"a\"b\\c@x.y", ..MAIL };
+        let line = write_line(PASS, &mail, Identity::MailFrom).unwrap();
+        let expected = b"Received-SPF: pass receiver=\"\"; client-ip=192.0.2.129; \
+            envelope-from=\"a\\\"b\\\\c@x.y\"; helo=h.example; identity=mailfrom\r\n";
+        assert_eq!(line, expected);
+        let read = read_line(&line).unwrap();
+        assert_eq!((read.result, read.receiver.clone()), (PASS, 29..29));
+        let value = |part: &Range<usize>| unquote(&line[part.clone()]);
+        assert_eq!(value(&read.receiver), Some(Vec::new()));
+        assert_eq!(value(&read.client), Some(b"192.0.2.129".to_vec()));
+        assert_eq!(value(&read.sender), Some(b"a\"b\\c@x.y".to_vec()));
+        assert_eq!(value(&read.helo), Some(b"h.example".to_vec()));
+        assert_eq!(value(&read.identity), Some(b"mailfrom".to_vec()));
+    }
+
+    #[test]
+    fn a_line_is_refused() {
+        let written = |result, mail: &Mail| write_line(result, mail, Identity::Helo);
+        assert_eq!(written(PASS, &Mail { client: &[], ..MAIL }), Err(90));
+        assert_eq!(written(WANTING, &Mail { sender: b"", helo: b"a b", ..MAIL }), Err(20));
+        assert_eq!(written(WANTING, &Mail { helo: b"a b", ..MAIL }), Err(21));
+        assert_eq!(written(WANTING, &MAIL), Err(52));
+        let (long, host) = ([b'"'; 320], [b'"'; 255]);
+        assert_eq!(written(FAIL, &Mail { sender: &long, helo: &host, receiver: &host, ..MAIL }), Err(50));
+        assert_eq!(read_line(b"Received-SPF: pass\r\n"), None);
+        assert_eq!((unquote(b"\\a"), unquote(b"a b")), (None, Some(b"a b".to_vec())));
     }
 }
