@@ -12,6 +12,7 @@ pub struct Sum {
     pub group: u64,
 }
 
+// A byte as a u64.
 fn wide(x: u8) -> u64
     ensures { λ r. ⌜ (r ≡ x) × (r < 256) ⌝ }
 {
@@ -34,25 +35,28 @@ fn digit_value(b: u8) -> u64
     wide(b - 87)
 }
 
+// The IPv4 address with one octet more.
 fn octet_on(x: Sum) -> u64
     ensures { λ r. ⌜ (r ≡ octetOn x) × (r < 4294967296) ⌝ }
 {
     (x.low % 16777216) * 256 + x.group % 256
 }
 
+// The high half of the IPv6 address with one group more.
 fn high_on(x: Sum) -> u64
     ensures { λ r. ⌜ r ≡ highOn x ⌝ }
 {
     (x.high % 281474976710656) * 65536 + (x.low / 281474976710656) % 65536
 }
 
+// Its low half.
 fn low_on(x: Sum) -> u64
     ensures { λ r. ⌜ r ≡ lowOn x ⌝ }
 {
     (x.low % 281474976710656) * 65536 + x.group % 65536
 }
 
-// One byte more.
+// What stands before the next byte: a dot or a colon ends a number, any other byte is a digit of it.
 fn push_byte(base: u64, x: Sum, b: u8) -> Sum
     requires { ⌜ base ≤ 16 ⌝ }
     ensures { λ r. ⌜ r ≡ pushByte base x b ⌝ }
@@ -79,7 +83,7 @@ fn push_byte(base: u64, x: Sum, b: u8) -> Sum
     }
 }
 
-// All bytes.
+// The same of all bytes.
 fn sum_of(base: u64, s: &[u8]) -> Sum
     requires { ⌜ base ≤ 16 ⌝ }
     ensures { λ r. ⌜ r ≡ total base (now (s .entry)) ⌝ }
@@ -97,7 +101,7 @@ fn sum_of(base: u64, s: &[u8]) -> Sum
     x
 }
 
-// The address.
+// The address of these digits: IPv6 if there is a colon.
 pub fn address_of(s: &[u8]) -> Address
     ensures { λ r. ⌜ r ≡ addressOf (now (s .entry)) ⌝ }
 {

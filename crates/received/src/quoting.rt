@@ -5,7 +5,7 @@ ghost use lib.ListN.{length};
 ghost use Rattle.text.specs.Writing.{Wrote};
 ghost use Rattle.received.specs.Atoms.{isAtext};
 ghost use Rattle.text.specs.Lists.{same};
-ghost use Rattle.received.specs.Quoting.{escapedByte, escaped, unescaped};
+ghost use Rattle.received.specs.Quoting.{isMarked, escapedByte, escaped, unescaped};
 ghost use Rattle.received.specs.Numbers.{Says};
 ghost use Rattle.received.specs.States.{atomStep, isDotAtomText, Placed, valued};
 ghost use Rattle.received.specs.Texts.{formed};
@@ -57,15 +57,21 @@ fn is_dot_atom_text(s: &[u8]) -> bool
     state == 2
 }
 
+// Whether a byte is a quote or a backslash.
+fn is_marked(b: u8) -> bool
+    ensures { λ r. ⌜ r ≡ isMarked b ⌝ }
+{
+    if b == 34 {
+        return true;
+    }
+    b == 92
+}
+
 // Writes a byte, with a backslash before a quote or a backslash.
 fn put_escaped_byte(b: u8, out: &mut [u8], at: usize) -> usize
     ensures { λ r. ⌜ Wrote (escapedByte b) (now (out .entry)) at (now (out .exit)) r ⌝ }
 {
-    if b == 34 {
-        let next = writing::put(out, at, 92);
-        return writing::put(out, next, b);
-    }
-    if b == 92 {
+    if is_marked(b) {
         let next = writing::put(out, at, 92);
         return writing::put(out, next, b);
     }

@@ -59,6 +59,7 @@ fn closing_at(s: &[u8], i: usize) -> usize
     q
 }
 
+// A place n bytes on, or the largest one: no sum needs a bound, and no line has such a place.
 fn plus(p: usize, n: usize) -> usize
     ensures { λ r. ⌜ r ≡ plus p n ⌝ }
 {
@@ -102,7 +103,7 @@ fn part_after(s: &[u8], to: usize, n: usize) -> Part
     part_at(s, plus(after(s, to), n))
 }
 
-// The same of the later words.
+// The number of one of the last three words, 7 for any other.
 fn later_number(w: &[u8]) -> u8
     ensures { λ r. ⌜ r ≡ laterNumber (now (w .entry)) ⌝ }
 {
@@ -137,6 +138,7 @@ pub fn number_of(w: &[u8]) -> u8
     later_number(w)
 }
 
+// The identity of its word, and of any other; writing tells them apart.
 fn identity_of(w: &[u8]) -> Identity
     ensures { λ r. ⌜ r ≡ identityOf (now (w .entry)) ⌝ }
 {
@@ -146,7 +148,8 @@ fn identity_of(w: &[u8]) -> Identity
     Identity::Helo
 }
 
-// Where the parts stand, if this is a line.
+// Where the parts stand, if this is a line: behind the 14 bytes of `Received-SPF: ` and the word, each as many bytes on as its key has, from the 10 of
+// ` receiver=` to the 11 of `; identity=`.
 pub fn parts_of(s: &[u8]) -> Parts
     ensures { λ r. ⌜ r ≡ partsOf (now (s .entry)) ⌝ }
 {

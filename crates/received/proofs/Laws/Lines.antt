@@ -11,7 +11,7 @@ use borrow.Author.Tests.{le-leb, lt-leb, lt-ltb, le-ltb, leb-true, leb-false, lt
 use Rattle.text.specs.Texts.{bytes}
 use Rattle.text.specs.Writing.{Wrote}
 use Rattle.text.proofs.Laws.Writing.{wrote-then, wrote-front, value-taken, value-inside, value-whole}
-use Rattle.text.proofs.Laws.Tests.{true-false, test-fails}
+use Rattle.text.proofs.Laws.Tests.{true-false, test-fails, cond-elim}
 use Rattle.address.specs.declared.Address.{Address}
 use Rattle.address.specs.Octets.{asClient}
 use Rattle.address_text.specs.Forms.{readable}
@@ -19,8 +19,8 @@ use Rattle.macros.specs.Expansion.{isSender, isHost}
 use Rattle.macros.proofs.Laws.Expanding.{readable-fits}
 use Rattle.received.specs.Quoting.{quoted, escaped}
 use Rattle.received.specs.Line.{Word, none, neutral, pass, fail, softfail, temperror, permerror, crlf, partFrom, Pair, as-it-stands, in-quotes, Values, Line, line}
-use Rattle.received.specs.Numbers.{refused, written, Says}
-use Rattle.received.specs.Answers.{Given, given, identityText, valuesOf, Writes, no-sender, no-host, no-result, no-room, fits, WritesLine}
+use Rattle.received.specs.Numbers.{Outcome, refused, written, Says}
+use Rattle.received.specs.Answers.{Given, given, identityText, valuesOf, most-line, Writes, no-sender, no-host, no-result, no-room, fits, WritesLine}
 use Rattle.received.specs.States.{isDotAtomText}
 use Rattle.received.specs.Texts.{wordOf, formed, shown, headText, middleText, tailText, lineText, place₀, place₁, place₂, place₃, place₄, lineParts, fitted, textOf, outcome}
 use Rattle.received.specs.declared.Written.{Written}
@@ -76,21 +76,23 @@ module _ (out : List ℕ) (at : ℕ) (o₁ o₂ : List ℕ) (n₁ n₂ : ℕ) wh
 
 -- `write_fitting`: measured in an array of no use, and written where it fits
 module _ (xs z o : List ℕ) (n : ℕ) (w : Wrote xs z 0 o n) (out : List ℕ) where
-  pub line-long : 1500 < n → Says (fitted xs (length out)) (Refused 50) out out
+  -- over what the code tests, k, which is the limit or more
+  pub line-long : (k : ℕ) → k < n → most-line ≤ k → Says (fitted xs (length out)) (Refused 50) out out
   unfolding fitted
-  line-long h = rw (lt-leb (length xs) 1500 (omega (arith, w .next-place))) (record { answer = refl; buffer = refl })
+  line-long k h l = rw (lt-leb (length xs) most-line (omega (arith, w .next-place))) (record { answer = refl; buffer = refl })
 
-  module _ (short : n ≤ 1500) where
-    pub line-over : length out < n → Says (fitted xs (length out)) (Refused 50) out out
-    unfolding fitted
-    line-over h = rw (le-leb (length xs) 1500 (omega (arith, w .next-place)), lt-leb (length xs) (length out) (omega (arith, w .next-place))) (record { answer = refl; buffer = refl })
+  pub line-over : length out < n → Says (fitted xs (length out)) (Refused 50) out out
+  unfolding fitted
+  line-over h = cond-elim (λ (x : Outcome). Says x (Refused 50) out out) (leb (length xs) most-line)
+      (λ _. rw (lt-leb (length xs) (length out) (omega (arith, w .next-place))) (record { answer = refl; buffer = refl }))
+      (λ _. record { answer = refl; buffer = refl })
 
-    pub line-fits : n ≤ length out → (after : List ℕ) (m : ℕ) → Wrote xs out 0 after m → Says (fitted xs (length out)) (Length n) out after
-    unfolding fitted
-    line-fits h after m v =
-        let e : n ≡ length xs = omega (arith, w .next-place) in
-        let l : length xs ≤ length out = omega arith in
-        rw (le-leb (length xs) 1500 (omega arith), le-leb (length xs) (length out) l) (record { answer = ap Length e; buffer = wrote-front xs out after m v l })
+  pub line-fits : n ≤ most-line → n ≤ length out → (after : List ℕ) (m : ℕ) → Wrote xs out 0 after m → Says (fitted xs (length out)) (Length n) out after
+  unfolding fitted
+  line-fits s h after m v =
+      let e : n ≡ length xs = omega (arith, w .next-place) in
+      let f : length xs ≤ length out = omega arith in
+      rw (le-leb (length xs) most-line (omega arith), le-leb (length xs) (length out) f) (record { answer = ap Length e; buffer = wrote-front xs out after m v f })
 
 -- `write_with_client`
 module _ (client a : Address) (f : a ≡ asClient client) (z v : List ℕ) (n : ℕ) (w : Wrote (readable a) z 0 v n) (size : length z ≡ 39) where
@@ -209,17 +211,17 @@ line-result (line w a b c d e) = word-small w
 -- `write_line`: the tests in their order
 pub writes : (g : Given) (room : ℕ) → Writes g room (outcome g room)
 unfolding outcome fitted
-writes g room = by (isSender (g .sender)) refl (isHost (g .helo) && isHost (g .receiver)) refl (ltb (g .result) 7) refl (leb (length (textOf g)) 1500) refl (leb (length (textOf g)) room) refl
+writes g room = by (isSender (g .sender)) refl (isHost (g .helo) && isHost (g .receiver)) refl (ltb (g .result) 7) refl (leb (length (textOf g)) most-line) refl (leb (length (textOf g)) room) refl
   where
     by : (a : Bool) → isSender (g .sender) ≡ a → (b : Bool) → (isHost (g .helo) && isHost (g .receiver)) ≡ b → (c : Bool) → ltb (g .result) 7 ≡ c
-        → (d : Bool) → leb (length (textOf g)) 1500 ≡ d → (e : Bool) → leb (length (textOf g)) room ≡ e
+        → (d : Bool) → leb (length (textOf g)) most-line ≡ d → (e : Bool) → leb (length (textOf g)) room ≡ e
         → Writes g room (cond a (cond b (cond c (cond d (cond e (written (textOf g)) (refused 50)) (refused 50)) (refused 52)) (refused 21)) (refused 20))
     by false ea b eb c ec d ed e ee = no-sender ea
     by true ea false eb c ec d ed e ee = no-host ea eb
     by true ea true eb false ec d ed e ee = no-result ea eb (ltb-false (g .result) 7 ec)
-    by true ea true eb true ec false ed e ee = no-room (record { sender = ea; hosts = eb; result = ltb-true (g .result) 7 ec }) (line-is (g .result) (valuesOf g) (ltb-true (g .result) 7 ec)) (inl (leb-false (length (textOf g)) 1500 ed))
+    by true ea true eb true ec false ed e ee = no-room (record { sender = ea; hosts = eb; result = ltb-true (g .result) 7 ec }) (line-is (g .result) (valuesOf g) (ltb-true (g .result) 7 ec)) (inl (leb-false (length (textOf g)) most-line ed))
     by true ea true eb true ec true ed false ee = no-room (record { sender = ea; hosts = eb; result = ltb-true (g .result) 7 ec }) (line-is (g .result) (valuesOf g) (ltb-true (g .result) 7 ec)) (inr (leb-false (length (textOf g)) room ee))
-    by true ea true eb true ec true ed true ee = fits (record { sender = ea; hosts = eb; result = ltb-true (g .result) 7 ec }) (line-is (g .result) (valuesOf g) (ltb-true (g .result) 7 ec)) (leb-true (length (textOf g)) 1500 ed) (leb-true (length (textOf g)) room ee)
+    by true ea true eb true ec true ed true ee = fits (record { sender = ea; hosts = eb; result = ltb-true (g .result) 7 ec }) (line-is (g .result) (valuesOf g) (ltb-true (g .result) 7 ec)) (leb-true (length (textOf g)) most-line ed) (leb-true (length (textOf g)) room ee)
 
 pub answered : (g : Given) (r : Written) (before after : List ℕ) → Says (outcome g (length before)) r before after → WritesLine g r before after
 answered g r before after x = record { outcome = outcome g (length before); writes = writes g (length before); says = x }

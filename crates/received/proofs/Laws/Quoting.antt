@@ -14,7 +14,7 @@ use borrow.Author.Tests.{eq-eqb, ne-eqb, lt-ltb, le-ltb, ltb-true, le-leb, lt-le
 use Rattle.text.specs.Bytes.{at, within, isUpper, isAlpha, isDigit, isAlphanumeric, isPrintable}
 use Rattle.text.specs.Lists.{all, contains, same}
 use Rattle.text.specs.Writing.{Wrote}
-use Rattle.text.proofs.Laws.Tests.{or-left, or-right, or-false-right, or-false-both, true-false}
+use Rattle.text.proofs.Laws.Tests.{or-false-right, or-false-both, true-false}
 use Rattle.text.proofs.Laws.Classes.{apart}
 use Rattle.text.proofs.Laws.Parts.{all-first, all-rest}
 use Rattle.text.proofs.Laws.Words.{same-true, true-same}
@@ -42,22 +42,12 @@ unfolding escapedByte
 byte-plain b h = rw h
 
 -- `put_escaped_byte`
-module _ (b : ℕ) (out : List ℕ) (at : ℕ) where
-  module _ (o₁ o₂ : List ℕ) (n₁ n₂ : ℕ) (u : Wrote (92 ∷ []) out at o₁ n₁) (w : Wrote (b ∷ []) o₁ n₁ o₂ n₂) where
-    both : isMarked b ≡ true → Wrote (escapedByte b) out at o₂ n₂
-    both h = rw (byte-marked b h) (wrote-then out at (92 ∷ []) (b ∷ []) o₁ o₂ n₁ n₂ u w)
+module _ (b : ℕ) (r : Bool) (e : r ≡ isMarked b) (out : List ℕ) (at : ℕ) where
+  pub put-marked : r ≡ true → (o₁ o₂ : List ℕ) (n₁ n₂ : ℕ) → Wrote (92 ∷ []) out at o₁ n₁ → Wrote (b ∷ []) o₁ n₁ o₂ n₂ → Wrote (escapedByte b) out at o₂ n₂
+  put-marked h o₁ o₂ n₁ n₂ u w = rw (byte-marked b (sym e ∙ h)) (wrote-then out at (92 ∷ []) (b ∷ []) o₁ o₂ n₁ n₂ u w)
 
-    pub put-quote : b ≡ 34 → Wrote (escapedByte b) out at o₂ n₂
-    unfolding isMarked
-    put-quote e = both (or-left (eqb b 34) (eqb b 92) (eq-eqb b 34 e))
-
-    pub put-backslash : b ≡ 92 → Wrote (escapedByte b) out at o₂ n₂
-    unfolding isMarked
-    put-backslash e = both (or-right (eqb b 34) (eqb b 92) (eq-eqb b 92 e))
-
-  pub put-plain : (b ≡ 34 → ⊥) → (b ≡ 92 → ⊥) → (o : List ℕ) (n : ℕ) → Wrote (b ∷ []) out at o n → Wrote (escapedByte b) out at o n
-  unfolding isMarked
-  put-plain h k o n w = rw (byte-plain b (or-false-both (eqb b 34) (eqb b 92) (ne-eqb b 34 h) (ne-eqb b 92 k))) w
+  pub put-plain : r ≡ false → (o : List ℕ) (n : ℕ) → Wrote (b ∷ []) out at o n → Wrote (escapedByte b) out at o n
+  put-plain h o n w = rw (byte-plain b (sym e ∙ h)) w
 
 -- a value in two pieces
 pub escaped-append : (xs ys : List ℕ) → escaped (xs ++ ys) ≡ escaped xs ++ escaped ys

@@ -11,7 +11,7 @@ put-line-requires : tie.Need-put-line-requires
 put-line-requires c κs = search needs
 
 returns : tie.Need-returns
-returns c = search line-long
+returns c = search (line-long, needs)
 
 returns-2 : tie.Need-returns-2
 returns-2 c = search line-over
