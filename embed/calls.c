@@ -143,29 +143,31 @@ static void lines_written(void)
            "quotes, backslashes, an empty value");
 }
 
+/* Each row has the faults of all rows below it, and is refused for its own. */
+static const struct {
+    uint8_t identity, octets;
+    const char *sender, *helo;
+    uint8_t result, number;
+} faults[] = {
+    { 2, 3, "", "a b", 7, TALAVORN_BAD_IDENTITY },
+    { 1, 3, "", "a b", 7, TALAVORN_BAD_ADDRESS },
+    { 1, 4, "", "a b", 7, TALAVORN_BAD_SENDER },
+    { 1, 4, "a", "a b", 7, TALAVORN_BAD_HOST },
+    { 1, 4, "a", "a", 7, TALAVORN_NO_RESULT },
+    { 1, 4, "a", "a", 6, TALAVORN_LONG_LINE },
+};
+
 static void lines_refused(void)
 {
     char most[320], host[255], other[255];
     memset(most, '"', sizeof most);
     memset(host, '"', sizeof host);
-    expect(write_line(7, client, 3, TEXT(""), TEXT("a b"), TEXT(""), 2, 0) == TALAVORN_BAD_IDENTITY
-               && is_written("", 0),
-           "an identity that is none");
-    expect(write_line(7, client, 3, TEXT(""), TEXT("a b"), TEXT(""), 1, 0) == TALAVORN_BAD_ADDRESS
-               && is_written("", 0),
-           "a line of three octets");
-    expect(write_line(7, client, 4, TEXT(""), TEXT("a b"), TEXT(""), 1, 0) == TALAVORN_BAD_SENDER
-               && is_written("", 0),
-           "20 of a line");
-    expect(write_line(7, client, 4, TEXT("a"), TEXT("a b"), TEXT(""), 1, 0) == TALAVORN_BAD_HOST
-               && is_written("", 0),
-           "21 of a line");
-    expect(write_line(7, client, 4, TEXT("a"), TEXT("a"), TEXT(""), 1, 0) == TALAVORN_NO_RESULT
-               && is_written("", 0),
-           "52 before 50");
-    expect(write_line(6, client, 4, TEXT("a"), TEXT("a"), TEXT(""), 1, 0) == TALAVORN_LONG_LINE
-               && is_written("", 0),
-           "50 of a line");
+    for (size_t i = 0; i < sizeof faults / sizeof *faults; i++)
+        expect(write_line(faults[i].result, client, faults[i].octets, faults[i].sender,
+                          strlen(faults[i].sender), faults[i].helo, strlen(faults[i].helo), "", 0,
+                          faults[i].identity, 0) == faults[i].number
+                   && is_written("", 0),
+               "the order in which a line is refused");
     /* 100 bytes besides these three values, 642 of the sender, 512 of HELO: 246 of the receiver */
     expect(write_line(5, client, 4, most, 320, host, 255, host, 122, 0, 2000) == 0
                && written_size == 1500,

@@ -17,7 +17,7 @@ import sys
 
 sys.dont_write_bytecode = True
 
-from scope_cases import OTHER, R, REV, TXT, A, absent, failed, hexed, need, octets, packed, table_of
+from scope_cases import OTHER, R, REV, TXT, A, absent, failed, hexed, need, octets, packed, store, table_of
 
 CRATE = pathlib.Path(__file__).resolve().parent.parent / "crates" / "call_cases"
 
@@ -293,8 +293,7 @@ def main(path):
     for section in (buffers, domains, places, questions):
         section()
     need(all(line.isascii() and len(line) < LINE for line in given + printed), "a line is too long or not ASCII")
-    (CRATE / "stdin").write_text("\n".join(given) + "\n", encoding="ascii")
-    (CRATE / "stdout").write_text("\n".join(printed) + "\n", encoding="ascii")
+    store(CRATE, given, printed)
     print(sum(not line.startswith("#") for line in given), "cases")
 
 

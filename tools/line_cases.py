@@ -20,7 +20,7 @@ import sys
 
 sys.dont_write_bytecode = True
 
-from scope_cases import need, packed
+from scope_cases import need, packed, store
 
 CRATE = pathlib.Path(__file__).resolve().parent.parent / "crates" / "received_cases"
 
@@ -538,8 +538,7 @@ def main(path):
     for section in (print_cases, input_cases):
         section()
     need(all(line.isascii() and len(line) < CASE for line in given + printed), "a line is too long or not ASCII")
-    (CRATE / "stdin").write_text("\n".join(given) + "\n", encoding="ascii")
-    (CRATE / "stdout").write_text("\n".join(printed) + "\n", encoding="ascii")
+    store(CRATE, given, printed)
     print(sum(not line.startswith("#") for line in given), "cases")
 
 

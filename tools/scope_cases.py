@@ -40,6 +40,12 @@ def hexed(text):
     return octets(text).hex() or "-"
 
 
+def store(crate, given, printed):
+    """The cases of a program, and what it must print, beside its sources."""
+    (crate / "stdin").write_text("\n".join(given) + "\n", encoding="ascii")
+    (crate / "stdout").write_text("\n".join(printed) + "\n", encoding="ascii")
+
+
 def packed(address):
     """An address as its octets in hex."""
     return ipaddress.ip_address(address).packed.hex()
@@ -1195,8 +1201,7 @@ def main():
     for section in (both_sides, look_right, part_one, limits, names, grammar, tables, explanations, clients, values, terms, edges, programs, places, retired, void_answers):
         section()
     need(all(line.isascii() for line in given + printed), "a line is not ASCII")
-    (CRATE / "stdin").write_text("\n".join(given) + "\n", encoding="ascii")
-    (CRATE / "stdout").write_text("\n".join(printed) + "\n", encoding="ascii")
+    store(CRATE, given, printed)
     print(len(labels), "cases")
 
 

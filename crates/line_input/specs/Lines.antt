@@ -54,9 +54,9 @@ pub data Prints (input : List ℕ) : List ℕ → Type 0 where
   no-line : {number : ℕ} → Opens input → ReadsLine input (answers.Refused number) → Prints input (refusalLine number)
   reads : {g : Given} {f : Parts} {word : List ℕ} → Opens input → LineFor g input f → Word (g .result) word → Prints input (sixLines word (valuesOf g))
 
--- what is printed never has more bytes (`prints-length`, proofs/Laws/Printing.antt)
+-- what is printed never has more bytes than a line (`prints-length`, proofs/Laws/Printing.antt)
 abbrev pub room : ℕ
-room = 1500
+room = most-line
 
 -- all of it stands at the front of a buffer, n bytes, and the bytes after it are kept
 pub record Printed (input before after : List ℕ) (n : ℕ) : Type 0 where

@@ -28,6 +28,9 @@ use text::writing;
 // The most bytes of six lines; no line of them that is accepted comes near it.
 pub const MOST_INPUT: usize = 4096;
 
+// How much of an input decides what is printed: one byte more.
+pub const READ: usize = 4097;
+
 // The identity of a word, or that it names none.
 pub enum Named {
     Is(Identity),

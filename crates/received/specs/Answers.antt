@@ -55,6 +55,10 @@ valuesOf g = record {
 abbrev pub most-line : ℕ
 most-line = 1500
 
+-- the most bytes of a value: those of a sender, by the test of 20
+abbrev pub most-value : ℕ
+most-value = 320
+
 -- the arguments pass the tests of 20, 21 and 52; 52 "result 7 or above offered for writing"
 pub record Fit (g : Given) : Type 0 where
   pub sender : isSender (g .sender) ≡ true
@@ -93,7 +97,7 @@ pub data ReadsLine (s : List ℕ) : LineAnswer → Type 0 where
 pub record PartOf (v s : List ℕ) : Type 0 where
   pub text : s ≡ escaped v
   pub printable : all isPrintable v ≡ true
-  pub size : length v ≤ 320
+  pub size : length v ≤ most-value
 
 -- "the second call 51, 50": "no .. part that writing gives", "over .. the buffer"; otherwise the value
 pub data Unquotes (s : List ℕ) (room : ℕ) : Outcome → Type 0 where

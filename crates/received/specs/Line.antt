@@ -19,6 +19,10 @@ pub data Word : ℕ → List ℕ → Type 0 where
   temperror : Word 5 (bytes "temperror")
   permerror : Word 6 (bytes "permerror")
 
+-- the field's name, its colon and a space
+abbrev pub opening : List ℕ
+opening = bytes "Received-SPF: "
+
 -- CR LF
 abbrev pub crlf : List ℕ
 crlf = 13 ∷ 10 ∷ []
@@ -42,13 +46,13 @@ pub record Values : Type 0 where
   pub identity : List ℕ
 
 -- "`Received-SPF: `, the result's word, a space, then `receiver=`, `client-ip=` .., `envelope-from=`, `helo=`, `identity=` and their values joined by
--- `; `, and CRLF": each pair begins where what stands before it ends, the first 14 bytes being the field's name, its colon and a space
+-- `; `, and CRLF": each pair begins where what stands before it ends
 pub data Line (result : ℕ) (v : Values) : List ℕ → Parts → Type 0 where
   line : {word a b c d e : List ℕ} {p q r s t : Part} → Word result word
-      → Pair (bytes " receiver=") (v .receiver) (14 + length word) a p
-      → Pair (bytes "; client-ip=") (v .client) (14 + length word + length a) b q
-      → Pair (bytes "; envelope-from=") (v .sender) (14 + length word + length a + length b) c r
-      → Pair (bytes "; helo=") (v .helo) (14 + length word + length a + length b + length c) d s
-      → Pair (bytes "; identity=") (v .identity) (14 + length word + length a + length b + length c + length d) e t
-      → Line result v (bytes "Received-SPF: " ++ (word ++ (a ++ (b ++ (c ++ (d ++ (e ++ crlf)))))))
+      → Pair (bytes " receiver=") (v .receiver) (length opening + length word) a p
+      → Pair (bytes "; client-ip=") (v .client) (length opening + length word + length a) b q
+      → Pair (bytes "; envelope-from=") (v .sender) (length opening + length word + length a + length b) c r
+      → Pair (bytes "; helo=") (v .helo) (length opening + length word + length a + length b + length c) d s
+      → Pair (bytes "; identity=") (v .identity) (length opening + length word + length a + length b + length c + length d) e t
+      → Line result v (opening ++ (word ++ (a ++ (b ++ (c ++ (d ++ (e ++ crlf)))))))
       (record { result = result; receiver = p; client = q; sender = r; helo = s; identity = t })

@@ -16,7 +16,7 @@ use Rattle.address.specs.declared.Address.the-variants.{IPv4, IPv6}
 use Rattle.received.specs.Quoting.{quote, unescaped}
 use Rattle.received.specs.Numbers.{Outcome, refused, written}
 use Rattle.received.specs.States.{fold, isPlain, closing}
-use Rattle.received.specs.Answers.{given, most-line}
+use Rattle.received.specs.Answers.{given, most-line, most-value}
 use Rattle.received.specs.Texts.{outcome}
 use Rattle.received.specs.declared.Identity.{Identity}
 use Rattle.received.specs.declared.Identity.the-variants.{MailFrom, Helo}
@@ -129,6 +129,13 @@ unfoldable pub isWritten : Outcome → List ℕ → Bool
 isWritten (refused n) s = false
 isWritten (written xs) s = same xs s
 
+-- the most bytes of a HELO name or a receiver, by the test of 21, and of a client's text: eight groups of four digits
+abbrev pub most-host : ℕ
+most-host = 255
+
+abbrev pub most-client : ℕ
+most-client = 39
+
 -- the value of a part, as far as any value goes
 abbrev pub valueOf : ℕ → List ℕ → Part → List ℕ
 valueOf n s p = take n (unescaped (bytesOf s p))
@@ -136,10 +143,10 @@ valueOf n s p = take n (unescaped (bytesOf s p))
 -- whether writing what the parts give, with these values, gives the line
 unfoldable pub isLineOf : List ℕ → Parts → (sender helo receiver : List ℕ) → Bool
 isLineOf s f sender helo receiver =
-    isWritten (outcome (given (f .result) (addressOf (valueOf 39 s (f .client))) sender helo receiver (identityOf (bytesOf s (f .identity)))) most-line) s
+    isWritten (outcome (given (f .result) (addressOf (valueOf most-client s (f .client))) sender helo receiver (identityOf (bytesOf s (f .identity)))) most-line) s
 
 unfoldable pub isLine : List ℕ → Parts → Bool
-isLine s f = isLineOf s f (valueOf 320 s (f .sender)) (valueOf 255 s (f .helo)) (valueOf 255 s (f .receiver))
+isLine s f = isLineOf s f (valueOf most-value s (f .sender)) (valueOf most-host s (f .helo)) (valueOf most-host s (f .receiver))
 
 -- a line over 1,500 bytes isn't looked at
 unfoldable pub lineAnswer : List ℕ → LineAnswer

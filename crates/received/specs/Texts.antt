@@ -7,7 +7,7 @@ use lib.Dec.{eqb, leb, ltb}
 use Rattle.text.specs.Texts.{bytes}
 use Rattle.macros.specs.Expansion.{isSender, isHost}
 use Rattle.received.specs.Quoting.{escaped, quoted}
-use Rattle.received.specs.Line.{crlf, partFrom}
+use Rattle.received.specs.Line.{opening, crlf, partFrom}
 use Rattle.received.specs.Numbers.{Outcome, refused, written}
 use Rattle.received.specs.Answers.{Given, valuesOf, most-line}
 use Rattle.received.specs.States.{isDotAtomText}
@@ -33,7 +33,7 @@ unfoldable pub shown : ℕ → List ℕ → Part
 shown p v = cond (isDotAtomText v) (partFrom p v) (partFrom (p + 1) (escaped v))
 
 unfoldable pub headText : ℕ → List ℕ → List ℕ
-headText result receiver = bytes "Received-SPF: " ++ (wordOf result ++ (bytes " receiver=" ++ formed receiver))
+headText result receiver = opening ++ (wordOf result ++ (bytes " receiver=" ++ formed receiver))
 
 unfoldable pub middleText : List ℕ → List ℕ → List ℕ
 middleText client sender = (bytes "; client-ip=" ++ formed client) ++ (bytes "; envelope-from=" ++ formed sender)
@@ -46,7 +46,7 @@ lineText result receiver client sender helo identity = headText result receiver 
 
 -- where each pair begins: behind the word, the receiver, the client, the sender and the HELO name
 abbrev pub place₀ : ℕ → ℕ
-place₀ result = 14 + length (wordOf result)
+place₀ result = length opening + length (wordOf result)
 
 abbrev pub place₁ : ℕ → List ℕ → ℕ
 place₁ result receiver = place₀ result + length (bytes " receiver=" ++ formed receiver)

@@ -20,6 +20,15 @@ pub const MOST_LINE: usize = 1500;
 // The most bytes of a value: those of a sender.
 pub const MOST_VALUE: usize = 320;
 
+// The most bytes of a value's part: each may have a backslash before it.
+pub const MOST_PART: usize = 640;
+
+// The most bytes of a HELO name or a receiver.
+pub const MOST_HOST: usize = 255;
+
+// The most bytes of a client's text.
+pub const MOST_CLIENT: usize = 39;
+
 // Which identity was checked.
 pub enum Identity {
     MailFrom,

@@ -11,6 +11,7 @@ ghost use Rattle.received.specs.Numbers.{Says};
 ghost use Rattle.received.specs.Answers.{identityText};
 ghost use Rattle.received.specs.Texts.{formed, wordOf, headText, middleText, tailText, lineText, fitted};
 use crate::Identity;
+use crate::MOST_CLIENT;
 use crate::MOST_LINE;
 use crate::Written;
 use crate::quoting;
@@ -149,7 +150,7 @@ pub fn write_with_client(
 ) -> Written
     ensures { λ r. ⌜ Says (fitted (lineText result (now (receiver .entry)) (readable (asClient client)) (now (sender .entry)) (now (helo .entry)) (identityText identity)) (length (now (out .entry)))) r (now (out .entry)) (now (out .exit)) ⌝ }
 {
-    let mut text = [0u8; 39];
+    let mut text = [0u8; MOST_CLIENT];
     let n = address_text::put_readable(address::as_client(client), &mut text, 0);
     write_fitting(result, receiver, &text[..n], sender, helo, identity, out)
 }

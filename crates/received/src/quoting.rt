@@ -7,8 +7,10 @@ ghost use Rattle.received.specs.Atoms.{isAtext};
 ghost use Rattle.text.specs.Lists.{same};
 ghost use Rattle.received.specs.Quoting.{isMarked, escapedByte, escaped, unescaped};
 ghost use Rattle.received.specs.Numbers.{Says};
+ghost use Rattle.received.specs.Answers.{most-value};
 ghost use Rattle.received.specs.States.{atomStep, isDotAtomText, Placed, valued};
 ghost use Rattle.received.specs.Texts.{formed};
+use crate::MOST_PART;
 use crate::Written;
 use text::bytes;
 use text::bytes::Class;
@@ -133,17 +135,17 @@ pub fn put_unescaped(s: &[u8], out: &mut [u8], at: usize) -> usize
 
 // Whether a text is the part of a value.
 fn is_part_of(v: &[u8], part: &[u8]) -> bool
-    requires { ⌜ length (now v) ≤ 320 ⌝ }
+    requires { ⌜ length (now v) ≤ most-value ⌝ }
     ensures { λ r. ⌜ r ≡ same (escaped (now (v .entry))) (now (part .entry)) ⌝ }
 {
-    let mut again = [0u8; 640];
+    let mut again = [0u8; MOST_PART];
     let n = put_escaped(v, &mut again, 0);
     words::equal(&again[..n], part)
 }
 
 // Writes a value to the front of a buffer if it is the one of the part.
 pub fn write_value(v: &[u8], part: &[u8], out: &mut [u8]) -> Written
-    requires { ⌜ length (now v) ≤ 320 ⌝ }
+    requires { ⌜ length (now v) ≤ most-value ⌝ }
     ensures { λ r. ⌜ Says (valued (now (v .entry)) (now (part .entry)) (length (now (out .entry)))) r (now (out .entry)) (now (out .exit)) ⌝ }
 {
     if words::every(v, Class::Printable) {

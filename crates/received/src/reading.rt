@@ -6,9 +6,12 @@ ghost use Rattle.received.specs.Quoting.{unescaped};
 ghost use Rattle.received.specs.Answers.{given, most-line};
 ghost use Rattle.received.specs.States.{isPlain};
 ghost use Rattle.received.specs.Texts.{outcome};
-ghost use Rattle.received.specs.Reader.{laterNumber, numberOf, identityOf, plus, closingAt, after, partAt, partAfter, partsOf, bytesOf, isWritten, isLineOf, valueOf, isLine, Held};
+ghost use Rattle.received.specs.Reader.{most-host, laterNumber, numberOf, identityOf, plus, closingAt, after, partAt, partAfter, partsOf, bytesOf, isWritten, isLineOf, valueOf, isLine, Held};
 use crate::Identity;
+use crate::MOST_CLIENT;
+use crate::MOST_HOST;
 use crate::MOST_LINE;
+use crate::MOST_VALUE;
 use crate::Part;
 use crate::Parts;
 use crate::Written;
@@ -206,7 +209,7 @@ fn is_written(
 fn with_values(s: &[u8], f: Parts, sender: &[u8], helo: &[u8], receiver: &[u8]) -> bool
     ensures { λ r. ⌜ r ≡ isLineOf (now (s .entry)) f (now (sender .entry)) (now (helo .entry)) (now (receiver .entry)) ⌝ }
 {
-    let mut text = [0u8; 39];
+    let mut text = [0u8; MOST_CLIENT];
     let n = value_of(s, f.client, &mut text);
     let client = clients::address_of(bytes::part(&text, 0, n));
     let i = f.identity;
@@ -218,11 +221,11 @@ fn with_values(s: &[u8], f: Parts, sender: &[u8], helo: &[u8], receiver: &[u8]) 
 
 // The same with the values of the HELO name and the receiver.
 fn with_sender(s: &[u8], f: Parts, sender: &[u8]) -> bool
-    ensures { λ r. ⌜ r ≡ isLineOf (now (s .entry)) f (now (sender .entry)) (valueOf 255 (now (s .entry)) (f .helo)) (valueOf 255 (now (s .entry)) (f .receiver)) ⌝ }
+    ensures { λ r. ⌜ r ≡ isLineOf (now (s .entry)) f (now (sender .entry)) (valueOf most-host (now (s .entry)) (f .helo)) (valueOf most-host (now (s .entry)) (f .receiver)) ⌝ }
 {
-    let mut helo = [0u8; 255];
+    let mut helo = [0u8; MOST_HOST];
     let h = value_of(s, f.helo, &mut helo);
-    let mut receiver = [0u8; 255];
+    let mut receiver = [0u8; MOST_HOST];
     let r = value_of(s, f.receiver, &mut receiver);
     with_values(
         s,
@@ -237,7 +240,7 @@ fn with_sender(s: &[u8], f: Parts, sender: &[u8]) -> bool
 pub fn is_line(s: &[u8], f: Parts) -> bool
     ensures { λ r. ⌜ r ≡ isLine (now (s .entry)) f ⌝ }
 {
-    let mut sender = [0u8; 320];
+    let mut sender = [0u8; MOST_VALUE];
     let n = value_of(s, f.sender, &mut sender);
     with_sender(s, f, bytes::part(&sender, 0, n))
 }

@@ -7,10 +7,7 @@ use mathlib.Core.Bool.{Bool, true, false, cond, _&&_}
 use native.Mathlib.Omega.{arith}
 use lib.Dec.{leb}
 use lib.ListN.{length}
-use borrow.Author.Tests.{leb-true}
-use Rattle.text.specs.Bytes.{within, isPrintable}
-use Rattle.text.specs.Lists.{all}
-use Rattle.text.proofs.Laws.Tests.{and-left, and-right, true-false}
+use Rattle.text.proofs.Laws.Tests.{true-false}
 use Rattle.answer_table.specs.Layout.{Entry}
 use Rattle.answer_table.specs.declared.TableAnswer.{TableAnswer}
 use Rattle.answer_table.specs.Numbers.{Place, refused, reported}
@@ -18,6 +15,7 @@ use Rattle.answer_table.specs.Answers.{TableAnswers, Encoded, most-bytes, whole
 use Rattle.answer_table.specs.Reader.{checkTable}
 use Rattle.answer_table.proofs.Laws.Checks.{table-answers, table-answers-is}
 use Rattle.macros.specs.Expansion.{isSender, isHost, isShort}
+use Rattle.macros.proofs.Laws.Senders.{sender-bound}
 use Rattle.evaluation.specs.Evaluating.{Refuses, no-sender, no-host, long-domain, no-room, Fits, refusalOf}
 
 module _ (domain sender helo receiver : List ℕ) (m n : ℕ) (e : n ≡ refusalOf domain sender helo receiver m) (room : Bool) where
@@ -49,10 +47,7 @@ module _ (domain sender helo receiver : List ℕ) (m n : ℕ) (e : n ≡ refusal
 
 -- a sender that fits
 pub sender-short : (sender : List ℕ) → isSender sender ≡ true → length sender ≤ 320
-unfolding isSender within
-sender-short sender h =
-    let w : (leb 1 (length sender) && leb (length sender) 320) ≡ true = and-left (leb 1 (length sender) && leb (length sender) 320) (all isPrintable sender) h in
-    leb-true (length sender) 320 (and-right (leb 1 (length sender)) (leb (length sender) 320) w)
+sender-short sender h = sender-bound sender (isSender sender) refl h
 
 module _ {domain sender helo receiver : List ℕ} {room : Bool} where
   -- one test fails first, or none does

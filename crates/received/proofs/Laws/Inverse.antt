@@ -8,10 +8,9 @@ use lib.ListN.{length, take}
 use lib.Seq.{take-all}
 use lib.Dec.{eqb, leb}
 use borrow.Author.Tests.{le-leb, lt-ltb, leb-true, leb-false}
-use Rattle.text.specs.Bytes.{within, isPrintable, isVisible}
+use Rattle.text.specs.Bytes.{isVisible}
 use Rattle.text.specs.Lists.{all, same}
 use Rattle.text.proofs.Laws.Tests.{and-left, and-right, true-false, cond-elim}
-use Rattle.text.proofs.Laws.Classes.{within-range}
 use Rattle.text.proofs.Laws.Words.{same-true, true-same}
 use Rattle.address.specs.Octets.{InRange, asClient}
 use Rattle.address.specs.declared.Address.{Address}
@@ -19,12 +18,13 @@ use Rattle.address.specs.declared.Address.the-variants.{IPv4, IPv6}
 use Rattle.address_text.specs.Forms.{readable}
 use Rattle.address_text.proofs.Laws.Lengths.{length-readable}
 use Rattle.macros.specs.Expansion.{isSender, isHost}
+use Rattle.macros.proofs.Laws.Senders.{sender-bound}
 use Rattle.received.specs.Quoting.{isMarked, escapedByte, escaped, unescaped}
 use Rattle.received.specs.Line.{Values, Line}
 use Rattle.received.specs.Numbers.{Outcome, refused, written}
-use Rattle.received.specs.Answers.{Given, given, identityText, valuesOf, most-line, Fit, Writes, fits, LineFor, ReadsLine, reads, no-line}
+use Rattle.received.specs.Answers.{Given, given, identityText, valuesOf, most-line, most-value, Fit, Writes, fits, LineFor, ReadsLine, reads, no-line}
 use Rattle.received.specs.Texts.{lineText, lineParts, fitted, textOf, partsIn, outcome}
-use Rattle.received.specs.Reader.{addressOf, identityOf, partsOf, bytesOf, valueOf, isWritten, isLineOf, isLine, lineAnswer}
+use Rattle.received.specs.Reader.{most-host, most-client, addressOf, identityOf, partsOf, bytesOf, valueOf, isWritten, isLineOf, isLine, lineAnswer}
 use Rattle.received.specs.declared.Identity.{Identity}
 use Rattle.received.specs.declared.Identity.the-variants.{MailFrom, Helo}
 use Rattle.received.specs.declared.Part.{Part}
@@ -79,7 +79,7 @@ line-stands w = parts-stand (w .short) (w .line)
 
 -- the arguments that the parts give; their address is one
 abbrev readFrom : List ℕ → Parts → Given
-readFrom s f = given (f .result) (addressOf (valueOf 39 s (f .client))) (valueOf 320 s (f .sender)) (valueOf 255 s (f .helo)) (valueOf 255 s (f .receiver)) (identityOf (bytesOf s (f .identity)))
+readFrom s f = given (f .result) (addressOf (valueOf most-client s (f .client))) (valueOf most-value s (f .sender)) (valueOf most-host s (f .helo)) (valueOf most-host s (f .receiver)) (identityOf (bytesOf s (f .identity)))
 
 -- what was written again is a line for these arguments
 written-for : (s : List ℕ) (g : Given) → InRange (g .client) → (o : Outcome) → Writes g most-line o → isWritten o s ≡ true → LineFor g s (partsIn g)
@@ -98,7 +98,7 @@ pub line-sound : (s : List ℕ) (f : Parts) → isLine s f ≡ true → LineFor 
 unfolding isLine isLineOf
 line-sound s f h =
     let g = readFrom s f in
-    written-for s g (address-range (valueOf 39 s (f .client))) (outcome g most-line) (writes g most-line) h
+    written-for s g (address-range (valueOf most-client s (f .client))) (outcome g most-line) (writes g most-line) h
 
 -- a value is what its part holds
 value-back : (n : ℕ) (s : List ℕ) (p : Part) (v : List ℕ) → bytesOf s p ≡ escaped v → length v ≤ n → valueOf n s p ≡ v
@@ -122,20 +122,19 @@ outcome-fits : (g : Given) → Fit g → length (textOf g) ≤ most-line → out
 unfolding outcome fitted
 outcome-fits g f l = rw (f .sender, f .hosts, lt-ltb (g .result) 7 (f .result), le-leb (length (textOf g)) most-line l)
 
-pub sender-short : (v : List ℕ) → isSender v ≡ true → length v ≤ 320
-unfolding isSender
-sender-short v h = within-range 1 320 (length v) (and-left (within 1 320 (length v)) (all isPrintable v) h) .1
+pub sender-short : (v : List ℕ) → isSender v ≡ true → length v ≤ most-value
+sender-short v h = sender-bound v (isSender v) refl h
 
-pub host-short : (v : List ℕ) → isHost v ≡ true → length v ≤ 255
+pub host-short : (v : List ℕ) → isHost v ≡ true → length v ≤ most-host
 unfolding isHost
-host-short v h = leb-true (length v) 255 (and-left (leb (length v) 255) (all isVisible v) h)
+host-short v h = leb-true (length v) most-host (and-left (leb (length v) most-host) (all isVisible v) h)
 
 written-true : (xs s : List ℕ) → xs ≡ s → isWritten (written xs) s ≡ true
 unfolding isWritten
 written-true xs s e = true-same xs s e
 
-same-arguments : (s : List ℕ) (f : Parts) (g : Given) → f .result ≡ g .result → addressOf (valueOf 39 s (f .client)) ≡ g .client → valueOf 320 s (f .sender) ≡ g .sender
-    → valueOf 255 s (f .helo) ≡ g .helo → valueOf 255 s (f .receiver) ≡ g .receiver → identityOf (bytesOf s (f .identity)) ≡ g .identity
+same-arguments : (s : List ℕ) (f : Parts) (g : Given) → f .result ≡ g .result → addressOf (valueOf most-client s (f .client)) ≡ g .client → valueOf most-value s (f .sender) ≡ g .sender
+    → valueOf most-host s (f .helo) ≡ g .helo → valueOf most-host s (f .receiver) ≡ g .receiver → identityOf (bytesOf s (f .identity)) ≡ g .identity
     → isWritten (outcome g most-line) s ≡ true → isWritten (outcome (readFrom s f) most-line) s ≡ true
 same-arguments s f g a b c d e i h = rw (a, b, c, d, e, i) h
 
@@ -148,10 +147,10 @@ line-complete s g h w =
     let n : f .result ≡ g .result = ap (λ (x : Parts). x .result) (sym (st .place)) ∙ st .result in
     let is : s ≡ textOf g = line-one (w .line) .text in
     let hosts = w .fit .hosts in
-    let a = value-back 39 s (f .client) (readable (asClient (g .client))) (p .client) (length-readable (asClient (g .client))) in
-    let b = value-back 320 s (f .sender) (g .sender) (p .sender) (sender-short (g .sender) (w .fit .sender)) in
-    let c = value-back 255 s (f .helo) (g .helo) (p .helo) (host-short (g .helo) (and-left (isHost (g .helo)) (isHost (g .receiver)) hosts)) in
-    let d = value-back 255 s (f .receiver) (g .receiver) (p .receiver) (host-short (g .receiver) (and-right (isHost (g .helo)) (isHost (g .receiver)) hosts)) in
+    let a = value-back most-client s (f .client) (readable (asClient (g .client))) (p .client) (length-readable (asClient (g .client))) in
+    let b = value-back most-value s (f .sender) (g .sender) (p .sender) (sender-short (g .sender) (w .fit .sender)) in
+    let c = value-back most-host s (f .helo) (g .helo) (p .helo) (host-short (g .helo) (and-left (isHost (g .helo)) (isHost (g .receiver)) hosts)) in
+    let d = value-back most-host s (f .receiver) (g .receiver) (p .receiver) (host-short (g .receiver) (and-right (isHost (g .helo)) (isHost (g .receiver)) hosts)) in
     let i : identityOf (bytesOf s (f .identity)) ≡ g .identity = ap identityOf (p .identity) ∙ identity-back (g .identity) in
     let again = given (g .result) (asClient (g .client)) (g .sender) (g .helo) (g .receiver) (g .identity) in
     let t : textOf again ≡ textOf g = ap (λ (x : Address). lineText (g .result) (g .receiver) (readable x) (g .sender) (g .helo) (identityText (g .identity))) (client-again (g .client)) in

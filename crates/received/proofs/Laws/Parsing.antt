@@ -4,9 +4,9 @@ use mathlib.Core.Path.{_≡_, refl, sym, ap, subst, _∙_}
 use mathlib.Core.List.{List, [], _∷_, _++_, append-assoc}
 use mathlib.Core.Bool.{Bool, true, false, cond}
 use native.Mathlib.Omega.{arith}
-use native.Mathlib.Nat.{add-zero, add-sub-cancel-left}
+use native.Mathlib.Nat.{add-sub-cancel-left}
 use lib.ListN.{length, take, drop, length-append, length-drop}
-use lib.Seq.{take-at, drop-drop, getD-drop, drop-append-seam}
+use lib.Seq.{take-at, drop-drop, drop-append-seam}
 use lib.Dec.{eqb}
 use borrow.Author.Tests.{eq-eqb, eqb-true}
 use Rattle.text.specs.Bytes.{at, part, within, isUpper, isAlpha, isDigit, isAlphanumeric, isNotSpace}
@@ -27,7 +27,7 @@ use Rattle.received.specs.Texts.{wordOf, formed, shown, lineText, place�
 use Rattle.received.specs.Reader.{laterNumber, numberOf, plus, closingAt, after, partAt, partAfter, wordEnd, receiverPart, clientPart, senderPart, heloPart, identityPart, partsOf, bytesOf}
 use Rattle.received.specs.declared.Part.{Part}
 use Rattle.received.proofs.Laws.Atoms.{dot-sound, dot-plain}
-use Rattle.received.proofs.Laws.Quoting.{byte-marked, byte-plain, plain-part}
+use Rattle.received.proofs.Laws.Quoting.{at-drop, byte-marked, byte-plain, plain-part}
 use Rattle.received.proofs.Laws.Reading.{closing-step}
 use Rattle.received.proofs.Laws.Lines.{line-flat}
 
@@ -57,11 +57,8 @@ closing-escaped (b ∷ v) rest = by (isMarked b) refl (closing-escaped v rest)
 
 -- a list from a place on
 module _ (s : List ℕ) (p : ℕ) (x : List ℕ) (e : drop p s ≡ x) where
-  at-of : (k : ℕ) → at s (p + k) ≡ at x k
-  at-of k = sym (getD-drop p s k 0) ∙ ap (λ (t : List ℕ). at t k) e
-
   at-here : at s p ≡ at x 0
-  at-here = ap (at s) (sym (add-zero p)) ∙ at-of 0
+  at-here = sym (at-drop s p) ∙ ap (λ (t : List ℕ). at t 0) e
 
   drop-of : (k : ℕ) → drop (p + k) s ≡ drop k x
   drop-of k = sym (drop-drop k p s) ∙ ap (drop k) e

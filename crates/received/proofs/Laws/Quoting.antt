@@ -158,14 +158,15 @@ skip-inside t h = by (eqb (at t 0) 92) (ltb 1 (length t)) refl
     by true false e = h
     by false y e = h
 
+-- the first byte from a place on
+pub at-drop : (s : List ℕ) (i : ℕ) → at (drop i s) 0 ≡ at s i
+at-drop s i = getD-drop i s 0 0 ∙ ap (at s) (add-zero i)
+
 -- `place_of`
 module _ (s : List ℕ) (i : ℕ) where
-  here : at (drop i s) 0 ≡ at s i
-  here = getD-drop i s 0 0 ∙ ap (at s) (add-zero i)
-
   is-escape : at s i ≡ 92 → i + 1 < length s → i + 1 ≡ place s i
   unfolding place skip
-  is-escape e h = rw (here, eq-eqb (at s i) 92 e, lt-ltb 1 (length (drop i s)) (simp length-drop (omega arith)))
+  is-escape e h = rw (at-drop s i, eq-eqb (at s i) 92 e, lt-ltb 1 (length (drop i s)) (simp length-drop (omega arith)))
 
   is-last : length s ≤ i + 1 → i ≡ place s i
   unfolding place skip
@@ -177,7 +178,7 @@ module _ (s : List ℕ) (i : ℕ) where
 
   is-plain : (at s i ≡ 92 → ⊥) → i ≡ place s i
   unfolding place skip
-  is-plain e = rw (here, ne-eqb (at s i) 92 e) (omega arith)
+  is-plain e = rw (at-drop s i, ne-eqb (at s i) 92 e) (omega arith)
 
   module _ (h : i < length s) (j : ℕ) (e : j ≡ place s i) where
     placed : Placed s i j

@@ -4,9 +4,9 @@ use mathlib.Core.Path.{_≡_, refl, sym, ap, _∙_}
 use mathlib.Core.List.{List, [], _∷_}
 use mathlib.Core.Bool.{Bool, true, false, cond, _&&_}
 use native.Mathlib.Omega.{arith}
-use native.Mathlib.Nat.{add-zero, mul-le-mul-right}
+use native.Mathlib.Nat.{mul-le-mul-right}
 use lib.ListN.{length, take, drop, length-take, length-drop, drop-of-length-le}
-use lib.Seq.{take-all, take-at, drop-drop, getD-drop, length-take-le}
+use lib.Seq.{take-all, take-at, drop-drop, length-take-le}
 use lib.Dec.{eqb, ltb}
 use borrow.Author.Tests.{eq-eqb, ne-eqb, lt-ltb, le-ltb, lt-leb, le-leb}
 use Rattle.text.specs.Bytes.{at, part}
@@ -33,6 +33,7 @@ use Rattle.received.specs.declared.Part.{Part}
 use Rattle.received.specs.declared.Parts.{Parts}
 use Rattle.received.specs.declared.LineAnswer.the-variants as answers
 use Rattle.received.proofs.Laws.Folding.{fold-end}
+use Rattle.received.proofs.Laws.Quoting.{at-drop}
 
 -- `is_plain`
 module _ (b : ℕ) (r : Bool) (p : r ≡ isAtext b) where
@@ -131,12 +132,9 @@ closing-first (b ∷ []) h = rw h
 closing-first (b ∷ c ∷ s) h = rw h
 
 module _ (s : List ℕ) (i q : ℕ) (inv : closingAt s q ≡ closingAt s i) where
-  here : at (drop q s) 0 ≡ at s q
-  here = getD-drop q s 0 0 ∙ ap (at s) (add-zero q)
-
   pub closing-here : at s q ≡ 34 → q ≡ closingAt s i
   unfolding closingAt
-  closing-here e = let z = closing-first (drop q s) (rw here (eq-eqb (at s q) 34 e)) in omega (arith, inv)
+  closing-here e = let z = closing-first (drop q s) (rw (at-drop s q) (eq-eqb (at s q) 34 e)) in omega (arith, inv)
 
   pub closing-out : length s ≤ q → q ≡ closingAt s i
   unfolding closingAt
@@ -145,7 +143,7 @@ module _ (s : List ℕ) (i q : ℕ) (inv : closingAt s q ≡ closingAt s i) wher
   pub closing-next : q < length s → (at s q ≡ 34 → ⊥) → (j : ℕ) → Placed s q j → closingAt s (j + 1) ≡ closingAt s i
   unfolding closingAt place
   closing-next h n j p =
-      let z = closing-step (drop q s) (simp length-drop (omega arith)) (rw here (ne-eqb (at s q) 34 n)) in
+      let z = closing-step (drop q s) (simp length-drop (omega arith)) (rw (at-drop s q) (ne-eqb (at s q) 34 n)) in
       let d : drop (suc (skip (drop q s))) (drop q s) ≡ drop (j + 1) s = drop-drop (suc (skip (drop q s))) q s ∙ ap (λ (k : ℕ). drop k s) (moved j p) in
       let c : closing (drop (suc (skip (drop q s))) (drop q s)) ≡ closing (drop (j + 1) s) = ap closing d in
       omega (arith, inv, p .is-place)
