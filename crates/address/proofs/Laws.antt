@@ -12,3 +12,5 @@ pub mod AddressOctets
 pub mod Clients
 -- Matching: matching without a test.
 pub mod Matching
+-- Clearing: addresses match at a length exactly if they are equal after clearing the bits below it.
+pub mod Clearing

@@ -1,5 +1,5 @@
 // Addresses and prefix lengths.
-ghost use Prim.Native.Nat.{_*_, _≤_, _<_, _^_};
+ghost use Prim.Native.Nat.{_-_, _*_, _≤_, _<_, _^_};
 ghost use mathlib.Core.Path.{_≡_};
 ghost use mathlib.Core.Bool.{true};
 ghost use mathlib.Core.List.{_++_};
@@ -9,6 +9,7 @@ ghost use lib.Dec.{leb, eqb};
 ghost use Rattle.text.specs.Lists.{same};
 ghost use Rattle.address.specs.Octets.{octetsOf, octets, valueOf, fromOctets, clientOctets, asClient};
 ghost use Rattle.address.specs.Matching.{agree, matchesAt, Matches, highBits};
+ghost use Rattle.address.specs.Clearing.{clearedLow, cleared};
 use text::words;
 
 // An address of either family, by its number; an IPv6 address in two halves, high-order first.
@@ -184,5 +185,38 @@ pub fn matches(client: Address, network: Address, length: usize) -> bool
             Address::IPv6(i, m) => agrees(&octets16(h, l), &octets16(i, m), length),
             Address::IPv4(_) => false,
         },
+    }
+}
+
+// A number with its n low-order bits cleared. All 64 and more are answered apart: a shift by the width is an error.
+fn clear_low(v: u64, n: usize) -> u64
+    ensures { λ r. ⌜ r ≡ clearedLow n v ⌝ }
+{
+    if n >= 64 {
+        return 0;
+    }
+    (v >> n) << n
+}
+
+// What b leaves of a: 0 if b is more.
+fn left_of(a: usize, b: usize) -> usize
+    ensures { λ r. ⌜ r ≡ a - b ⌝ }
+{
+    if b <= a {
+        return a - b;
+    }
+    0
+}
+
+// An address with the bits below a prefix length cleared.
+pub fn cleared(a: Address, length: usize) -> Address
+    ensures { λ r. ⌜ r ≡ cleared a length ⌝ }
+{
+    match a {
+        Address::IPv4(v) => Address::IPv4(clear_low(v as u64, left_of(32, length)) as u32),
+        Address::IPv6(high, low) => Address::IPv6(
+            clear_low(high, left_of(64, length)),
+            clear_low(low, left_of(64, left_of(length, 64))),
+        ),
     }
 }
