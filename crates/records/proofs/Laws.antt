@@ -22,6 +22,8 @@ pub mod Longest
 pub mod NextRuns
 -- Arguments: where a term stands in its record, and the argument of a redirect or an exp.
 pub mod Arguments
+-- Remaining: the terms that are left after one was read.
+pub mod Remaining
 -- Terms: reading one term, against the productions.
 pub mod Terms
 -- Counts: how often a name has stood, against the reader's two flags.

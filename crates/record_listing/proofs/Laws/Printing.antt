@@ -37,7 +37,7 @@ pub printed-reading : {s xs : List ℕ} {ts : List Placed} → length s ≤ 4096
 printed-reading h d p = prints-one p (lists h d)
 
 -- an input of more than 4,097 bytes is refused, so that no more than 4,098 of it need be read
-newline-length : (s : List ℕ) → length s - 1 ≤ length (withoutNewline s)
+pub newline-length : (s : List ℕ) → length s - 1 ≤ length (withoutNewline s)
 unfolding withoutNewline
 newline-length s = cond-elim (λ (x : List ℕ). length s - 1 ≤ length x) (eqb (at s (length s - 1)) 10) (λ _. rw length-take (omega arith)) (λ _. omega arith)
 

@@ -101,7 +101,7 @@ lines-length {s} {i} (step {next = next} {t = t} e r) =
     let f = further (found s i next t e) in
     rw length-append (omega (arith, f .from, f .some, f .inside, step-length s i t next e f, lines-length r))
 
-refusal-length : (number place : ℕ) → length (refusalLine number place) ≤ 60
+pub refusal-length : (number place : ℕ) → length (refusalLine number place) ≤ 60
 unfolding refusalLine
 refusal-length number place = simp length-append (omega (arith, length-decimal number, length-decimal place))
 

@@ -1,30 +1,30 @@
 -- The lines of a record's terms, written one after the other: one rule for each way out of `put_terms`, `put_term`, `put_refusal`, `list_record` and
--- the functions for cases. From the definitions of Lines, the claim of `records` and the laws on writing of `text`.
+-- the functions for cases. From the definitions of Lines, the laws of `records` on the terms that are left, and
+-- the laws on writing of `text`.
 use Prim.Native.Nat.{ℕ, _-_, _^_, _≤_, _<_}
 use mathlib.Core.Path.{_≡_, refl, sym, ap, subst, _∙_}
 use mathlib.Core.List.{List, [], _∷_, _++_, append-nil, append-assoc}
 use native.Mathlib.Omega.{arith}
 use lib.ListN.{length, getD}
-use lib.Dec.{ltb}
-use borrow.Author.Tests.{ltb-false, eq-eqb, ne-eqb}
-use types.Run.{OneOf, miss}
+use borrow.Author.Tests.{eq-eqb, ne-eqb}
+use types.Run.{OneOf}
 use denote.Enum.Declared.{tagOf, declared}
 use Rattle.text.specs.Bytes.{at, part}
 use Rattle.text.specs.Texts.{bytes}
 use Rattle.text.specs.Writing.{Wrote}
-use Rattle.text.proofs.Laws.Tests.{cond-elim}
 use Rattle.text.proofs.Laws.Writing.{wrote-none, wrote-then, wrote-over, wrote-length, length-wrote}
 use Rattle.address_text.specs.Digits.{inDecimal}
 use Rattle.records.specs.Readings.{Said, Placed}
-use Rattle.records.specs.Numbers.{accepted, refused, recordReport, TermReport, term, termReport, saidOf}
+use Rattle.records.specs.Numbers.{recordReport, termReport, saidOf}
 use Rattle.records.specs.Answers.{RecordAnswers}
-use Rattle.records.specs.Reader.{readTerm, Reads, stop, step}
+use Rattle.records.specs.Reader.{readTerm, Reads}
 use Rattle.records.specs.Beginnings.{pointedRecord}
 use Rattle.records.specs.declared.Term.{Term}
 use Rattle.records.specs.declared.TermAnswer.{TermAnswer}
 use Rattle.records.specs.declared.RecordAnswer.{RecordAnswer}
 use Rattle.records.proofs.TermAnswer as answer-type
 use Rattle.records.proofs.Laws.Records.{record-complete, record-answers, accepting}
+use Rattle.records.proofs.Laws.Remaining.{placed, reads-next, reads-out, reads-end}
 use Rattle.record_listing.proofs.Laws.Room.{prints-length}
 use Rattle.record_listing.specs.Lines.{saidLine, lineOf, linesOf, listingOf, refusalLine, Prints, lists, refuses, Listed, room, withoutNewline, readingLine, termLine}
 
@@ -60,60 +60,30 @@ one-line t = append-nil (lineOf t)
 moved : (done left : List Placed) (y : Placed) → linesOf done ++ linesOf (y ∷ left) ≡ linesOf (done ++ (y ∷ [])) ++ linesOf left
 moved done left y = rw (lines-append done (y ∷ []), append-assoc, ← lines-append (y ∷ []) left)
 
--- past the end no term is read
-no-refused : (number place next : ℕ) (t : Placed) → TermReport.refused number place ≡ term next t → ⊥
-no-refused number place next t e = let z : _≡_ {A = ℕ} 0 1 = cc in omega arith
-
-beyond : (s : List ℕ) (i : ℕ) → length s < i → (next : ℕ) (t : Placed) → termReport s (readTerm s i) ≡ term next t → ⊥
-unfolding readTerm
-beyond s i h next t = cond-elim (λ (x : TermAnswer). termReport s x ≡ term next t → ⊥) (ltb 4096 (length s))
-    (λ _ e. no-refused 30 0 next t e)
-    (λ _. cond-elim (λ (x : TermAnswer). termReport s x ≡ term next t → ⊥) (ltb (length s) i)
-    (λ _ e. no-refused 34 i next t e)
-    (λ q. absurd (omega (arith, ltb-false (length s) i q))))
-
 module _ (s : List ℕ) (start : ℕ) (out : List ℕ) (from i : ℕ) (o : List ℕ) (n : ℕ) (w : Walking s start out from i o n) where
   -- no term is left
-  none-left : (left : List Placed) → Reads s i left → ((next : ℕ) (t : Placed) → termReport s (readTerm s i) ≡ term next t → ⊥) → linesOf left ≡ []
+  ended : ((left : List Placed) → Reads s i left → left ≡ []) → (ts : List Placed) → Reads s start ts → Wrote (linesOf ts) out from o n
   unfolding linesOf
-  none-left [] r k = refl
-  none-left (t ∷ ts) (step {next = next} e r) k = absurd (k next t e)
-
-  ended : ((next : ℕ) (t : Placed) → termReport s (readTerm s i) ≡ term next t → ⊥) → (ts : List Placed) → Reads s start ts
-      → Wrote (linesOf ts) out from o n
-  ended k ts r = let v = w .each ts r in rw (v .whole, none-left (v .left) (v .reads) k, append-nil) (v .wrote)
+  ended k ts r = let v = w .each ts r in rw (v .whole, k (v .left) (v .reads), append-nil) (v .wrote)
 
   module _ (x : TermAnswer) (p : x ≡ readTerm s i) where
     pub walked-out : OneOf (1 ∷ 2 ∷ []) (tagOf (declared answer-type.enum) x) → (ts : List Placed) → Reads s start ts → Wrote (linesOf ts) out from o n
-    walked-out h = ended (λ next t e. by x h next t (ap (termReport s) p ∙ e))
-      where
-        by : (y : TermAnswer) → OneOf (1 ∷ 2 ∷ []) (tagOf (declared answer-type.enum) y) → (next : ℕ) (t : Placed) → termReport s y ≡ term next t → ⊥
-        by TermAnswer.End h next t e = let z : _≡_ {A = ℕ} 0 1 = cc in omega arith
-        by (TermAnswer.Refused m q) h next t e = let z : _≡_ {A = ℕ} 0 1 = cc in omega arith
-        by (TermAnswer.Is q m u) h next t e = absurd (miss (1 ∷ 2 ∷ []) 0 tt h)
+    walked-out h = ended (λ left d. reads-out d x p h)
 
     module _ (place next : ℕ) (t : Term) (q : x ≡ TermAnswer.Is place next t) where
       abbrev found : Placed
-      found = record { place = place; said = saidOf (part s place next) t }
-
-      read-is : termReport s (readTerm s i) ≡ term next found
-      read-is = ap (termReport s) (sym p ∙ q)
+      found = placed s place next t
 
       on : (o′ : List ℕ) (n′ : ℕ) → Wrote (lineOf found) o n o′ n′ → (ts : List Placed) → Walked s out from ts i o n → Walked s out from ts next o′ n′
-      on o′ n′ u ts v = by (v .left) (v .reads) (v .whole)
-        where
-          by : (left : List Placed) → Reads s i left → linesOf ts ≡ linesOf (v .done) ++ linesOf left → Walked s out from ts next o′ n′
-          by [] (stop e) k = let z : _≡_ {A = ℕ} 0 1 = cc in absurd (omega arith)
-          by (y ∷ left) (step {next = m} e r) k =
-              let same-place : m ≡ next = cc in
-              let same-term : y ≡ found = cc in
-              record {
-                done = v .done ++ (found ∷ []);
-                left = left;
-                whole = k ∙ moved (v .done) left y ∙ ap (λ (z : Placed). linesOf (v .done ++ (z ∷ [])) ++ linesOf left) same-term;
-                reads = subst (λ (j : ℕ). Reads s j left) same-place r;
-                wrote = rw (lines-append (v .done) (found ∷ []), one-line found) (wrote-then out from (linesOf (v .done)) (lineOf found) o o′ n n′ (v .wrote) u);
-              }
+      on o′ n′ u ts v =
+          let l = reads-next (v .reads) place next t (sym p ∙ q) in
+          record {
+            done = v .done ++ (found ∷ []);
+            left = l .more;
+            whole = v .whole ∙ ap (λ (us : List Placed). linesOf (v .done) ++ linesOf us) (l .whole) ∙ moved (v .done) (l .more) found;
+            reads = l .reads;
+            wrote = rw (lines-append (v .done) (found ∷ []), one-line found) (wrote-then out from (linesOf (v .done)) (lineOf found) o o′ n n′ (v .wrote) u);
+          }
 
       pub walked-on : (o′ : List ℕ) (n′ : ℕ) → Wrote (lineOf found) o n o′ n′ → Walking s start out from next o′ n′
       walked-on o′ n′ u = record {
@@ -122,7 +92,7 @@ module _ (s : List ℕ) (start : ℕ) (out : List ℕ) (from i : ℕ) (o : List 
       }
 
   pub walked-past : length s < i → (ts : List Placed) → Reads s start ts → Wrote (linesOf ts) out from o n
-  walked-past h = ended (λ next t e. beyond s i h next t e)
+  walked-past h = ended (λ left d. reads-end d (omega arith))
 
 -- pieces that are written one after the other
 module _ (out : List ℕ) (at : ℕ) (o₁ : List ℕ) (n₁ : ℕ) (o₂ : List ℕ) (n₂ : ℕ) where

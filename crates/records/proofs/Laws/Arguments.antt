@@ -1,14 +1,14 @@
 -- Where a term that was read stands in its record, and where the argument of a redirect or an exp stands: just after its name and "=", up to the
 -- term's end. From the laws of terms, of mechanisms and of modifiers.
 use Prim.Native.Nat.{ℕ, _+_, _-_, _≤_, _<_}
-use mathlib.Core.Path.{_≡_, refl, sym, ap, subst, _∙_}
+use mathlib.Core.Path.{_≡_, refl, subst}
 use mathlib.Core.List.{List, _++_}
 use mathlib.Core.Bool.{true}
 use native.Mathlib.Omega.{arith}
 use lib.Dec.{ltb}
-use lib.ListN.{length, length-append, length-map}
+use lib.ListN.{length, length-append}
 use borrow.Author.Tests.{ltb-false}
-use Rattle.text.specs.Bytes.{at, part, lower}
+use Rattle.text.specs.Bytes.{at, part}
 use Rattle.text.specs.Lists.{sameWord}
 use Rattle.text.specs.Texts.{bytes}
 use Rattle.text.specs.Runs.{isIn, runEnd}
@@ -24,7 +24,7 @@ use Rattle.records.specs.Reader.{mechanismOf, modifierOf, tokenOf, termF
 use Rattle.records.specs.declared.Term.{Term}
 use Rattle.records.specs.declared.Token.{Token}
 use Rattle.records.specs.declared.TermAnswer.{TermAnswer}
-use Rattle.records.proofs.Laws.Names.{literal-of}
+use Rattle.records.proofs.Laws.Names.{literal-length, literal-of}
 use Rattle.records.proofs.Laws.Mechanisms.{MechanismRight, mechanism-sound}
 use Rattle.records.proofs.Laws.Modifiers.{modifier-elim}
 use Rattle.records.proofs.Laws.Tokens.{token-elim}
@@ -113,7 +113,7 @@ mechanism-ends w i sign Token.Outside m = tt
 
 -- a name in either case of its letters is as long
 name-length : (name u : List ℕ) → sameWord u name ≡ true → length u ≡ length name
-name-length name u h = sym (length-map u lower) ∙ ap length (literal-of name u h .lowered)
+name-length name u h = literal-length (literal-of name u h)
 
 modifier-ended : (name w : List ℕ) (k : ℕ) → k < length w → sameWord (part w 0 k) name ≡ true → Ended name w (k + 1) (length w)
 modifier-ended name w k h n =

@@ -6,11 +6,11 @@ use mathlib.Core.Logic.{⊎-elim}
 use mathlib.Core.List.{List, [], _∷_, _++_, map, append-assoc, append-nil}
 use mathlib.Core.Bool.{Bool, true, false}
 use native.Mathlib.Omega.{arith}
-use lib.ListN.{length, take, drop, length-map}
+use lib.ListN.{length, take, drop}
 use lib.Seq.{take-all, drop-append-le, take-nil}
 use Rattle.address.specs.declared.Address.{Address}
 use Rattle.text.specs.Bytes.{within, lower, isUpper, isAlpha, isNameByte, isMacroLiteral, isDelimiter}
-use Rattle.text.specs.Lists.{all, sameWord}
+use Rattle.text.specs.Lists.{sameWord}
 use Rattle.text.specs.Texts.{bytes}
 use Rattle.text.proofs.Laws.Orders.{le-or-lt}
 use Rattle.text.proofs.Laws.Tests.{true-false, or-elim}
@@ -25,7 +25,7 @@ use Rattle.networks.proofs.Laws.Beginnings.{zero-octet, network4-begins, networ
 use Rattle.records.specs.Readings.{Optional, absent, present, Said, mechanism}
 use Rattle.records.specs.Grammar.{Literal, OptionalSpec, without, with-spec, Mechanism, Directive, unsigned, signed, Name, letters, isReserved, Modifier}
 use Rattle.records.specs.Grammar.{TermText, directive, modifier-term}
-use Rattle.records.proofs.Laws.Names.{Word, literal-word, redirect-word, exp-word, literal-of}
+use Rattle.records.proofs.Laws.Names.{literal-length, Word, literal-word, redirect-word, exp-word, literal-of}
 use Rattle.records.proofs.Laws.Endings.{Ending, end-drop, no-end, modifier-model, all-model, mx-model, ptr-model, include-model, exists-model}
 use Rattle.records.proofs.Laws.Endings.{a-model, ip4-model, ip6-model, macro-end, network-end}
 
@@ -100,7 +100,7 @@ module _ (sign : ℕ) (word tail : List ℕ) (low : map lower word ≡ word) (mo
     (made : (v : List ℕ) → Literal word v → (x : Said) × Mechanism sign (v ++ tail) x) where
   word-begins : {w : List ℕ} → Literal word w → (n : ℕ) → n ≤ length w → Completed Ending (Mechanism sign) (take n w)
   word-begins {w} l n h =
-      let size : length word ≡ length w = ap length (sym (l .lowered)) ∙ length-map w lower in
+      let size : length word ≡ length w = sym (literal-length l) in
       let v = take n w ++ drop n word in
       let left : drop n (word ++ tail) ≡ drop n word ++ tail = drop-append-le n word tail (omega arith) in
       completed-by Ending (Mechanism sign) (end-drop n model) (append-assoc (take n w) (drop n word) tail ∙ ap (λ (t : List ℕ). take n w ++ t) (sym left))

@@ -6,7 +6,7 @@ use mathlib.Core.List.{List, [], _∷_, _++_, map, append-nil}
 use mathlib.Core.Bool.{true, false}
 use native.Mathlib.Omega.{arith}
 use native.Mathlib.Nat.{add-zero}
-use lib.ListN.{length}
+use lib.ListN.{length, length-map}
 use lib.Seq.{drop-length, getD-drop}
 use Rattle.text.specs.Bytes.{at, part, lower, within, isUpper, isAlpha, isDigit, isAlphanumeric, isNameByte}
 use Rattle.text.specs.Lists.{all, same, sameWord}
@@ -62,6 +62,9 @@ literal-word {word} {w} k l = record {
   letter = lowered-alpha (at w 0) (at word 0) (sym (at-lowered w 0) ∙ ap (λ (t : List ℕ). at t 0) (l .lowered)) (k .letter);
   names = lowered-names word w (k .names) (l .lowered);
 }
+
+pub literal-length : {word w : List ℕ} → Literal word w → length w ≡ length word
+literal-length {word} {w} l = sym (length-map w lower) ∙ ap length (l .lowered)
 
 -- the names of the known modifiers
 pub redirect-word : Word (bytes "redirect")

@@ -5,7 +5,7 @@ use mathlib.Core.Logic.{inl, inr, ⊎-elim}
 use mathlib.Core.List.{List, [], map}
 use mathlib.Core.Bool.{true, _||_}
 use native.Mathlib.Omega.{arith}
-use lib.ListN.{length, take, drop, length-map, length-append, take-append-drop, drop-of-length-le}
+use lib.ListN.{length, take, drop, length-append, take-append-drop, drop-of-length-le}
 use lib.Seq.{getD-drop, drop-append-seam, take-append-seam}
 use lib.Dec.{eqb}
 use borrow.Author.Tests.{eq-eqb, eqb-true}
@@ -17,9 +17,10 @@ use Rattle.text.proofs.Laws.Words.{same-true, true-same}
 use Rattle.records.specs.Grammar.{Literal}
 use Rattle.records.specs.Answers.{Version}
 use Rattle.records.specs.Reader.{hasVersion, after-version}
+use Rattle.records.proofs.Laws.Names.{literal-length}
 
 pub version-length : (v : List ℕ) → Literal (bytes "v=spf1") v → length v ≡ after-version
-version-length v l = sym (length-map v lower) ∙ ap length (l .lowered)
+version-length v l = literal-length l
 
 module _ {s v rest : List ℕ} (d : Version s v rest) where
   pub version-size : length v ≡ after-version
