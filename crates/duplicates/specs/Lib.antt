@@ -1,0 +1,7 @@
+-- What the contracts of this crate are said in.
+-- Rows: rows of three words, and which of them stand earlier.
+pub mod Rows
+-- Orders: the order of rows, and lists that are merged, sorted and permuted.
+pub mod Orders
+-- Marking: what the functions below `mark_duplicates` promise.
+pub mod Marking
