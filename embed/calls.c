@@ -222,6 +222,203 @@ static void parts_unquoted(void)
     expect(unquote(most, 321, 2000) == TALAVORN_NO_LINE && is_written("", 0), "321 bytes");
 }
 
+/* The house rules: breaches are written into the front of a list whose other bytes are kept. */
+static uint8_t listed[800];
+
+/* Whether a call that is lent so many bytes of the list returns this number and value, and writes
+ * these bytes and no others. */
+static int holds_against(
+    const void *domain, size_t domain_len, const void *record, size_t record_len, size_t room,
+    uint8_t number, size_t value, const void *bytes, size_t len)
+{
+    size_t got = 99, i = len;
+    memset(listed, 0xee, sizeof listed);
+    if (talavorn_house_rules(domain, domain_len, record, record_len, listed, room, &got) != number
+        || got != value || memcmp(listed, bytes, len) != 0)
+        return 0;
+    while (i < sizeof listed && listed[i] == 0xee)
+        i++;
+    return i == sizeof listed;
+}
+
+/* Records of example.com and all their breaches, three bytes each. */
+static const struct {
+    const char *record, *bytes;
+    size_t len;
+} houses[] = {
+    { "v=spf1 -all", TEXT("") },
+    /* 2: in any argument, in either case */
+    { "v=spf1 x=%{p} -all", TEXT("\2\7\0") },
+    { "v=spf1 x=%%{p} -all", TEXT("") },
+    { "v=spf1 ptr:%{p}.x -all", TEXT("\1\7\0" "\2\7\0") },
+    { "v=spf1 redirect=%{P}.a", TEXT("\2\7\0") },
+    { "v=spf1 -all exp=%{p1r}.a", TEXT("\2\14\0") },
+    { "v=spf1 ?a:p%{d}p.b exists:%{l}%{p}.b -all", TEXT("\2\23\0") },
+    /* a second all breaks 3 and 5, and 7 if it is +all */
+    { "v=spf1 -all ~all", TEXT("\3\14\0" "\5\14\0") },
+    { "v=spf1 -all all", TEXT("\3\14\0" "\5\14\0" "\7\14\0") },
+    { "v=spf1 -all -all -all", TEXT("\3\14\0" "\3\21\0" "\5\14\0" "\5\21\0") },
+    /* 3: the end that is missing is at the record's length */
+    { "v=spf1", TEXT("\3\6\0") },
+    { "v=spf1 exp=a.b  ", TEXT("\3\20\0") },
+    { "v=spf1 redirect=a.b", TEXT("") },
+    { "v=spf1 all=y", TEXT("\3\14\0") },
+    /* 4: the redirect, before or after the all */
+    { "v=spf1 -all redirect=a.b", TEXT("\4\14\0") },
+    { "v=spf1 redirect=a.b -all", TEXT("\4\7\0" "\6\24\0") },
+    /* 5 and 6: each term */
+    { "v=spf1 -all a x=y mx", TEXT("\5\14\0" "\5\22\0") },
+    { "v=spf1 -all exp=a.b x=y", TEXT("\6\24\0") },
+    { "v=spf1 exp=a.b a x=y redirect=a.b mx",
+      TEXT("\6\17\0" "\6\21\0" "\6\42\0") },
+    { "v=spf1 exp=a.b redirect=a.b", TEXT("") },
+    { "v=spf1 redirect=a.b exp=a.b", TEXT("") },
+    /* 7 */
+    { "v=spf1 ALL", TEXT("\7\7\0") },
+    { "v=spf1 +all", TEXT("\7\7\0") },
+    { "v=spf1 ?all", TEXT("") },
+    /* 8: one breach for both lengths; 32 and 128 where they aren't written */
+    { "v=spf1 a/7//18 -all", TEXT("\10\7\0") },
+    { "v=spf1 a/8//19 -all", TEXT("") },
+    { "v=spf1 mx:b.c/7 a//18 mx//0 -all", TEXT("\10\7\0" "\10\20\0" "\10\26\0") },
+    { "v=spf1 a mx ip4:0.0.0.0 ip6::: -all", TEXT("") },
+    { "v=spf1 ip4:10.0.0.0/7 ip4:10.0.0.0/8 -all", TEXT("\10\7\0") },
+    { "v=spf1 ip6:::/18 ip6:::/19 ip4:0.0.0.0/0 -all", TEXT("\10\7\0" "\10\33\0") },
+    /* 9: one family, one length, the same bits within it */
+    { "v=spf1 ip4:10.0.0.1/24 -ip4:10.0.0.2/24 -all", TEXT("\11\27\0") },
+    { "v=spf1 ip4:10.0.0.1 ip4:10.0.0.1/32 -all", TEXT("\11\24\0") },
+    { "v=spf1 ip4:10.0.0.1 ip6:::ffff:10.0.0.1 -all", TEXT("") },
+    { "v=spf1 ip4:10.0.0.0/24 ip4:10.0.0.0/25 -all", TEXT("") },
+    { "v=spf1 ip6:2001:db8::1/64 ?ip6:2001:DB8:0::2/64 -all", TEXT("\11\32\0") },
+    { "v=spf1 ip4:10.0.0.1 ip4:10.0.0.2 ip4:10.0.0.1 ip4:10.0.0.1 -all",
+      TEXT("\11\41\0" "\11\56\0") },
+    /* by rule and then by place */
+    { "v=spf1 a/7 ptr -all", TEXT("\1\13\0" "\10\7\0") },
+    { "v=spf1 +all exp=a.b ptr:%{p} redirect=a.b ip4:10.0.0.0/7 ip4:10.1.0.0/7 all",
+      TEXT("\1\24\0" "\2\24\0" "\3\110\0" "\4\35\0" "\5\24\0" "\5\52\0" "\5\71\0" "\5\110\0"
+           "\6\24\0" "\6\52\0" "\6\71\0" "\6\110\0" "\7\7\0" "\7\110\0" "\10\52\0" "\10\71\0"
+           "\11\71\0") },
+};
+
+static void breaches_listed(void)
+{
+    for (size_t i = 0; i < sizeof houses / sizeof *houses; i++) {
+        const char *record = houses[i].record;
+        size_t size = strlen(record), len = houses[i].len;
+        expect(holds_against(TEXT("example.com"), record, size, TALAVORN_HOUSE_LIST, 0, len / 3,
+                             houses[i].bytes, len),
+               record);
+        /* a list without a byte to spare, and one without the last */
+        expect(holds_against(TEXT("example.com"), record, size, len, 0, len / 3, houses[i].bytes,
+                             len),
+               record);
+        expect(!len || holds_against(TEXT("example.com"), record, size, len - 1,
+                                     TALAVORN_MANY_BREACHES, 0, "", 0),
+               record);
+    }
+}
+
+/* The record `v=spf1 -all` and spaces. */
+static const char *spaced(size_t len)
+{
+    static char record[4098];
+    memset(record, ' ', sizeof record);
+    memcpy(record, "v=spf1 -all", 11);
+    return len <= sizeof record ? record : NULL;
+}
+
+static void house_lengths(void)
+{
+    char name[256];
+    memset(name, 'y', sizeof name);
+    expect(holds_against(TEXT("example.com."), spaced(437), 437, 768, 0, 0, "", 0), "449 bytes");
+    expect(holds_against(TEXT("example.com."), spaced(438), 438, 768, 0, 1, TEXT("\12\266\1")),
+           "450 bytes, a trailing dot among them");
+    expect(holds_against(TEXT("example.com"), spaced(438), 438, 768, 0, 0, "", 0),
+           "449 bytes without it");
+    expect(holds_against(NULL, 0, spaced(450), 450, 3, 0, 1, TEXT("\12\302\1")), "no name");
+    expect(holds_against(NULL, 0, spaced(449), 449, 0, 0, 0, "", 0), "no name, 449 bytes");
+    expect(holds_against(name, 255, spaced(194), 194, 0, 0, 0, "", 0), "the longest name");
+    expect(holds_against(name, 255, spaced(195), 195, 3, 0, 1, TEXT("\12\303\0")),
+           "the longest name, 450 bytes");
+    expect(holds_against(TEXT("a\200 .\0."), spaced(11), 11, 0, 0, 0, "", 0), "a malformed name");
+    expect(holds_against(TEXT("a"), spaced(4096), 4096, 3, 0, 1, TEXT("\12\0\20")),
+           "the longest record");
+}
+
+/* Each row has the faults of all rows below it, and is refused for its own. */
+static const struct {
+    size_t domain_len;
+    const char *record;
+    size_t record_len;
+    uint8_t number;
+    size_t place;
+} refused_records[] = {
+    { 256, NULL, 4097, TALAVORN_LONG_DOMAIN, 0 },
+    { 255, NULL, 4097, TALAVORN_LONG_RECORD, 0 },
+    { 255, TEXT("spf2.0/pra ptr ip4:1.2.3.4/33 exp=a.b exp=a.b"), TALAVORN_NO_VERSION, 0 },
+    { 255, TEXT("v=spf1 ptr ip4:1.2.3.4/33 exp=a.b exp=a.b"), TALAVORN_BAD_TERM, 24 },
+    { 255, TEXT("v=spf1 ptr exp=a.b exp=a.b foo"), TALAVORN_REPEATED_TERM, 19 },
+    { 255, TEXT("v=spf1 ptr exp=a.b exp=foo"), TALAVORN_BAD_TERM, 26 },
+    { 255, TEXT("v=spf1 ptr"), TALAVORN_MANY_BREACHES, 0 },
+};
+
+static void house_refusals(void)
+{
+    char name[256];
+    memset(name, 'y', sizeof name);
+    for (size_t i = 0; i < sizeof refused_records / sizeof *refused_records; i++) {
+        const char *record = refused_records[i].record;
+        expect(holds_against(name, refused_records[i].domain_len, record ? record : spaced(4097),
+                             refused_records[i].record_len, 0, refused_records[i].number,
+                             refused_records[i].place, "", 0),
+               "the order in which a record is refused");
+    }
+    expect(holds_against(TEXT("a"), spaced(4097), 4097, 768, TALAVORN_LONG_RECORD, 0, "", 0),
+           "a record of 4,097 bytes");
+}
+
+/* A breach at each ptr, at the missing end and for the length: 256, and 257. */
+static void most_breaches(void)
+{
+    char record[6 + 4 * 255 + 1] = "v=spf1";
+    uint8_t bytes[768];
+    size_t size = 6 + 4 * 254;
+    for (size_t i = 0; i < 255; i++)
+        memcpy(record + 6 + 4 * i, " ptr", 4);
+    for (size_t i = 0; i < 256; i++) {
+        size_t at = i < 254 ? 7 + 4 * i : size;
+        bytes[3 * i] = i < 254 ? 1 : i == 254 ? 3 : 10;
+        bytes[3 * i + 1] = (uint8_t)(at % 256);
+        bytes[3 * i + 2] = (uint8_t)(at / 256);
+    }
+    expect(holds_against(TEXT("a"), record, size, 768, 0, 256, bytes, 768), "256 breaches");
+    expect(holds_against(TEXT("a"), record, size, 800, 0, 256, bytes, 768),
+           "256 breaches in a larger list");
+    for (size_t i = 0; i < 256; i++) {
+        struct talavorn_breach b = talavorn_breach_at(listed, i);
+        expect(b.rule == bytes[3 * i] && b.place == (i < 254 ? 7 + 4 * i : size), "one of them");
+    }
+    expect(holds_against(TEXT("a"), record, size, 767, TALAVORN_MANY_BREACHES, 0, "", 0),
+           "256 breaches in 767 bytes");
+    expect(holds_against(TEXT("a"), record, size + 4, 800, TALAVORN_MANY_BREACHES, 0, "", 0),
+           "257 breaches");
+}
+
+static void rule_names(void)
+{
+    static const char *const names[] = {
+        "no rule", "no ptr", "no p macro", "an all or a redirect, and no all after the first",
+        "no redirect beside an all", "no mechanism after the first all",
+        "nothing but redirect and exp after the first of these", "no +all, written or implied",
+        "no length below /8 for IPv4 or /19 for IPv6", "no network equal to an earlier one",
+        "name and text together under 450 bytes", "no rule"
+    };
+    for (unsigned i = 0; i < sizeof names / sizeof *names; i++)
+        expect(strcmp(talavorn_rule_name(i), names[i]) == 0, "a rule's words");
+    expect(strcmp(talavorn_rule_name(~0u), "no rule") == 0, "the words of no rule");
+}
+
 static void matches(void)
 {
     expect(talavorn_matches(client, 4, network, 4, 24) == 1, "/24");
@@ -1368,6 +1565,11 @@ int main(void)
     lines_refused();
     lines_read();
     parts_unquoted();
+    breaches_listed();
+    house_lengths();
+    house_refusals();
+    most_breaches();
+    rule_names();
     matches();
     tables();
     additions();

@@ -1,7 +1,7 @@
 #!/bin/sh
-# compare.sh PROGRAM CALLER..: runs each caller and the proved program, check_host or received_line,
-# on the same inputs, and compares what they print. The inputs are the program's stored one and
-# those made below; INPUTS may name further files. The status is 0 only if all agree.
+# compare.sh PROGRAM CALLER..: runs each caller and the proved program, check_host, received_line or
+# lint_record, on the same inputs, and compares what they print. The inputs are the program's stored
+# one and those made below; INPUTS may name further files. The status is 0 only if all agree.
 set -u
 cd "$(dirname "$0")/.." || exit 2
 program=$1
@@ -12,7 +12,7 @@ dir=$(mktemp -d) || exit 2
 trap 'rm -rf "$dir"' EXIT
 
 # mail LINE..: client, domain, sender, HELO, receiver and t of check_host, or result, client, sender,
-# HELO, receiver and identity of received_line
+# HELO, receiver and identity of received_line, or name and record of lint_record
 mail() { for line in "$@"; do printf '%s\n' "$line"; done; }
 usual() {
     mail 192.0.2.129 example.com user@example.com mail.example.com mx.relay.example 1700000000
@@ -91,10 +91,50 @@ lines() {
     { cat "$dir/read"; cat "$dir/read"; } >"$dir/read_twice"
 }
 
+# lint NAME RECORD: an input of lint_record with the name example.com
+lint() { mail example.com "$2" >"$dir/$1"; }
+records() {
+    : >"$dir/empty"
+    lint ok 'v=spf1 mx ip4:192.0.2.0/24 -all'
+    lint every 'v=spf1 +all exp=a.b ptr:%{p} redirect=a.b ip4:10.0.0.0/7 ip4:10.1.0.0/7 all'
+    lint modifier 'v=spf1 x=%{P} y=%%{p} -all'
+    lint two_ends 'v=spf1 -all ~all redirect=a.b ALL'
+    lint no_end 'v=spf1'
+    lint spaces 'v=spf1  exp=a.b  '
+    lint short 'v=spf1 a/7//18 mx:b.c/8//19 mx//0 ip6:::/18 ip6:2001::/19 ?all'
+    lint equal 'v=spf1 ip4:10.0.0.1 -ip4:10.0.0.1/32 ip6:::ffff:10.0.0.1 ip6:0::FFFF:a00:1/128 -all'
+    lint version 'v=spf10 -all'
+    lint other_version 'spf2.0/pra -all'
+    lint bad_term 'v=spf1 ptr ip4:1.2.3.4/33'
+    lint repeated 'v=spf1 exp=a.b exp=a.b'
+    lint no_record ''
+    lint newlines 'v=spf1 -all
+
+'
+    printf 'example.com' >"$dir/no_newline"
+    printf 'example.com\n' >"$dir/one_newline"
+    printf 'example.com\nv=spf1 ptr' >"$dir/no_last_newline"
+    printf '\nv=spf1 ptr\n' >"$dir/no_name"
+    printf '\n\n' >"$dir/newlines_alone"
+    printf 'example.com\r\nv=spf1 -all\r\n' >"$dir/crlf"
+    printf 'a\000b\200\nv=spf1 a\000b\n' >"$dir/odd_bytes"
+    mail example.com "v=spf1 -all$(repeat 428 ' ')" >"$dir/long"
+    mail example.co "v=spf1 -all$(repeat 428 ' ')" >"$dir/not_long"
+    mail a "v=spf1$(repeat 254 ' ptr')" >"$dir/most"
+    mail a "v=spf1$(repeat 255 ' ptr')" >"$dir/too_many"
+    mail "$(repeat 255 y)" 'v=spf1 -all' >"$dir/longest_name"
+    mail "$(repeat 256 y)" 'v=spf1 foo' >"$dir/long_name"
+    repeat 5000 y >"$dir/long_line"
+    mail "$(repeat 255 y)" "v=spf1 -all$(repeat 4085 ' ')" >"$dir/longest"
+    { mail "$(repeat 255 y)" "v=spf1 -all$(repeat 4085 ' ')"; echo; } >"$dir/long_record"
+    mail a "v=spf1 -all$(repeat 9000 ' ')" >"$dir/long_input"
+}
+
 cp "crates/$program/stdin" "$dir/stored"
 case $program in
 check_host) checks ;;
 received_line) lines ;;
+lint_record) records ;;
 *) echo "compare.sh: no inputs for $program" >&2; exit 2 ;;
 esac
 

@@ -151,6 +151,13 @@ int main()
     if (talavorn_line_value(line, values, TALAVORN_LINE_SENDER, value) != 16
         || std::strcmp(value, "user@example.com") != 0)
         return 1;
+    unsigned char list[TALAVORN_HOUSE_LIST];
+    if (talavorn_house_rules("a.b", 3, "v=spf1 ?all a", 13, list, sizeof list, &n) != 0 || n != 1)
+        return 1;
+    talavorn_breach b = talavorn_breach_at(list, 0);
+    if (b.rule != TALAVORN_RULE_AFTER_ALL || b.place != 12
+        || std::strcmp(talavorn_rule_name(b.rule), "no mechanism after the first all") != 0)
+        return 1;
     return std::strcmp(talavorn_result_name(a.number), "fail");
 }
 END

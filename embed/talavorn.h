@@ -154,6 +154,7 @@ enum {
     TALAVORN_NO_RESULT = 52,        /* result of 7 or above for a line */
     TALAVORN_IN_TABLE = 64,         /* kind and name of a new entry stand in the table */
     TALAVORN_UNFIT_ENTRY = 65,      /* new entry malformed, or too much for table or buffer */
+    TALAVORN_MANY_BREACHES = 70,    /* over 256 breaches, or more than the list has room for */
     TALAVORN_BAD_ADDRESS = 90,      /* client or network that isn't 4 or 16 octets */
     TALAVORN_BAD_FORM = 91,         /* form that is neither 0 nor 1 */
     TALAVORN_BAD_IDENTITY = 92      /* identity that is neither 0 nor 1 */
@@ -385,6 +386,58 @@ enum {
  */
 uint8_t talavorn_read_term(
     const void *record, size_t record_len, size_t place, size_t values[8], uint8_t network[16]);
+
+/* The house rules: what customers may publish. */
+enum {
+    TALAVORN_RULE_PTR = 1,            /* no ptr */
+    TALAVORN_RULE_P = 2,              /* no term with a p macro */
+    TALAVORN_RULE_END = 3,            /* an all or a redirect, and no all after the first */
+    TALAVORN_RULE_REDIRECT = 4,       /* no redirect beside an all */
+    TALAVORN_RULE_AFTER_ALL = 5,      /* no mechanism after the first all */
+    TALAVORN_RULE_AFTER_MODIFIER = 6, /* nothing but redirect and exp after the first of these */
+    TALAVORN_RULE_PLUS_ALL = 7,       /* no +all, written or implied */
+    TALAVORN_RULE_SHORT = 8,          /* no length below /8 for IPv4 or /19 for IPv6 */
+    TALAVORN_RULE_EQUAL = 9,          /* no network equal to an earlier one */
+    TALAVORN_RULE_LONG = 10           /* name and text together under 450 bytes */
+};
+
+/* The bytes of a breach in a list, and those of 256: a list of so many is never too small. */
+enum { TALAVORN_BREACH = 3, TALAVORN_HOUSE_LIST = 768 };
+
+/* Holds a record with its domain name against the house rules, before it is published.
+ *
+ * domain    the name at which the record is to stand. Only its length is looked at, a trailing dot
+ *           included; an empty or malformed one is taken, too
+ * record    the record's whole text, `v=spf1` included
+ * list      room for the breaches; TALAVORN_HOUSE_LIST bytes always suffice, 0 if there are none
+ *
+ * Tests in this order, and returns the first that holds, with nothing written to list:
+ *     22  domain over 255 bytes; *value is 0
+ *     30 to 33  what talavorn_read_record returns for the record; *value is its place
+ *     70  over 256 breaches, or fewer than three bytes in list for each; *value is 0
+ * Otherwise returns 0 with the number of breaches in *value. At the front of list each breach is
+ * written once, by rule and then by place, in three bytes: the rule, and the place, little-endian.
+ * The other bytes of list keep their values. *value is written by every call.
+ *
+ * A term is a breach of each rule that it breaks. The place is the term's first byte, its sign
+ * included; it is the record's length for rule 10, and for rule 3 where there is neither an all nor
+ * a redirect. Of the rules
+ *     2   is for every argument: a domain-spec, and the value of redirect, exp and any other
+ *         modifier. P is a p macro, too; %%{p} has none
+ *     3   has a breach for each all after the first
+ *     4   blames the redirect, also where it stands before the all
+ *     5   has a breach for each mechanism, further alls included, and none for modifiers
+ *     6   has a breach for each mechanism and each other modifier that stands after redirect or exp
+ *     8   is for a, mx, ip4 and ip6. A length that isn't written is 32 or 128; a and mx with both
+ *         lengths too short are one breach
+ *     9   compares networks of one family and one length, in as many bits; neither signs nor
+ *         spelling count, and an IPv4-mapped network is no IPv4 one. Each later one is a breach
+ *     10  adds the lengths of domain and record as they are given */
+uint8_t talavorn_house_rules(
+    const void *domain, size_t domain_len,
+    const void *record, size_t record_len,
+    void *list, size_t list_len,
+    size_t *value);
 
 /* Expands a macro string.
  *
@@ -685,6 +738,41 @@ static inline size_t talavorn_line_value(
         &size);
     value[size] = 0;
     return size;
+}
+
+/* A breach of the house rules. */
+struct talavorn_breach {
+    unsigned rule;                  /* TALAVORN_RULE_PTR and so on */
+    size_t place;
+};
+
+/* The breach with this number, from 0, in a list that talavorn_house_rules wrote. */
+static inline struct talavorn_breach talavorn_breach_at(const void *list, size_t number)
+{
+    const uint8_t *at = (const uint8_t *)list + TALAVORN_BREACH * number;
+    struct talavorn_breach b;
+    b.rule = at[0];
+    b.place = at[1] + (size_t)256 * at[2];
+    return b;
+}
+
+/* A house rule in words; "no rule" for a number that isn't 1 to 10. */
+static inline const char *talavorn_rule_name(unsigned rule)
+{
+    static const char *const names[] = {
+        "no rule",
+        "no ptr",
+        "no p macro",
+        "an all or a redirect, and no all after the first",
+        "no redirect beside an all",
+        "no mechanism after the first all",
+        "nothing but redirect and exp after the first of these",
+        "no +all, written or implied",
+        "no length below /8 for IPv4 or /19 for IPv6",
+        "no network equal to an earlier one",
+        "name and text together under 450 bytes"
+    };
+    return names[rule < sizeof names / sizeof *names ? rule : 0];
 }
 
 /* The items of one answer, made one after the other in lent memory. */

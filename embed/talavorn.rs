@@ -1,6 +1,7 @@
-//! Talavorn's calls for Rust: declarations of those that a check needs, and a safe function over
-//! each. talavorn.h says what they do. A program says `mod talavorn;`, has this file beside it, and
-//! links the static library. rustc 1.82 or later, any edition.
+//! Talavorn's calls for Rust: declarations of those that a check, its header line and the house
+//! rules need, and a safe function over each. talavorn.h says what they do. A program says
+//! `mod talavorn;`, has this file beside it, and links the static library. rustc 1.82 or later, any
+//! edition.
 #![allow(dead_code)] // a program uses what it needs
 
 use std::ops::Range;
@@ -26,6 +27,20 @@ pub const TYPE_AAAA: u16 = 28;
 pub const ANSWERED: u8 = 0;
 pub const FAILED: u8 = 2;
 pub const NO_SUCH_NAME: u8 = 3;
+
+// The house rules in words, that of number n at n - 1.
+pub const RULES: [&str; 10] = [
+    "no ptr",
+    "no p macro",
+    "an all or a redirect, and no all after the first",
+    "no redirect beside an all",
+    "no mechanism after the first all",
+    "nothing but redirect and exp after the first of these",
+    "no +all, written or implied",
+    "no length below /8 for IPv4 or /19 for IPv6",
+    "no network equal to an earlier one",
+    "name and text together under 450 bytes",
+];
 
 // A byte slice is a pointer and a length.
 unsafe extern "C" {
@@ -74,6 +89,12 @@ unsafe extern "C" {
     fn talavorn_read_line(line: *const u8, line_len: usize, values: *mut [usize; 11]) -> u8;
     fn talavorn_unquote(
         part: *const u8, part_len: usize, out: *mut u8, out_len: usize, size: *mut usize,
+    ) -> u8;
+    fn talavorn_house_rules(
+        domain: *const u8, domain_len: usize,
+        record: *const u8, record_len: usize,
+        list: *mut u8, list_len: usize,
+        value: *mut usize,
     ) -> u8;
 }
 
@@ -139,7 +160,8 @@ pub enum Explanation {
     Refused(Refusal),
 }
 
-/// A refusal: its number, and for 25 and 26 the place in the table.
+/// A refusal: its number, and the place, for 25 and 26 in the table and for 30 to 33 in the record;
+/// otherwise 0.
 #[derive(Clone, Debug, PartialEq)]
 pub struct Refusal {
     pub number: u8,
@@ -163,6 +185,14 @@ pub struct Line {
     pub sender: Range<usize>,
     pub helo: Range<usize>,
     pub identity: Range<usize>,
+}
+
+/// A breach of the house rules: the rule's number, 1 to 10, and the first byte of the term; or the
+/// record's length, where the end of rule 3 is missing and for rule 10.
+#[derive(Clone, Copy, Debug, PartialEq)]
+pub struct Breach {
+    pub rule: u8,
+    pub place: usize,
 }
 
 // Every slice is valid, a lent one overlaps nothing, and the library asks for nothing else: so the
@@ -304,6 +334,27 @@ pub fn unquote(part: &[u8]) -> Option<Vec<u8>> {
     (number == 0).then(|| out[..size].to_vec())
 }
 
+/// Holds a record with its domain name against the house rules: all breaches, by rule and then by
+/// place, none for a record that may be published. Refused are 22, 30 to 33, and 70, over 256
+/// breaches.
+pub fn house_rules(domain: &[u8], record: &[u8]) -> Result<Vec<Breach>, Refusal> {
+    let (mut list, mut value) = ([0; 768], 0);
+    let number = unsafe {
+        talavorn_house_rules(
+            domain.as_ptr(), domain.len(),
+            record.as_ptr(), record.len(),
+            list.as_mut_ptr(), list.len(),
+            &mut value,
+        )
+    };
+    if number != 0 {
+        return Err(Refusal { number, place: value });
+    }
+    let place = |b: &[u8]| usize::from(b[1]) + 256 * usize::from(b[2]);
+    let listed = list[..3 * value].chunks_exact(3);
+    Ok(listed.map(|b| Breach { rule: b[0], place: place(b) }).collect())
+}
+
 #[cfg(test)]
 mod tests {
     use super::*;
@@ -429,5 +480,36 @@ mod tests {
         assert_eq!(written(FAIL, &Mail { sender: &long, helo: &host, receiver: &host, ..MAIL }), Err(50));
         assert_eq!(read_line(b"Received-SPF: pass\r\n"), None);
         assert_eq!((unquote(b"\\a"), unquote(b"a b")), (None, Some(b"a b".to_vec())));
+    }
+
+    fn breaches(domain: &[u8], record: &[u8]) -> Vec<(u8, usize)> {
+        house_rules(domain, record).unwrap().iter().map(|b| (b.rule, b.place)).collect()
+    }
+
+    #[test]
+    fn breaches_are_listed() {
+        let listed = |record: &[u8]| breaches(b"example.com", record);
+        assert_eq!(listed(b"v=spf1 -all"), []);
+        assert_eq!(listed(b"v=spf1 -all ~all"), [(3, 12), (5, 12)]);
+        assert_eq!(listed(b"v=spf1 redirect=a.b -all"), [(4, 7), (6, 20)]);
+        assert_eq!(listed(b"v=spf1 a/7//18 ptr:%{p}"), [(1, 15), (2, 15), (3, 23), (8, 7)]);
+        let long = [b"v=spf1 -all", &[b' '; 427][..]].concat();
+        assert_eq!(breaches(b"example.com.", &long), [(10, 438)]);
+        assert_eq!(breaches(b"example.com.", &long[..437]), []);
+        assert_eq!(RULES[10 - 1], "name and text together under 450 bytes");
+    }
+
+    #[test]
+    fn a_record_is_refused() {
+        let held = |domain: &[u8], record: &[u8]| house_rules(domain, record).unwrap_err();
+        assert_eq!(held(&[b'y'; 256], &[b'y'; 4097]), refused(22, 0));
+        assert_eq!(held(&[b'y'; 255], &[b'y'; 4097]), refused(30, 0));
+        assert_eq!(held(b"a", b"spf2.0/mfrom -all"), refused(31, 0));
+        assert_eq!(held(b"a", b"v=spf1 ptr ip4:1.2.3.4/33"), refused(32, 24));
+        assert_eq!(held(b"a", b"v=spf1 exp=a.b exp=a.b"), refused(33, 15));
+        // a breach for each ptr, for the missing end and for the length
+        let most = [&b"v=spf1"[..], &b" ptr".repeat(254)].concat();
+        assert_eq!(breaches(b"a", &most).len(), 256);
+        assert_eq!(held(b"a", &[&most[..], b" ptr"].concat()), refused(70, 0));
     }
 }

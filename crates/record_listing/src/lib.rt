@@ -259,7 +259,7 @@ fn put_terms(s: &[u8], start: usize, out: &mut [u8], from: usize) -> usize
 }
 
 // A refusal: its number and its place.
-fn put_refusal(number: u8, place: usize, out: &mut [u8], at: usize) -> usize
+pub fn put_refusal(number: u8, place: usize, out: &mut [u8], at: usize) -> usize
     ensures { λ r. ⌜ Wrote (refusalLine number place) (now (out .entry)) at (now (out .exit)) r ⌝ }
 {
     let refused = writing::put_all(b"refused ", out, at);
@@ -291,7 +291,7 @@ pub fn list_record(s: &[u8], out: &mut [u8]) -> usize
 }
 
 // The part without one final newline.
-fn without_newline(s: &[u8]) -> &[u8]
+pub fn without_newline(s: &[u8]) -> &[u8]
     ensures { λ r. ⌜ now r ≡ withoutNewline (now (s .entry)) ⌝ }
 {
     if s.len() == 0 {

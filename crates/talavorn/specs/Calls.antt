@@ -29,11 +29,13 @@ use Rattle.received.specs.Numbers.{Outcome as Line, refused as line-refused, an
 use Rattle.received.specs.Answers.{Given as LineGiven, Writes, ReadsLine, Unquotes}
 use Rattle.received.specs.declared.Identity.{Identity}
 use Rattle.received.specs.declared.LineAnswer.{LineAnswer}
+use Rattle.publishing.specs.declared.HouseAnswer.{HouseAnswer}
+use Rattle.publishing.specs.Listing.{HouseAnswers}
 use Rattle.evaluation.specs.First as first
 use Rattle.evaluation.specs.Second as second
 use Rattle.talavorn.specs.declared.numbers.FormAnswer.{FormAnswer}
 use Rattle.talavorn.specs.declared.numbers.IdentityAnswer.{IdentityAnswer}
-use Rattle.talavorn.specs.Numbers.{no-address, no-form, no-identity, encoded, encodedExplanation, recordNumbers, tableNumbers, appendedNumbers, expandedNumbers, writtenNumbers, lineNumbers, matchNumber, addressOctets, shapeOf, termNumbers, termOctets}
+use Rattle.talavorn.specs.Numbers.{no-address, no-form, no-identity, encoded, encodedExplanation, recordNumbers, tableNumbers, appendedNumbers, expandedNumbers, writtenNumbers, lineNumbers, houseNumbers, matchNumber, addressOctets, shapeOf, termNumbers, termOctets}
 
 -- an evaluation, by the table's list of entries: octets that are no client's are refused before all else. What is lent determines what is handed back
 -- (`first-one`, evaluation/proofs/Laws/Deciding.antt)
@@ -139,6 +141,12 @@ pub record UnquoteAnswers (s numbers before after : List ℕ) : Type 0 where
   pub outcome : Line
   pub answers : Unquotes s (length before) outcome
   pub says : WriteSays outcome numbers before after
+
+-- holding a record with its domain name against the house rules (W-211), into a list (`answers-one`, publishing/proofs/Laws/Deciding.antt)
+pub record HouseSays (domain s numbers before after : List ℕ) : Type 0 where
+  pub answer : HouseAnswer
+  pub answers : HouseAnswers domain s before after answer
+  pub numbers-are : numbers ≡ houseNumbers answer
 
 -- a match: 1 exactly when two addresses match
 pub record MatchSays (client network : FromOctets) (bits r : ℕ) : Type 0 where

@@ -21,11 +21,12 @@ use Rattle.evaluation.specs.declared.explaining.Explanation.{Explanation}
 use Rattle.received.specs.declared.Identity.{Identity}
 use Rattle.received.specs.declared.Written.{Written}
 use Rattle.received.specs.declared.LineAnswer.{LineAnswer}
+use Rattle.publishing.specs.declared.HouseAnswer.{HouseAnswer}
 use Rattle.talavorn.specs.declared.numbers.Shape.{Shape}
 use Rattle.talavorn.specs.declared.numbers.FormAnswer.{FormAnswer}
 use Rattle.talavorn.specs.declared.numbers.IdentityAnswer.{IdentityAnswer}
 
--- what the house rules have no number for: octets that are neither 4 nor 16, a form that is none, and an identity that is none
+-- what the scope paper has no number for: octets that are neither 4 nor 16, a form that is none, and an identity that is none
 abbrev pub no-address : ℕ
 no-address = 90
 
@@ -93,6 +94,12 @@ lineNumbers (LineAnswer.Read f) =
     0 ∷ f .result ∷ f .receiver .from ∷ f .receiver .to ∷ f .client .from ∷ f .client .to ∷ f .sender .from ∷ f .sender .to ∷ f .helo .from ∷ f .helo .to
     ∷ f .identity .from ∷ f .identity .to ∷ []
 lineNumbers (LineAnswer.Refused number) = number ∷ 0 ∷ 0 ∷ 0 ∷ 0 ∷ 0 ∷ 0 ∷ 0 ∷ 0 ∷ 0 ∷ 0 ∷ 0 ∷ []
+
+-- a record held against the house rules (W-211): 0; how many breaches. Or the refusal's number; its place, 0 where it has none
+unfoldable pub houseNumbers : HouseAnswer → List ℕ
+houseNumbers (HouseAnswer.Listed n) = 0 ∷ n ∷ []
+houseNumbers (HouseAnswer.Refused number) = number ∷ 0 ∷ []
+houseNumbers (HouseAnswer.RefusedAt number place) = number ∷ place ∷ []
 
 -- whether a client matches a network at a prefix length
 unfoldable pub matchNumber : FromOctets → FromOctets → ℕ → ℕ

@@ -7,7 +7,7 @@ ghost use Rattle.macros.specs.Expansion.{given};
 ghost use Rattle.macros.specs.Numbers.{outcome};
 ghost use Rattle.received.specs.Answers.{given as lineGiven};
 ghost use Rattle.talavorn.specs.Numbers.{formOf, identityFor};
-ghost use Rattle.talavorn.specs.Calls.{expandFor, EvaluateAnswers, ExplainAnswers, RecordSays, TermSays, ExpandSays, ExpandAnswers, WriteAnswers, LineSays, UnquoteAnswers, MatchSays, TableSays, AppendSays, AddressSays};
+ghost use Rattle.talavorn.specs.Calls.{expandFor, EvaluateAnswers, ExplainAnswers, RecordSays, TermSays, ExpandSays, ExpandAnswers, WriteAnswers, LineSays, UnquoteAnswers, HouseSays, MatchSays, TableSays, AppendSays, AddressSays};
 use address::FromOctets;
 use answer_table::TableAnswer;
 use evaluation::explaining;
@@ -197,6 +197,20 @@ pub extern "C" fn talavorn_unquote(part: &[u8], out: &mut [u8], size: &mut usize
     ensures { λ r. ⌜ UnquoteAnswers (now (part .entry)) (r ∷ now (size .exit) ∷ []) (now (out .entry)) (now (out .exit)) ⌝ }
 {
     numbers::put_written(received::unquote(part, out), size)
+}
+
+// Holds a record with its domain name against the house rules: 0 and the number of breaches, which are listed at the front of a lent list; or 22, 30 to 33
+// or 70 and the place, 0 for 22 and 70.
+#[no_mangle]
+pub extern "C" fn talavorn_house_rules(
+    domain: &[u8],
+    s: &[u8],
+    list: &mut [u8],
+    value: &mut usize,
+) -> u8
+    ensures { λ r. ⌜ HouseSays (now (domain .entry)) (now (s .entry)) (r ∷ now (value .exit) ∷ []) (now (list .entry)) (now (list .exit)) ⌝ }
+{
+    numbers::put_house(publishing::house_rules(domain, s, list), value)
 }
 
 // Whether a client matches a network at a prefix length: 1 or 0; 90 where one of the two is not 4 or 16 octets.

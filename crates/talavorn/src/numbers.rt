@@ -6,13 +6,14 @@ ghost use lib.ListN.{length};
 ghost use Rattle.text.specs.Writing.{overwritten};
 ghost use Rattle.address.specs.Octets.{octets};
 ghost use Rattle.answer_entry.specs.Numbers.{outcomeOf};
-ghost use Rattle.talavorn.specs.Numbers.{encoded, encodedExplanation, appendedNumbers, expandedNumbers, formOf, writtenNumbers, identityFor, lineNumbers, Inside, shape, networkShape, shapeOf, termRow, networkOf};
+ghost use Rattle.talavorn.specs.Numbers.{encoded, encodedExplanation, appendedNumbers, expandedNumbers, formOf, writtenNumbers, identityFor, lineNumbers, houseNumbers, Inside, shape, networkShape, shapeOf, termRow, networkOf};
 use address::Address;
 use answer_entry::AppendAnswer;
 use evaluation::Answer;
 use evaluation::explaining::Explanation;
 use macros::Expanded;
 use macros::Form;
+use publishing::HouseAnswer;
 use received::Identity;
 use received::LineAnswer;
 use received::Written;
@@ -340,6 +341,26 @@ pub fn put_line(answer: LineAnswer, values: &mut [usize; 11]) -> u8
         }
         LineAnswer::Refused(number) => {
             *values = [0, 0, 0, 0, 0, 0, 0, 0, 0, 0, 0];
+            number
+        }
+    }
+}
+
+// Writes what the house rules answer: the number of breaches, or the place of a refusal, 0 where it has none; answers 0, or the number of the refusal.
+pub fn put_house(answer: HouseAnswer, value: &mut usize) -> u8
+    ensures { λ r. ⌜ (r ∷ now (value .exit) ∷ []) ≡ houseNumbers answer ⌝ }
+{
+    match answer {
+        HouseAnswer::Listed(count) => {
+            *value = count;
+            0
+        }
+        HouseAnswer::Refused(number) => {
+            *value = 0;
+            number
+        }
+        HouseAnswer::RefusedAt { number, at } => {
+            *value = at;
             number
         }
     }

@@ -18,10 +18,11 @@ use Rattle.records.specs.declared.Term.{Term}
 use Rattle.records.proofs.Term as term-type
 use Rattle.received.specs.declared.Written.{Written}
 use Rattle.received.specs.declared.LineAnswer.{LineAnswer}
+use Rattle.publishing.specs.declared.HouseAnswer.{HouseAnswer}
 use Rattle.evaluation.specs.declared.Answer.{Answer}
 use Rattle.evaluation.specs.declared.explaining.Explanation.{Explanation}
 use Rattle.talavorn.specs.declared.numbers.Shape.{Shape}
-use Rattle.talavorn.specs.Numbers.{encoded, encodedExplanation, appendedNumbers, expandedNumbers, writtenNumbers, lineNumbers, shape, networkShape, shapeOf, Inside, networkOf, termRow}
+use Rattle.talavorn.specs.Numbers.{encoded, encodedExplanation, appendedNumbers, expandedNumbers, writtenNumbers, lineNumbers, houseNumbers, shape, networkShape, shapeOf, Inside, networkOf, termRow}
 
 -- `put_answer`: the row of the case that the answer is
 pub answer-row : (x y : Answer) → x ≡ y → (r : List ℕ) → r ≡ encoded y → r ≡ encoded x
@@ -45,12 +46,15 @@ module _ (x : Expanded) (n : ℕ) where
   unfolding expandedNumbers
   expanded-refused e = rw e
 
--- `put_written` and `put_line`, as `put_answer`
+-- `put_written`, `put_line` and `put_house`, as `put_answer`
 pub written-row : (x y : Written) → x ≡ y → (r : List ℕ) → r ≡ writtenNumbers y → r ≡ writtenNumbers x
 written-row x y e r h = rw e h
 
 pub line-row : (x y : LineAnswer) → x ≡ y → (r : List ℕ) → r ≡ lineNumbers y → r ≡ lineNumbers x
 line-row x y e r h = rw e h
+
+pub house-row : (x y : HouseAnswer) → x ≡ y → (r : List ℕ) → r ≡ houseNumbers y → r ≡ houseNumbers x
+house-row x y e r h = rw e h
 
 -- `put_octets`
 module _ (a : Address) (b d xs : List ℕ) (n : ℕ) where

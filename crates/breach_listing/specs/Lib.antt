@@ -1,0 +1,5 @@
+-- What the contracts of this crate are said in.
+-- Lines: what the program lint_record prints.
+pub mod Lines
+-- Writing: what private functions write.
+pub mod Writing
