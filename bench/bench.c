@@ -160,12 +160,24 @@ static void make_bad_term(struct table *t, int size)
     add_text(t, "example.com", record);
 }
 
+/* A record of so many networks, all different, the largest first. */
+static void make_distinct(struct table *t, int count)
+{
+    static char record[4128];
+    size_t at = (size_t)sprintf(record, "v=spf1");
+    for (int n = count; n > 0; n--)
+        at += (size_t)sprintf(record + at, " ip6:%x::", (unsigned)n);
+    sprintf(record + at, " -all");
+    add_text(t, "example.com", record);
+}
+
 static struct table table, zone;
 
 static int evaluate(int i);
 static int explain(int i);
 static int play(int i);
 static int read_record(int i);
+static int house_rules(int i);
 static int ask_libspf2(int i);
 
 static const struct {
@@ -175,7 +187,7 @@ static const struct {
     uint8_t client[4];
     uint8_t number;
     int libspf2;        /* whether libspf2 is asked too */
-    int (*call)(int);   /* one evaluation, perhaps with its explanation, all rounds from an empty table, or one reading of the record */
+    int (*call)(int);   /* one evaluation, perhaps with its explanation, all rounds from an empty table, one reading of the record, or its breaches */
 } cases[] = {
     { "first", "first match: pass", make_reference, 0, { 192, 0, 2, 1 }, TALAVORN_PASS, 1, evaluate },
     { "include", "include match: pass", make_reference, 0, { 203, 0, 113, 1 }, TALAVORN_PASS, 1, evaluate },
@@ -200,6 +212,10 @@ static const struct {
     { "read-term", "bad term of 4,000 bytes read: 32", make_bad_term, 4000, { 0 }, TALAVORN_BAD_TERM, 0, read_record },
     { "exp-result", "final -all with exp, the result: fail", make_explained, 0, { 10, 0, 0, 1 }, TALAVORN_FAIL, 0, evaluate },
     { "exp-text", "the same, result and text: fail", make_explained, 0, { 10, 0, 0, 1 }, TALAVORN_FAIL, 0, explain },
+    { "house-reference", "reference record, its breaches", make_reference, 0, { 0 }, 0, 0, house_rules },
+    { "house-80", "80 networks, their breaches", make_distinct, 80, { 0 }, 0, 0, house_rules },
+    { "house-160", "160 networks, their breaches", make_distinct, 160, { 0 }, 0, 0, house_rules },
+    { "house-320", "320 networks, their breaches", make_distinct, 320, { 0 }, 0, 0, house_rules },
 };
 enum { CASES = sizeof cases / sizeof *cases };
 
@@ -240,13 +256,31 @@ static int play(int i)
     return number;
 }
 
-/* Reads the record in the table's first entry: its text stands behind the header, the name and its own length. */
-static int read_record(int i)
+/* The record in the table's first entry: its text stands behind the header, the name and its own length. */
+static const uint8_t *first_record(size_t *size)
 {
     const uint8_t *text = table.bytes + 6 + table.bytes[5];
-    size_t place;
+    *size = text[0] + 256u * text[1];
+    return text + 2;
+}
+
+/* Reads that record. */
+static int read_record(int i)
+{
+    size_t size, place;
+    const uint8_t *record = first_record(&size);
     (void)i;
-    return talavorn_read_record(text + 2, text[0] + 256u * text[1], &place);
+    return talavorn_read_record(record, size, &place);
+}
+
+/* Holds it against the rules for publishing. */
+static int house_rules(int i)
+{
+    static uint8_t list[TALAVORN_HOUSE_LIST];
+    size_t size, breaches;
+    const uint8_t *record = first_record(&size);
+    (void)i;
+    return talavorn_house_rules(TEXT("example.com"), record, size, list, sizeof list, &breaches);
 }
 
 static int ask_libspf2(int i)

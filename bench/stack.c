@@ -1,5 +1,5 @@
-/* Measures the stack that an evaluation uses, and the making of a fail's text, on the inputs that need most: a thread's stack is filled with a pattern, and
- * what a call has left of it is counted. */
+/* Measures the stack that an evaluation uses, the making of a fail's text, and the rules for publishing, on the inputs that need most: a thread's stack is
+ * filled with a pattern, and what a call has left of it is counted. */
 #define _GNU_SOURCE
 #include <pthread.h>
 #include <stdio.h>
@@ -37,6 +37,16 @@ static void *explain(void *unused)
     static size_t made[TALAVORN_EXPLAIN_VALUES];
     talavorn_explain(client, 4, name, values[TALAVORN_LENGTH], TEXT("user@example.com"), TEXT(helo), TEXT("r.example"), 7, table.bytes, table.size,
                      values[TALAVORN_EXP_PLACE], values[TALAVORN_EXP_LENGTH], wanted, sizeof wanted, text, sizeof text, made);
+    return unused;
+}
+
+/* The breaches of the record in the table's first entry. */
+static void *house_rules(void *unused)
+{
+    static uint8_t list[TALAVORN_HOUSE_LIST];
+    const uint8_t *text = table.bytes + 6 + table.bytes[5];
+    size_t breaches;
+    talavorn_house_rules(TEXT("d0.example"), text + 2, text[0] + 256u * text[1], list, sizeof list, &breaches);
     return unused;
 }
 
@@ -108,5 +118,7 @@ int main(void)
     make(0, "", exp, " ");
     show(evaluate, "the same in exp, the result");
     show(explain, "the same in exp, the text");
+    make(0, "", "v=spf1 -all", " ip6:::");
+    show(house_rules, "rules for publishing, a record of 583 networks");
     return 0;
 }
