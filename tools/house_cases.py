@@ -116,6 +116,7 @@ def readings():
     house("v=spf1 -all exp=%{p}.x", (2, 12))
     house("v=spf1 x=%%{p} -all")
     house("v=spf1 ptr:%{p}.x -all", (1, 7), (2, 7))
+    house("v=spf1 include:%{p}.x a:%{p}.x mx:%{p}.x/24 exists:%{p} ~all", (2, 7), (2, 22), (2, 31), (2, 44))
     house("v=spf1 ptr=%{d} p=p -all")
     heading("H2: several rules at one term")
     house("v=spf1 -all ~all", (3, 12), (5, 12))
