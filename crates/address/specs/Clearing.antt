@@ -17,6 +17,6 @@ unfoldable pub cleared : Address → ℕ → Address
 cleared (IPv4 v) n = IPv4 (clearedLow (32 - n) v)
 cleared (IPv6 high low) n = IPv6 (clearedLow (64 - n) high) (clearedLow (64 - (n - 64)) low)
 
--- that addresses match at a length exactly if they are equal after clearing the bits below it
+-- that addresses match at a length within the width exactly if they are equal after clearing the bits below it
 pub record ClearingRule : Type 0 where
   pub rule : (a b : Address) (n : ℕ) → InRange a → InRange b → n ≤ length (bits (octets a)) → Matches a b n ↔ (cleared a n ≡ cleared b n)

@@ -8,3 +8,5 @@ pub mod Room
 pub mod Printing
 -- Answering: the ways of the functions that answer an input.
 pub mod Answering
+-- Meaning: `ok` is printed of just those records that may be published.
+pub mod Meaning

@@ -3,3 +3,5 @@
 pub mod Lines
 -- Writing: what private functions write.
 pub mod Writing
+-- Meaning: what `ok` means.
+pub mod Meaning

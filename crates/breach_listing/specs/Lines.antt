@@ -32,17 +32,21 @@ ruleText rule =
     (cond (eqb rule 9) (bytes "no network equal to an earlier one")
     (bytes "name and text together under 450 bytes")))))))))
 
--- "a line per breach: rule number, place, and the rule in a few words, with the record and a caret under the place"
+-- a breach: a line with the rule's number, the place and the rule in a few words; the record; a caret under the place
+unfoldable pub headText : Entry → List ℕ
+headText e = inDecimal (e .rule) ++ bytes " at " ++ inDecimal (e .place) ++ bytes ": " ++ ruleText (e .rule) ++ bytes "\n"
+
+unfoldable pub caretText : ℕ → List ℕ
+caretText place = replicate place 32 ++ bytes "^\n"
+
 unfoldable pub breachText : List ℕ → Entry → List ℕ
-breachText s e =
-    (inDecimal (e .rule) ++ bytes " at " ++ inDecimal (e .place) ++ bytes ": " ++ ruleText (e .rule) ++ bytes "\n")
-    ++ (s ++ bytes "\n") ++ (replicate (e .place) 32 ++ bytes "^\n")
+breachText s e = headText e ++ (s ++ bytes "\n") ++ caretText (e .place)
 
 unfoldable pub breachTexts : List ℕ → List Entry → List ℕ
 breachTexts s [] = []
 breachTexts s (e ∷ es) = breachText s e ++ breachTexts s es
 
--- "or `ok`"
+-- all of them; `ok` where there is none
 unfoldable pub listText : List ℕ → List Entry → List ℕ
 listText s [] = bytes "ok\n"
 listText s (e ∷ es) = breachTexts s (e ∷ es)

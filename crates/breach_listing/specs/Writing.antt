@@ -1,20 +1,11 @@
--- For private functions: the lines of a breach, and what is written of a list's bytes.
+-- For private functions: what is written of a list's bytes.
 use Prim.Native.Nat.{ℕ, _<_}
 use mathlib.Core.Path.{_≡_}
 use mathlib.Core.List.{List, _++_}
-use lib.ListN.{length, replicate}
-use Rattle.text.specs.Texts.{bytes}
+use lib.ListN.{length}
 use Rattle.text.specs.Writing.{Wrote}
-use Rattle.address_text.specs.Digits.{inDecimal}
 use Rattle.publishing.specs.Listing.{Entry, Member, encoded}
-use Rattle.breach_listing.specs.Lines.{ruleText, breachTexts, listText, Prints}
-
--- a breach's first line and its third
-unfoldable pub headText : Entry → List ℕ
-headText e = inDecimal (e .rule) ++ bytes " at " ++ inDecimal (e .place) ++ bytes ": " ++ ruleText (e .rule) ++ bytes "\n"
-
-unfoldable pub caretText : ℕ → List ℕ
-caretText place = replicate place 32 ++ bytes "^\n"
+use Rattle.breach_listing.specs.Lines.{breachTexts, listText, Prints}
 
 -- n entries stand at the front of a list, and two bytes hold the place of each
 pub record Holds (list : List ℕ) (n : ℕ) (es : List Entry) : Type 0 where

@@ -8,5 +8,5 @@ pub mod Merging
 pub mod Sorting
 -- Places: how often a number stands in a list, and where; the places of a sorted list.
 pub mod Places
--- Marking: rows marked in their sorted order are those that stand earlier.
+-- Marking: rows marked in their sorted order are those that are the same as an earlier one.
 pub mod Marking

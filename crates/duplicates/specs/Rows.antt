@@ -1,4 +1,4 @@
--- Rows of three words, and which of them stand earlier.
+-- Rows of three words, and which of them are the same as an earlier one.
 use Prim.Native.Nat.{ℕ, _<_}
 use mathlib.Core.Path.{_≡_}
 use mathlib.Core.Logic.{_↔_}
@@ -20,9 +20,10 @@ pub record Repeated (kinds highs lows : List ℕ) (i : ℕ) : Type 0 where
   pub before : earlier < i
   pub same : rowAt kinds highs lows earlier ≡ rowAt kinds highs lows i
 
--- of the first n rows just those are marked by 1 that stand earlier
+-- of the first n rows just those are marked by 1 that are the same as an earlier one
 pub record Marks (kinds highs lows : List ℕ) (n : ℕ) (marks : List ℕ) : Type 0 where
   pub marked : (i : ℕ) → i < n → (at marks i ≡ 1) ↔ Repeated kinds highs lows i
 
+-- the most rows that are taken
 abbrev pub most-rows : ℕ
 most-rows = 682

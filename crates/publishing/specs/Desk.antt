@@ -7,7 +7,6 @@ use lib.ListN.{length}
 use Rattle.text.specs.Bytes.{at}
 use Rattle.records.specs.Readings.{Placed}
 use Rattle.records.specs.Grammar.{Record}
-use Rattle.records.specs.Answers.{most-bytes}
 use Rattle.publishing.specs.House.{Some, Among, Mechanism, Ptr, All, Redirect, RedirectOrExp, WithP, PlusAll, Short, SameNetwork, too-many-bytes, Breach}
 use Rattle.publishing.specs.Listing.{most-name, HouseAnswers}
 use Rattle.publishing.specs.declared.HouseAnswer.{HouseAnswer}
@@ -49,7 +48,7 @@ pub record Desk (domain s before after : List ℕ) : Type 0 where
   -- where no breach is listed the record may be published
   pub clean : HouseAnswers domain s before after (HouseAnswer.Listed 0) → (ts : List Placed) → Record s ts → Publishable ts (length s) (length domain)
   -- and one that may be published has none listed, in any list
-  pub none-listed : length domain ≤ most-name → length s ≤ most-bytes → (ts : List Placed) → Record s ts → Publishable ts (length s) (length domain)
+  pub none-listed : length domain ≤ most-name → (ts : List Placed) → Record s ts → Publishable ts (length s) (length domain)
       → HouseAnswers domain s before before (HouseAnswer.Listed 0)
   -- each breach that is listed the record really has
   pub really : (n : ℕ) → HouseAnswers domain s before after (HouseAnswer.Listed n) → (ts : List Placed) → Record s ts → (k : ℕ) → k < n

@@ -1,5 +1,5 @@
--- The cases of the readings of W-211 (H1 to H10), computed: a record's terms, its length and its name's, and the list of its breaches. What is computed is
--- the list that Listing determines (`found-listing`, proofs/Laws/Findings.antt).
+-- Cases of the readings of W-211 (H1 to H10), computed: a record's terms, its length and its name's, and the list of its breaches. What is computed is the
+-- list that Listing determines (`found-listing`, proofs/Laws/Findings.antt).
 use Prim.Native.Nat.{ℕ}
 use mathlib.Core.Path.{_≡_, refl}
 use mathlib.Core.List.{List, [], _∷_}
@@ -17,7 +17,7 @@ use Rattle.records.specs.Readings.{absent, Placed, mechanism, hosts, network4, 
 use Rattle.publishing.specs.Listing.{Entry, entry}
 use Rattle.publishing.specs.Finding.{any, isPresent, isBelow, isExactly, isMechanism, isNamed, redirects, modifies, hasP, isPlusAll, isShort, sameBy, sameNetwork, offends, entryIf, offencesFrom, offences, offencesOf, endOffences, found, ofRule, byRule, ordered}
 
--- the terms of the cases, each at its place; 43 is "+" and 45 "-"
+-- the terms of the cases, each at its place; 43 is "+" and 45 "-". The text of a network, which no rule looks at, is left empty.
 abbrev allAt : ℕ → ℕ → Placed
 allAt sign place = record { place = place; said = mechanism (bytes "all") sign absent }
 
@@ -75,7 +75,7 @@ pub record Cases : Type 0 where
   -- H9: /24 and /25 of one network: not equal
   pub other-length : breaches (ip4At 43 one 24 7 ∷ ip4At 45 one 25 23 ∷ allAt 45 40 ∷ []) 44 ≡ []
   -- H9: `ip4:10.0.0.1 ip6:::ffff:10.0.0.1`: not equal
-  pub mapped : breaches (ip4At 43 one 32 7 ∷ ip6At 281470849482753 128 20 ∷ allAt 45 40 ∷ []) 44 ≡ []
+  pub mapped : breaches (ip4At 43 one 32 7 ∷ ip6At 281470849515521 128 20 ∷ allAt 45 40 ∷ []) 44 ≡ []
   -- H10: 449 bytes together are fine, 450 a breach
   pub fits : breaches (allAt 45 7 ∷ []) 438 ≡ []
   pub too-long : breaches (allAt 45 7 ∷ []) 439 ≡ entry 10 439 ∷ []

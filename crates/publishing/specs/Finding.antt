@@ -55,7 +55,7 @@ unfoldable pub redirects : Placed → Bool
 redirects t = same (t .said .name) (bytes "redirect")
 
 unfoldable pub modifies : Placed → Bool
-modifies t = same (t .said .name) (bytes "redirect") || same (t .said .name) (bytes "exp")
+modifies t = redirects t || same (t .said .name) (bytes "exp")
 
 unfoldable pub hasP : Optional (List ℕ) → Bool
 hasP absent = false
@@ -132,7 +132,7 @@ byRule (suc n) rule es = ofRule rule es ++ byRule n (suc rule) es
 unfoldable pub ordered : List Entry → List Entry
 ordered es = byRule 10 1 es
 
--- what has stood in a row of terms
+-- what has been seen in terms
 unfoldable pub seenOf : List Placed → Seen
 seenOf ts = record { all = any isAll ts; redirect = any redirects ts; modifier = any modifies ts; networks = length (networkRows ts) }
 

@@ -43,7 +43,7 @@ pub record Redirect (t : Placed) : Type 0 where
   pub named : t .said .name ≡ bytes "redirect"
 
 pub data RedirectOrExp (t : Placed) : Type 0 where
-  redirect : t .said .name ≡ bytes "redirect" → RedirectOrExp t
+  redirect : Redirect t → RedirectOrExp t
   explanation : t .said .name ≡ bytes "exp" → RedirectOrExp t
 
 -- the letter of the p macro
@@ -81,7 +81,7 @@ pub data Short (t : Placed) : Type 0 where
   six : {n : ℕ} → t .said .six ≡ present n → n < least-6 → Short t
 
 -- "ip4 or ip6 network equal, length included, .. after clearing the bits below it": one length, and addresses that match at it, so of one family. That
--- this is to be equal after clearing is `clearing-rule` of `address`.
+-- this says the same as being equal after clearing is `clearing-rule` of `address`.
 pub data SameNetwork (t u : Placed) : Type 0 where
   four : {a b : Address} {n : ℕ} → t .said .address ≡ present a → u .said .address ≡ present b → t .said .four ≡ present n → u .said .four ≡ present n
       → Matches a b n → SameNetwork t u

@@ -33,7 +33,7 @@ pub struct Facts {
     pub network: bool,
 }
 
-// What has stood in a row of terms: an `all`, a redirect, a redirect or an exp, and how many networks.
+// What has been seen so far: an `all`, a redirect, a redirect or an exp, and how many networks.
 pub struct Seen {
     pub all: bool,
     pub redirect: bool,
@@ -41,15 +41,18 @@ pub struct Seen {
     pub networks: usize,
 }
 
+// The sign of an `all` that breaks rule (7).
+const PLUS: u8 = 43;
+
 // Shorter prefix lengths break rule (8).
 const LEAST_4: u8 = 8;
 
 const LEAST_6: u8 = 19;
 
-// So many bytes of name and text break rule (10).
+// This many bytes of name and text together, or more, break rule (10).
 const TOO_MANY_BYTES: usize = 450;
 
-// Three columns of rows.
+// Three words for each of 682 rows.
 const TABLE: usize = 2046;
 
 // Whether two tests hold.
@@ -126,7 +129,7 @@ fn facts_of(term: Term) -> Facts
     match term {
         Term::All { sign } => Facts {
             all: true,
-            plus: sign == 43,
+            plus: sign == PLUS,
             ptr: false,
             mechanism: true,
             redirect: false,
@@ -176,7 +179,7 @@ fn facts_of(term: Term) -> Facts
     }
 }
 
-// Nothing has stood.
+// Nothing has been seen.
 fn nothing() -> Seen
     ensures { λ r. ⌜ r ≡ noneSeen ⌝ }
 {
@@ -198,7 +201,7 @@ fn count_after(n: usize, network: bool) -> usize
     n
 }
 
-// What has stood after one more term.
+// What has been seen after one more term.
 fn seen_after(seen: Seen, facts: Facts) -> Seen
     ensures { λ r. ⌜ r ≡ seenAfter seen facts ⌝ }
 {
@@ -239,7 +242,7 @@ fn has_p(s: &[u8], at: usize, next: usize, term: Term) -> bool
     false
 }
 
-// Whether a term of these facts offends against a rule: whether the record has an `all`, what has stood before, whether the term has a p macro, and
+// Whether a term of these facts offends against a rule, by whether the record has an `all`, what has been seen before, whether the term has a p macro, and
 // whether its network is marked.
 fn breaks(whole: bool, seen: Seen, facts: Facts, p: bool, marked: bool, rule: u8) -> bool
     ensures { λ r. ⌜ r ≡ breaksBy whole seen facts p marked rule ⌝ }

@@ -75,7 +75,7 @@ pub fn put_row(term: Term, n: usize, table: &mut [u64])
     }
 }
 
-// Marks the first n rows of a table: by 1 just those that stand earlier.
+// Marks by 1 just those of the first n rows of a table that are the same as an earlier one.
 pub fn mark_rows(table: &[u64], n: usize, marks: &mut [u8])
     requires { ⌜ length (now table) ≡ 3 * most-rows ⌝ }
     requires { ⌜ n ≤ most-rows ⌝ }

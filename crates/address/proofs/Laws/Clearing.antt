@@ -1,5 +1,5 @@
--- Addresses match at a length exactly if they are equal after clearing the bits below it (`clearing-rule`): the bits of an address are the
--- binary digits of its numbers, and the high-order digits of a number are those of a quotient. Assumes nothing.
+-- Addresses match at a length within the width exactly if they are equal after clearing the bits below it (`clearing-rule`): the bits of an address
+-- are the binary digits of its numbers, and the high-order digits of a number are those of a quotient. Assumes nothing.
 use Prim.Native.Nat.{ℕ, zero, suc, _+_, _-_, _*_, _/_, _%_, _^_, _≤_, _<_, min}
 use mathlib.Core.Path.{_≡_, refl, sym, ap, _∙_}
 use mathlib.Core.List.{List, [], _∷_, _++_, append-assoc, append-nil}

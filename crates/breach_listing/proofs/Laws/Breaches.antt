@@ -11,8 +11,7 @@ use Rattle.text.specs.Writing.{Wrote}
 use Rattle.text.proofs.Laws.Writing.{wrote-none, wrote-then, length-wrote}
 use Rattle.address_text.specs.Digits.{inDecimal}
 use Rattle.publishing.specs.Listing.{entry}
-use Rattle.breach_listing.specs.Lines.{ruleText, breachText}
-use Rattle.breach_listing.specs.Writing.{headText, caretText}
+use Rattle.breach_listing.specs.Lines.{ruleText, breachText, headText, caretText}
 
 -- `put_rule_text`
 module _ (rule : ℕ) (out : List ℕ) (at : ℕ) (o : List ℕ) (n : ℕ) where

@@ -17,7 +17,7 @@ use Rattle.publishing.specs.Listing.{Entry, Member, Listing}
 use Rattle.publishing.proofs.Laws.Tests.{source}
 use Rattle.publishing.proofs.Laws.Answers.{terms-rise}
 use Rattle.publishing.proofs.Laws.Desk.{breach-below}
-use Rattle.breach_listing.specs.Lines.{ruleText, breachText, breachTexts, listText, Prints, long-name, unread, many, lists, room}
+use Rattle.breach_listing.specs.Lines.{caretText, headText, ruleText, breachText, breachTexts, listText, Prints, long-name, unread, many, lists, room}
 
 -- a listed place is at most the record's length
 abbrev pub Below : ℕ → List Entry → Type 0
@@ -47,7 +47,7 @@ rule-length rule =
 
 -- a breach, and all of them
 breach-length : (s : List ℕ) (e : Entry) → length s ≤ 4096 → e .place ≤ length s → length (breachText s e) ≤ 8300
-unfolding breachText
+unfolding breachText headText caretText
 breach-length s e h k =
     simp (length-append, length-replicate) (omega (arith, length-decimal (e .rule), length-decimal (e .place), rule-length (e .rule)))
 

@@ -116,7 +116,7 @@ module _ (ts : List Placed) (size name : ℕ) where
     last-modifier {before} {t} a s true e = modifier-is t e
     last-modifier {before} {t} a s false e = absurd (n 6 (t .place) (Breach.after-modifier a (λ m. true-false (modifies t) (is-modifier t m) e) s))
 
-    pub publishable : Publishable ts size name
+    publishable : Publishable ts size name
     publishable =
         record {
           no-ptr = no-term Ptr 1 (λ us u a p. Breach.ptr a p);
@@ -142,7 +142,7 @@ module _ (ts : List Placed) (size name : ℕ) where
       moved (later q) = later (moved q)
   second-all (by-redirect f r) {before} {t} k h s = f (rw (k .split) (some-left All (t ∷ k .after) s))
 
-  pub no-breach : Publishable ts size name → {rule place : ℕ} → Breach ts size name rule place → ⊥
+  no-breach : Publishable ts size name → {rule place : ℕ} → Breach ts size name rule place → ⊥
   no-breach p (Breach.ptr a h) = p .no-ptr (among-some Ptr a h)
   no-breach p (Breach.p-macro a h) = p .no-p (among-some WithP a h)
   no-breach p (Breach.wrong-end (missing f g)) = ends (p .one-end)
@@ -162,6 +162,18 @@ module _ (ts : List Placed) (size name : ℕ) where
   no-breach p (Breach.short a h) = p .no-short (among-some Short a h)
   no-breach p (Breach.same-network a s) = p .networks-differ a s
   no-breach p (Breach.long h) = omega (arith, p .fits)
+
+-- a record that may be published has the empty list, and only such a one
+pub listed-nothing : (ts : List Placed) (size name : ℕ) → Publishable ts size name → Listing ts size name []
+listed-nothing ts size name p =
+    record {
+      sorted = none;
+      lists = λ e. ((λ m. absurd (nobody (λ (x : Entry). x ≡ e) m refl)), (λ b. absurd (no-breach ts size name p b)));
+    }
+
+pub nothing-listed : (ts : List Placed) (size name : ℕ) → Listing ts size name [] → Publishable ts size name
+nothing-listed ts size name l =
+    publishable ts size name (λ rule place b. nobody (λ (x : Entry). x ≡ entry rule place) (l .lists (entry rule place) .1 b) refl)
 
 -- a place of a breach is at most the record's length
 among-below : {lo hi : ℕ} {ts : List Placed} → Ascending lo ts hi → (before : List Placed) (t : Placed) (after : List Placed) → ts ≡ before ++ (t ∷ after) → t .place < hi
@@ -255,24 +267,20 @@ module _ (domain s before after : List ℕ) (n : ℕ) (ts : List Placed) (d : Re
 
 clean-is : {domain s before after : List ℕ} → HouseAnswers domain s before after (HouseAnswer.Listed 0) → (ts : List Placed) → Record s ts
     → Publishable ts (length s) (length domain)
-clean-is {domain} {s} {before} {after} a ts d = publishable ts (length s) (length domain) (λ rule place b. let k = every-is domain s before after 0 ts d a rule place b in omega (arith, k .1 .0))
+clean-is {domain} {s} {before} {after} a ts d =
+    publishable ts (length s) (length domain) (λ rule place b. let k = every-is domain s before after 0 ts d a rule place b in omega (arith, k .1 .0))
 
-none-listed-is : {domain s before : List ℕ} → length domain ≤ most-name → length s ≤ most-bytes → (ts : List Placed) → Record s ts
+none-listed-is : {domain s before : List ℕ} → length domain ≤ most-name → (ts : List Placed) → Record s ts
     → Publishable ts (length s) (length domain) → HouseAnswers domain s before before (HouseAnswer.Listed 0)
 unfolding encoded
-none-listed-is {domain} {s} {before} h k ts d p =
-    HouseAnswers.listed {es = []} h k d
-    (record {
-      sorted = none;
-      lists = λ e. ((λ m. absurd (nobody (λ (x : Entry). x ≡ e) m refl)), (λ b. absurd (no-breach ts (length s) (length domain) p b)));
-    })
-    (omega arith) (omega arith) refl
+none-listed-is {domain} {s} {before} h ts d p =
+    HouseAnswers.listed {es = []} h (omega (arith, p .fits)) d (listed-nothing ts (length s) (length domain) p) (omega arith) (omega arith) refl
 
 pub desk : (domain s before after : List ℕ) → Desk domain s before after
 desk domain s before after =
     record {
       clean = λ a ts d. clean-is a ts d;
-      none-listed = λ h k ts d p. none-listed-is h k ts d p;
+      none-listed = λ h ts d p. none-listed-is h ts d p;
       really = λ n a ts d k h. really-is domain s before after n ts d a k h;
       every = λ n a ts d rule place b. every-is domain s before after n ts d a rule place b;
     }

@@ -1,5 +1,5 @@
 -- Networks are the same exactly if their rows are (`network-same`), and so are those before a term (`rows-same`). From address's
--- `clearing-rule`: addresses match at a length exactly if they are equal after clearing the bits below it.
+-- `clearing-rule`: addresses match at a length within the width exactly if they are equal after clearing the bits below it.
 use Prim.Native.Nat.{ℕ, _≤_}
 use mathlib.Core.Path.{_≡_, refl, sym, ap, _∙_}
 use mathlib.Core.Logic.{_⊎_, ⊎-elim, _↔_}

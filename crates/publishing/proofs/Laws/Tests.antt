@@ -99,14 +99,15 @@ is-redirect t r = true-same (t .said .name) (bytes "redirect") (r .named)
 
 pub modifier-is : (t : Placed) → modifies t ≡ true → RedirectOrExp t
 unfolding modifies
-modifier-is t h = or-elim (same (t .said .name) (bytes "redirect")) (same (t .said .name) (bytes "exp")) h
-    (λ e. RedirectOrExp.redirect (same-true (t .said .name) (bytes "redirect") e))
+modifier-is t h = or-elim (redirects t) (same (t .said .name) (bytes "exp")) h
+    (λ e. RedirectOrExp.redirect (redirect-is t e))
     (λ e. RedirectOrExp.explanation (same-true (t .said .name) (bytes "exp") e))
 
 pub is-modifier : (t : Placed) → RedirectOrExp t → modifies t ≡ true
 unfolding modifies
-is-modifier t (RedirectOrExp.redirect e) = or-left (same (t .said .name) (bytes "redirect")) (same (t .said .name) (bytes "exp")) (true-same (t .said .name) (bytes "redirect") e)
-is-modifier t (RedirectOrExp.explanation e) = or-right (same (t .said .name) (bytes "redirect")) (same (t .said .name) (bytes "exp")) (true-same (t .said .name) (bytes "exp") e)
+is-modifier t (RedirectOrExp.redirect r) = or-left (redirects t) (same (t .said .name) (bytes "exp")) (is-redirect t r)
+is-modifier t (RedirectOrExp.explanation e) =
+    or-right (redirects t) (same (t .said .name) (bytes "exp")) (true-same (t .said .name) (bytes "exp") e)
 
 -- p macros
 p-is : (x : Piece) → isP x ≡ true → IsP x
