@@ -346,7 +346,7 @@ static void house_lengths(void)
            "the longest record");
 }
 
-/* Each row has the faults of all rows below it, and is refused for its own. */
+/* What each row is refused for comes before its other faults. */
 static const struct {
     size_t domain_len;
     const char *record;
