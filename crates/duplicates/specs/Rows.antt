@@ -20,9 +20,10 @@ pub record Repeated (kinds highs lows : List ℕ) (i : ℕ) : Type 0 where
   pub before : earlier < i
   pub same : rowAt kinds highs lows earlier ≡ rowAt kinds highs lows i
 
--- of the first n rows just those are marked by 1 that are the same as an earlier one
+-- the first n rows are marked: by 1 just where an earlier one is the same, and otherwise by 0
 pub record Marks (kinds highs lows : List ℕ) (n : ℕ) (marks : List ℕ) : Type 0 where
   pub marked : (i : ℕ) → i < n → (at marks i ≡ 1) ↔ Repeated kinds highs lows i
+  pub others : (i : ℕ) → i < n → (Repeated kinds highs lows i → ⊥) → at marks i ≡ 0
 
 -- the most rows that are taken
 abbrev pub most-rows : ℕ

@@ -4,9 +4,9 @@ ghost use Rattle.publishing.specs.Finding.{ListsBreaches};
 use offences::put_found;
 use records::RecordAnswer;
 
-pub mod listing;
-pub mod offences;
-pub mod rows;
+mod listing;
+mod offences;
+mod rows;
 
 // What holding a record against the house rules answers: the number of breaches; 22 or 70; or a refusal of record reading with its place.
 pub enum HouseAnswer {
