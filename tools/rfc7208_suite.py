@@ -18,7 +18,7 @@ CASES = 203
 HEADING = "# The openspf.org test suite for RFC 7208, release 2014.04; its licence stands in LICENSE"
 
 # The lengths of the program's buffers.
-LINE, ZONE, ENTRY, TEXT = 1024, 8192, 512, 512
+LINE, ZONE, ENTRY, TEXT = 1024, 12288, 512, 512
 
 # The cases that the house rules decide otherwise than the suite, as they are printed after their names. docs/SUITE.md says more on each.
 DIFFERS = {
@@ -48,6 +48,8 @@ CHOICES = {
 
 KINDS = {"A": 1, "PTR": 12, "MX": 15, "TXT": 16, "AAAA": 28}
 ANSWERED, FAILED, NO_SUCH_NAME = 0, 2, 3
+# The suite names no lifetimes: every entry has this one, in seconds.
+LIFETIME = 300
 RESULTS = ["none", "neutral", "pass", "fail", "softfail", "temperror", "permerror"]
 CASE_KEYS = {"description", "comment", "spec", "strict", "helo", "host", "mailfrom", "result", "explanation"}
 
@@ -143,7 +145,7 @@ def answer(zone, name, kind, seen=()):
 def entry(zone, name, kind):
     """The answer as an entry of a table."""
     status, items = answer(zone, name, kind)
-    body = little(KINDS[kind]) + bytes([status, len(name)]) + name.encode()
+    body = little(KINDS[kind]) + bytes([status]) + LIFETIME.to_bytes(4, "little") + bytes([len(name)]) + name.encode()
     body += b"".join(little(len(item)) + item for item in items)
     need(all(len(item) <= 4096 for item in items), "an item over 4,096 bytes")
     return little(len(body)) + body

@@ -4,10 +4,11 @@ use mathlib.Core.List.{List}
 use mathlib.Core.Bool.{Bool, _&&_}
 use lib.ListN.{length, take}
 use lib.Dec.{leb, ltb}
-use Rattle.answer_table.specs.Layout.{header-size}
+use Rattle.answer_table.specs.Layout.{headerSize}
 use Rattle.answer_table.specs.Numbers.{accepted}
 use Rattle.answer_table.specs.Answers.{most-bytes, most-entries, TableAnswers}
 use Rattle.answer_table.specs.Reader.{isEntry}
+use Rattle.answer_table.specs.declared.Layout.the-variants.{New}
 
 -- the first bytes of a buffer are an accepted table with so many entries
 pub record Checked (buffer : List ℕ) (size count : ℕ) : Type 0 where
@@ -16,7 +17,7 @@ pub record Checked (buffer : List ℕ) (size count : ℕ) : Type 0 where
 
 -- the length of a table with one more entry
 abbrev pub newSize : ℕ → (name items : List ℕ) → ℕ
-newSize size name items = size + (header-size + (length name + length items))
+newSize size name items = size + (headerSize New + (length name + length items))
 
 -- whether a table of that size and with so many entries can take the entry, in a buffer of that length
 unfoldable pub isFit : (kind status : ℕ) (name items : List ℕ) (size count room : ℕ) → Bool

@@ -10,10 +10,11 @@ ghost use Rattle.answer_entry.specs.Appending.{Appends};
 ghost use Rattle.answer_entry.specs.Numbers.{outcomeOf};
 ghost use Rattle.answer_entry.specs.Fitting.{Checked, isFit};
 use answer_table::Found;
+use answer_table::Layout;
 use answer_table::MOST_BYTES;
 use answer_table::MOST_ENTRIES;
 use answer_table::TableAnswer;
-use answer_table::entries::HEADER_SIZE;
+use answer_table::entries;
 use domain::MOST_NAME;
 use text::writing;
 
@@ -51,7 +52,7 @@ fn is_fit(
     if MOST_BYTES < items.len() {
         return false;
     }
-    let end = size + HEADER_SIZE + name.len() + items.len();
+    let end = size + entries::header_size(Layout::New) + name.len() + items.len();
     if MOST_BYTES < end {
         return false;
     }
@@ -59,7 +60,7 @@ fn is_fit(
         return false;
     }
     if count < MOST_ENTRIES {
-        return answer_table::entries::is_entry(kind, status, name, items);
+        return entries::is_entry(kind, status, name, items);
     }
     false
 }
@@ -68,6 +69,7 @@ fn is_fit(
 fn append_lowered(
     kind: u16,
     status: u8,
+    lifetime: u32,
     name: &[u8],
     items: &[u8],
     table: &mut [u8],
@@ -75,13 +77,13 @@ fn append_lowered(
     count: usize,
 ) -> AppendAnswer
     requires { ⌜ Checked (now table) size count × (length (now name) ≤ most-name) ⌝ }
-    ensures { λ r. ⌜ Appends kind status (now (name .entry)) (now (items .entry)) (now (table .entry)) size (outcomeOf r) (now (table .exit)) ⌝ }
+    ensures { λ r. ⌜ Appends kind status lifetime (now (name .entry)) (now (items .entry)) (now (table .entry)) size (outcomeOf r) (now (table .exit)) ⌝ }
 {
     let Found::Missing = answer_table::find(&table[..size], kind, name) else {
         return AppendAnswer::InTable;
     };
     if is_fit(kind, status, name, items, size, count, table.len()) {
-        let end = encoding::put_entry(table, size, kind, status, name, items);
+        let end = encoding::put_entry(table, size, kind, status, lifetime, name, items);
         return AppendAnswer::Appended(end);
     }
     AppendAnswer::Unfit
@@ -91,6 +93,7 @@ fn append_lowered(
 fn append_checked(
     kind: u16,
     status: u8,
+    lifetime: u32,
     name: &[u8],
     items: &[u8],
     table: &mut [u8],
@@ -98,14 +101,24 @@ fn append_checked(
     count: usize,
 ) -> AppendAnswer
     requires { ⌜ Checked (now table) size count ⌝ }
-    ensures { λ r. ⌜ Appends kind status (map lower (now (name .entry))) (now (items .entry)) (now (table .entry)) size (outcomeOf r) (now (table .exit)) ⌝ }
+    ensures { λ r. ⌜ Appends kind status lifetime (map lower (now (name .entry))) (now (items .entry)) (now (table .entry)) size
+        (outcomeOf r) (now (table .exit)) ⌝ }
 {
     if MOST_NAME < name.len() {
         return AppendAnswer::Unfit;
     }
     let mut lowered = [0u8; MOST_NAME];
     let n = writing::put_lowered(name, &mut lowered, 0);
-    append_lowered(kind, status, &lowered[..n], items, table, size, count)
+    append_lowered(
+        kind,
+        status,
+        lifetime,
+        &lowered[..n],
+        items,
+        table,
+        size,
+        count,
+    )
 }
 
 // Appends an entry to the table in the first bytes of a lent buffer. The name is put in lower case; the items are bytes as they stand in an
@@ -113,19 +126,21 @@ fn append_checked(
 pub fn append_entry(
     kind: u16,
     status: u8,
+    lifetime: u32,
     name: &[u8],
     items: &[u8],
     table: &mut [u8],
     size: usize,
 ) -> AppendAnswer
-    ensures { λ r. ⌜ Appends kind status (map lower (now (name .entry))) (now (items .entry)) (now (table .entry)) size (outcomeOf r) (now (table .exit)) ⌝ }
+    ensures { λ r. ⌜ Appends kind status lifetime (map lower (now (name .entry))) (now (items .entry)) (now (table .entry)) size
+        (outcomeOf r) (now (table .exit)) ⌝ }
 {
     if table.len() < size {
         return AppendAnswer::TooLong;
     }
     match answer_table::check_table(&table[..size]) {
         TableAnswer::Accepted(count) => {
-            append_checked(kind, status, name, items, table, size, count)
+            append_checked(kind, status, lifetime, name, items, table, size, count)
         }
         TableAnswer::TooLong => AppendAnswer::TooLong,
         TableAnswer::Malformed(place) => AppendAnswer::Malformed(place),

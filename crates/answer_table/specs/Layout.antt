@@ -1,4 +1,5 @@
--- The answer table as productions: entries "end to end", all numbers "Little-endian".
+-- The answer table as productions: entries "end to end", all numbers "Little-endian". There are two layouts, that of 01 and the one of 02, which amends it:
+-- they differ only in the bytes of a lifetime, so all is said once over the layout. Encodes and Entries are those of the tables that are evaluated.
 use Prim.Native.Nat.{ℕ, _+_, _*_}
 use mathlib.Core.Path.{_≡_}
 use mathlib.Core.List.{List, [], _∷_, _++_}
@@ -7,11 +8,14 @@ use lib.ListN.{length, drop}
 use lib.Dec.{leb, eqb}
 use Rattle.text.specs.Lists.{same}
 use Rattle.domain.specs.Names.{isTableName}
+use Rattle.answer_table.specs.declared.Layout.{Layout}
+use Rattle.answer_table.specs.declared.Layout.the-variants.{Old, New}
 
 -- what an entry holds
 pub record Entry : Type 0 where
   pub kind : ℕ
   pub status : ℕ
+  pub lifetime : ℕ
   pub name : List ℕ
   pub items : List (List ℕ)
 
@@ -85,24 +89,42 @@ unfoldable pub mayHold : ℕ → List (List ℕ) → Bool
 mayHold status [] = true
 mayHold status (d ∷ ds) = eqb status status-answered
 
--- all that follows an entry's length: kind, status, name length, name, items
-unfoldable pub body : List ℕ → ℕ → List ℕ → List ℕ → List ℕ
-body k status name i = k ++ (status ∷ length name ∷ (name ++ i))
+-- how many bytes of a lifetime stand in an entry
+unfoldable pub lifetimeBytes : Layout → ℕ
+lifetimeBytes Old = 0
+lifetimeBytes New = 4
 
--- what stands before an entry's name: its length, kind, status and name length
-abbrev pub header-size : ℕ
-header-size = 6
+-- 02 amends 01 (W-209): "Every entry gains a 4-byte lifetime in seconds after its status byte", of any value for any status; 01's entries have none
+pub data Lifetime : Layout → List ℕ → ℕ → Type 0 where
+  no-lifetime : Lifetime Old [] 0
+  seconds : {low high : List ℕ} {a b : ℕ} → Two low a → Two high b → Lifetime New (low ++ high) (a + 65536 * b)
 
--- "An entry: 2-byte length of all that follows in it; 2-byte kind ..; 1-byte status ..; 1-byte name length; the name; then items"
-pub data Encodes : List ℕ → Entry → Type 0 where
-  entry : {l k name i : List ℕ} {kind status : ℕ} {items : List (List ℕ)} → Two l (length (body k status name i)) → Two k kind
-      → isKind kind ≡ true → isStatus status ≡ true → isTableName name ≡ true → Items kind i items → mayHold status items ≡ true
-      → Encodes (l ++ body k status name i) (record { kind = kind; status = status; name = name; items = items })
+-- all that follows an entry's length: kind, status, lifetime, name length, name, items
+unfoldable pub body : List ℕ → ℕ → (life name i : List ℕ) → List ℕ
+body k status life name i = k ++ (status ∷ (life ++ (length name ∷ (name ++ i))))
+
+-- what stands before an entry's name: its length, kind, status, lifetime and name length
+abbrev pub headerSize : Layout → ℕ
+headerSize lay = 6 + lifetimeBytes lay
+
+-- "An entry: 2-byte length of all that follows in it; 2-byte kind ..; 1-byte status ..; 1-byte name length; the name; then items", with the lifetime
+-- after the status
+pub data EncodesIn (lay : Layout) : List ℕ → Entry → Type 0 where
+  entry : {l k life name i : List ℕ} {kind status lifetime : ℕ} {items : List (List ℕ)} → Two l (length (body k status life name i)) → Two k kind
+      → Lifetime lay life lifetime → isKind kind ≡ true → isStatus status ≡ true → isTableName name ≡ true → Items kind i items
+      → mayHold status items ≡ true
+      → EncodesIn lay (l ++ body k status life name i) (record { kind = kind; status = status; lifetime = lifetime; name = name; items = items })
+
+abbrev pub Encodes : List ℕ → Entry → Type 0
+Encodes = EncodesIn New
 
 -- "entries, end to end; an empty table is allowed"
-pub data Entries : List ℕ → List Entry → Type 0 where
-  none : Entries [] []
-  more : {w rest : List ℕ} {e : Entry} {es : List Entry} → Encodes w e → Entries rest es → Entries (w ++ rest) (e ∷ es)
+pub data EntriesIn (lay : Layout) : List ℕ → List Entry → Type 0 where
+  none : EntriesIn lay [] []
+  more : {w rest : List ℕ} {e : Entry} {es : List Entry} → EncodesIn lay w e → EntriesIn lay rest es → EntriesIn lay (w ++ rest) (e ∷ es)
+
+abbrev pub Entries : List ℕ → List Entry → Type 0
+Entries = EntriesIn New
 
 -- whether an entry is of a kind and name pair
 unfoldable pub isPair : ℕ → List ℕ → Entry → Bool

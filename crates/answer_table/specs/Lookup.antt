@@ -17,8 +17,8 @@ unfoldable pub lookup : ℕ → List ℕ → List Entry → Lookup
 lookup kind name [] = absent
 lookup kind name (e ∷ es) = cond (isPair kind name e) (present e) (lookup kind name es)
 
--- what `find` answers: the entry's status and the part of the table where its items stand
+-- what `find` answers: the entry's status and lifetime, and the part of the table where its items stand
 pub data Finds (t : List ℕ) : Lookup → Found → Type 0 where
   found : {e : Entry} {start end : ℕ} → start ≤ end → end ≤ length t → itemsOf (take (end - start) (drop start t)) ≡ e .items
-      → Finds t (present e) (Found.Entry (e .status) start end)
+      → Finds t (present e) (Found.Entry (e .status) (e .lifetime) start end)
   missing : Finds t absent Found.Missing

@@ -7,7 +7,8 @@ use mathlib.Core.List.{List, [], _∷_}
 use mathlib.Core.Bool.{Bool, true, false, _&&_}
 use lib.ListN.{length, getD, take}
 use lib.Dec.{eqb}
-use Rattle.answer_table.specs.Layout.{Entry, Entries, holds}
+use Rattle.answer_table.specs.Layout.{Entry, EntriesIn, holds}
+use Rattle.answer_table.specs.declared.Layout.{Layout}
 use Rattle.answer_table.specs.declared.Step.{Step}
 
 -- a number below 2 ^ 32 made of a kind and a name's bytes
@@ -47,14 +48,14 @@ pub record NotesPair (large : Bool) (before : List ℕ) (kind : ℕ) (name : Lis
   pub unmarked : new ≡ true → (large ≡ true) × (isPairMarked before kind name ≡ false)
 
 -- entries stand end to end before a place, and in a table of more than 512 bytes their pairs are marked
-pub record Covered (t : List ℕ) (i : ℕ) (marks : List ℕ) : Type 0 where
+pub record Covered (lay : Layout) (t : List ℕ) (i : ℕ) (marks : List ℕ) : Type 0 where
   pub before : List Entry
-  pub entries : Entries (take i t) before
+  pub entries : EntriesIn lay (take i t) before
   pub marked : 512 < length t → (kind : ℕ) (name : List ℕ) → holds kind name before ≡ true → isPairMarked marks kind name ≡ true
   pub words : 512 < length t → length marks ≡ 256
 
 -- the same of the place that a step leads to
-abbrev pub CoveredAfter : List ℕ → Step → List ℕ → Type 0
-CoveredAfter t (Step.Next next) marks = Covered t next marks
-CoveredAfter t Step.Malformed marks = Unit {0}
-CoveredAfter t Step.Repeated marks = Unit {0}
+abbrev pub CoveredAfter : Layout → List ℕ → Step → List ℕ → Type 0
+CoveredAfter lay t (Step.Next next) marks = Covered lay t next marks
+CoveredAfter lay t Step.Malformed marks = Unit {0}
+CoveredAfter lay t Step.Repeated marks = Unit {0}

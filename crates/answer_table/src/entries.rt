@@ -1,16 +1,18 @@
-// One entry of the table.
+// One entry of the table, in either layout.
+ghost use Prim.Native.Nat.{_≤_};
 ghost use mathlib.Core.Path.{_≡_};
 ghost use mathlib.Core.Bool.{_&&_};
 ghost use lib.Dec.{eqb};
 ghost use Rattle.text.specs.Lists.{same};
-ghost use Rattle.answer_table.specs.Layout.{isKind, isStatus};
-ghost use Rattle.answer_table.specs.Reader.{headerOf, isEntry, isWell, nameOf, itemBytes};
+ghost use Rattle.answer_table.specs.Layout.{isKind, isStatus, lifetimeBytes, headerSize};
+ghost use Rattle.answer_table.specs.Reader.{headerOf, lifetimeAt, isEntry};
+use crate::Layout;
 use crate::items;
 use text::bytes;
 use text::words;
 
-// What stands before an entry's name: its length, kind, status and name length.
-pub const HEADER_SIZE: usize = 6;
+// What stands before an entry's name, apart from a lifetime: its length, kind, status and name length.
+const HEADER_SIZE: usize = 6;
 
 // The header of an entry: kind, status, length of the name, size of the whole entry; or that none stands there.
 pub enum Header {
@@ -23,19 +25,39 @@ pub enum Header {
     Broken,
 }
 
-// The header of the entry at the front.
-pub fn read_header(s: &[u8]) -> Header
-    ensures { λ r. ⌜ r ≡ headerOf (now (s .entry)) ⌝ }
+// How many bytes of a lifetime stand after an entry's status.
+fn lifetime_bytes(layout: Layout) -> usize
+    ensures { λ r. ⌜ r ≡ lifetimeBytes layout ⌝ }
+    ensures { λ r. ⌜ r ≤ 4 ⌝ }
 {
-    if s.len() < HEADER_SIZE {
+    match layout {
+        Layout::Old => 0,
+        Layout::New => 4,
+    }
+}
+
+// What stands before an entry's name: its length, kind, status, lifetime and name length.
+pub fn header_size(layout: Layout) -> usize
+    ensures { λ r. ⌜ r ≡ headerSize layout ⌝ }
+    ensures { λ r. ⌜ r ≤ 10 ⌝ }
+{
+    HEADER_SIZE + lifetime_bytes(layout)
+}
+
+// The header of the entry at the front.
+pub fn read_header(layout: Layout, s: &[u8]) -> Header
+    ensures { λ r. ⌜ r ≡ headerOf layout (now (s .entry)) ⌝ }
+{
+    let life = lifetime_bytes(layout);
+    if s.len() < HEADER_SIZE + life {
         return Header::Broken;
     }
     let size = 2 + items::number(s) as usize;
     if s.len() < size {
         return Header::Broken;
     }
-    let n = s[5];
-    if size < HEADER_SIZE + n as usize {
+    let n = s[5 + life];
+    if size < HEADER_SIZE + life + n as usize {
         return Header::Broken;
     }
     Header::Whole {
@@ -81,19 +103,25 @@ fn is_status(status: u8) -> bool
     status == 3
 }
 
-// The name of the entry at the front, by its length.
-pub fn name_of(s: &[u8], n: u8) -> &[u8]
-    ensures { λ r. ⌜ now r ≡ nameOf (now (s .entry)) n ⌝ }
+// The lifetime in seconds of the entry at the front, and 0 where the layout has none.
+pub fn lifetime(layout: Layout, s: &[u8]) -> u32
+    ensures { λ r. ⌜ r ≡ lifetimeAt layout (now (s .entry)) ⌝ }
 {
-    bytes::part(s, HEADER_SIZE, HEADER_SIZE + n as usize)
+    match layout {
+        Layout::Old => 0,
+        Layout::New => {
+            let low = items::number(bytes::part(s, 5, s.len())) as u32;
+            low + 65536 * items::number(bytes::part(s, 7, s.len())) as u32
+        }
+    }
 }
 
-// Whether the entry at the front, of kind k and with a name of n bytes, is of a kind and a name.
-pub fn is_pair(s: &[u8], k: u16, n: u8, kind: u16, name: &[u8]) -> bool
-    ensures { λ r. ⌜ r ≡ (eqb k kind && same (nameOf (now (s .entry)) n) (now (name .entry))) ⌝ }
+// Whether an entry's kind and name are a kind and a name.
+pub fn is_pair(k: u16, own: &[u8], kind: u16, name: &[u8]) -> bool
+    ensures { λ r. ⌜ r ≡ (eqb k kind && same (now (own .entry)) (now (name .entry))) ⌝ }
 {
     if k == kind {
-        return words::equal(name_of(s, n), name);
+        return words::equal(own, name);
     }
     false
 }
@@ -115,27 +143,4 @@ pub fn is_entry(kind: u16, status: u8, name: &[u8], items: &[u8]) -> bool
         return false;
     }
     false
-}
-
-// Whether the entry at the front, with this header, is well-formed.
-pub fn is_well(s: &[u8], h: Header) -> bool
-    ensures { λ r. ⌜ r ≡ isWell (now (s .entry)) h ⌝ }
-{
-    let Header::Whole {
-        kind,
-        status,
-        name: n,
-        size,
-    } = h
-    else {
-        return false;
-    };
-    is_entry(kind, status, name_of(s, n), item_bytes(s, n, size))
-}
-
-// The bytes of the items of the entry at the front, by its name's length and its size.
-fn item_bytes(s: &[u8], n: u8, size: usize) -> &[u8]
-    ensures { λ r. ⌜ now r ≡ itemBytes (now (s .entry)) n size ⌝ }
-{
-    bytes::part(s, HEADER_SIZE + n as usize, size)
 }

@@ -1,7 +1,8 @@
 // Runs the two calls of an evaluation, a line each, and prints a line for each answer. Bytes stand in hex, `-` for none.
 //
 //     first NAMEBUF CLIENT DOMAIN SENDER HELO RECEIVER T TABLE
-//                                       number, kind or place, both counts, the name that is written, and the place and length of the exp argument
+//                                       number, kind or place, both counts, the lifetime, the name that is written, and the place and length of the exp
+//                                       argument
 //     second NAMEBUF TEXTBUF PLACE LENGTH CLIENT DOMAIN SENDER HELO RECEIVER T TABLE
 //                                       number, kind or place, and the text or name that is written
 //
@@ -44,9 +45,11 @@ fn print_placed(number: u8, place: usize) {
     print_next(place);
 }
 
-fn print_counts(counts: Counts) {
+// Prints both counts and the lifetime.
+fn print_counts(counts: Counts, lifetime: u32) {
     print_next(counts.lookups as usize);
     print_next(counts.voids as usize);
+    print_next(lifetime as usize);
 }
 
 // Prints what was written at the front of a buffer.
@@ -67,19 +70,24 @@ fn print_rest(rest: &[u8], kept: bool) {
 // Prints what the first call answered.
 fn print_answer(answer: Answer, name: &[u8]) {
     match answer {
-        Answer::Decided { value, counts } => {
+        Answer::Decided {
+            value,
+            counts,
+            lifetime,
+        } => {
             print_number(value);
-            print_counts(counts);
+            print_counts(counts, lifetime);
             print_rest(b" . 0 0", is_kept(name, 0));
         }
         Answer::Fail {
             counts,
+            lifetime,
             domain: n,
             place,
             length,
         } => {
             print_number(3);
-            print_counts(counts);
+            print_counts(counts, lifetime);
             print_front(name, n);
             print_next(place);
             print_next(length);
@@ -89,19 +97,20 @@ fn print_answer(answer: Answer, name: &[u8]) {
             kind,
             length: n,
             counts,
+            lifetime,
         } => {
             print_placed(7, kind as usize);
-            print_counts(counts);
+            print_counts(counts, lifetime);
             print_front(name, n);
             print_rest(b" 0 0", is_kept(name, n));
         }
         Answer::Refused(number) => {
             print_number(number);
-            print_rest(b" 0 0 . 0 0", is_kept(name, 0));
+            print_rest(b" 0 0 0 . 0 0", is_kept(name, 0));
         }
         Answer::RefusedAt { number, at } => {
             print_placed(number, at);
-            print_rest(b" 0 0 . 0 0", is_kept(name, 0));
+            print_rest(b" 0 0 0 . 0 0", is_kept(name, 0));
         }
     }
 }

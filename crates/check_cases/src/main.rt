@@ -1,5 +1,5 @@
 // Runs whole inputs of the check program, a line each in hex, through the functions that the program calls, and prints what it prints of each: number, kind
-// or place and both counts on a line, and for 3 and 7 the text or name on a second, or `input`.
+// or place, both counts and the lifetime on a line, and for 3 and 7 the text or name on a second, or `input`.
 ghost use Prim.Native.Nat.{_≤_};
 ghost use lib.ListN.{length};
 ghost use Rattle.check_input.specs.Keeping.{most-kept, held-room};
@@ -20,7 +20,7 @@ fn hold_piece(piece: &[u8], held: &mut [u8], n: usize) -> usize
 
 // Prints the answer to what is held.
 fn run_input(input: &[u8]) {
-    let mut out = [0u8; 600];
+    let mut out = [0u8; 640];
     let size = check_input::answer_input(input, &mut out);
     io::write_all(1, part(&out, 0, size));
 }

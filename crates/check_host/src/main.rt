@@ -1,5 +1,5 @@
 // Checks a client: reads client, domain, sender, HELO, receiver and t from standard input, a line each, then the answer table, and prints number, kind
-// or place and both counts on a line, and for 3 and 7 the text or name on a second. A client or t that cannot be read prints `input`.
+// or place, both counts and the lifetime on a line, and for 3 and 7 the text or name on a second. A client or t that cannot be read prints `input`.
 ghost use Prim.Native.Nat.{_≤_};
 ghost use lib.ListN.{length};
 ghost use Rattle.check_host.specs.Reading.{HoldsChunks};
@@ -29,7 +29,7 @@ fn read_input(held: &mut [u8]) -> usize
 
 fn main() {
     let mut held = [0u8; 132234];
-    let mut out = [0u8; 600];
+    let mut out = [0u8; 640];
     let n = read_input(&mut held);
     let size = check_input::answer_input(part(&held, 0, n), &mut out);
     io::write_all(1, part(&out, 0, size));

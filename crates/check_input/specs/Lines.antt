@@ -1,5 +1,5 @@
 -- What the check program prints: "It prints number, kind or place (`.` where absent) and both counts on a line, and for 3 and 7 the text or name
--- on a second; an unreadable client or t prints `input`." "Every printed line, the last too, ends in a newline".
+-- on a second; an unreadable client or t prints `input`." W-209 amends the house rules: it prints the lifetime "after the counts". "Every printed line, the last too, ends in a newline".
 use Prim.Native.Nat.{ℕ}
 use mathlib.Core.Path.{_≡_}
 use mathlib.Core.List.{List, [], _++_}
@@ -23,16 +23,20 @@ unfoldable pub orDot : Optional ℕ → List ℕ
 orDot absent = bytes "."
 orDot (present n) = inDecimal n
 
--- "both counts", which end the line
-unfoldable pub countsText : ℕ → ℕ → List ℕ
-countsText lookups voids = bytes " " ++ inDecimal lookups ++ bytes " " ++ inDecimal voids ++ bytes "\n"
+-- a number after a space
+unfoldable pub spaced : ℕ → List ℕ
+spaced n = bytes " " ++ inDecimal n
+
+-- "both counts", and the lifetime, which ends the line
+unfoldable pub countsText : ℕ → ℕ → ℕ → List ℕ
+countsText lookups voids life = spaced lookups ++ spaced voids ++ spaced life ++ bytes "\n"
 
 -- "number, kind or place .. and both counts on a line"
-unfoldable pub reportText : ℕ → List ℕ → ℕ → ℕ → List ℕ
-reportText number place lookups voids = inDecimal number ++ bytes " " ++ place ++ countsText lookups voids
+unfoldable pub reportText : ℕ → List ℕ → ℕ → ℕ → ℕ → List ℕ
+reportText number place lookups voids life = inDecimal number ++ bytes " " ++ place ++ countsText lookups voids life
 
 unfoldable pub reportLine : Report → List ℕ
-reportLine r = reportText (r .number) (orDot (r .kind-or-place)) (r .lookups) (r .voids)
+reportLine r = reportText (r .number) (orDot (r .kind-or-place)) (r .lookups) (r .voids) (r .lifetime)
 
 -- "for 3 and 7 the text or name on a second"
 unfoldable pub secondLine : Optional (List ℕ) → List ℕ
@@ -57,8 +61,8 @@ pub record Stands (xs before after : List ℕ) (n : ℕ) : Type 0 where
   pub size : n ≡ length xs
   pub buffer : after ≡ overwritten xs before
 
--- what is written after a fail: what the second call hands back, with the counts of the first
-pub record WritesAfterFail (a : Lent) (c : Counts) (before after : List ℕ) (n : ℕ) : Type 0 where
+-- what is written after a fail: what the second call hands back, with the counts and the lifetime of the first
+pub record WritesAfterFail (a : Lent) (c : Counts) (life : ℕ) (before after : List ℕ) (n : ℕ) : Type 0 where
   pub second : Handed
   pub explains : Explains a second
-  pub wrote : Wrote (givenLines (afterFail c second (second .answer))) before 0 after n
+  pub wrote : Wrote (givenLines (afterFail c life second (second .answer))) before 0 after n

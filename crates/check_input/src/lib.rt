@@ -28,7 +28,8 @@ use text::fields::field;
 pub mod keeping;
 pub mod lines;
 
-// The second call, after a fail of the domain's record: writes its number, text or question with the counts of the first, or a refusal with counts of 0.
+// The second call, after a fail of the domain's record: writes its number, text or question with the counts and the lifetime of the first, or a refusal with
+// counts and a lifetime of 0.
 fn answer_fail(
     client: Address,
     domain: &[u8],
@@ -40,9 +41,10 @@ fn answer_fail(
     place: usize,
     size: usize,
     counts: Counts,
+    lifetime: u32,
     out: &mut [u8],
 ) -> usize
-    ensures { λ r. ⌜ WritesAfterFail (lent client (now (domain .entry)) (now (sender .entry)) (now (helo .entry)) (now (receiver .entry)) seconds (now (table .entry)) place size (replicate 253 0) (replicate 500 0)) counts (now (out .entry)) (now (out .exit)) r ⌝ }
+    ensures { λ r. ⌜ WritesAfterFail (lent client (now (domain .entry)) (now (sender .entry)) (now (helo .entry)) (now (receiver .entry)) seconds (now (table .entry)) place size (replicate 253 0) (replicate 500 0)) counts lifetime (now (out .entry)) (now (out .exit)) r ⌝ }
 {
     let none = Counts {
         lookups: 0,
@@ -64,14 +66,14 @@ fn answer_fail(
         &mut text,
     ) {
         Explanation::Text(n) => {
-            let next = put_number(3, counts, out, 0);
+            let next = put_number(3, counts, lifetime, out, 0);
             put_line(part(&text, 0, n), out, next)
         }
         Explanation::Wanting { kind, length: n } => {
-            put_named(kind, counts, part(&name, 0, n), out, 0)
+            put_named(kind, counts, lifetime, part(&name, 0, n), out, 0)
         }
-        Explanation::Refused(number) => put_number(number, none, out, 0),
-        Explanation::RefusedAt { number, at } => put_placed(number, at as u64, none, out, 0),
+        Explanation::Refused(number) => put_number(number, none, 0, out, 0),
+        Explanation::RefusedAt { number, at } => put_placed(number, at as u64, none, 0, out, 0),
     }
 }
 
@@ -103,9 +105,14 @@ fn answer_calls(
         table,
         &mut name,
     ) {
-        Answer::Decided { value, counts } => put_number(value, counts, out, 0),
+        Answer::Decided {
+            value,
+            counts,
+            lifetime,
+        } => put_number(value, counts, lifetime, out, 0),
         Answer::Fail {
             counts,
+            lifetime,
             domain: n,
             place,
             length: size,
@@ -120,15 +127,17 @@ fn answer_calls(
             place,
             size,
             counts,
+            lifetime,
             out,
         ),
         Answer::Wanting {
             kind,
             length: n,
             counts,
-        } => put_named(kind, counts, part(&name, 0, n), out, 0),
-        Answer::Refused(number) => put_number(number, none, out, 0),
-        Answer::RefusedAt { number, at } => put_placed(number, at as u64, none, out, 0),
+            lifetime,
+        } => put_named(kind, counts, lifetime, part(&name, 0, n), out, 0),
+        Answer::Refused(number) => put_number(number, none, 0, out, 0),
+        Answer::RefusedAt { number, at } => put_placed(number, at as u64, none, 0, out, 0),
     }
 }
 
@@ -154,9 +163,9 @@ fn answer_lines(
     answer_calls(a, domain, sender, helo, receiver, t, table, out)
 }
 
-// Checks a whole input and writes what the program prints, which never has more than 600 bytes.
+// Checks a whole input and writes what the program prints, which never has more than 640 bytes.
 pub fn answer_input(input: &[u8], out: &mut [u8]) -> usize
-    requires { ⌜ 600 ≤ length (now out) ⌝ }
+    requires { ⌜ 640 ≤ length (now out) ⌝ }
     ensures { λ r. ⌜ Stands (linesOf (answered (now (input .entry)))) (now (out .entry)) (now (out .exit)) r ⌝ }
 {
     answer_lines(

@@ -1,12 +1,14 @@
-// What the table's answers say of a client, and the name of a question that has no answer.
+// What the table's answers say of a client, their lifetimes, and the name of a question that has no answer.
 ghost use mathlib.Core.Path.{_≡_};
 ghost use Rattle.text.specs.Writing.{overwritten};
 ghost use Rattle.answer_table.specs.Reader.{itemsOf};
+ghost use Rattle.rules.specs.Tree.{sooner};
 ghost use Rattle.rules.specs.Tables.{replyBy};
 ghost use Rattle.rules.specs.Mechanisms.{addressKind, width, itemMatches, anyMatches, includesClient};
 use address::Address;
 use address::FromOctets;
 use answer_table::items;
+use rules::Life;
 use text::writing;
 
 // The kind of the address question of the client's family: A or AAAA.
@@ -61,6 +63,19 @@ pub fn includes_client(client: Address, status: u8, items: &[u8]) -> bool
         return false;
     }
     any_matches(client, width(client), items)
+}
+
+// The smallest lifetime so far, and then that of one entry more.
+pub fn sooner(life: Life, lifetime: u32) -> Life
+    ensures { λ r. ⌜ r ≡ sooner life lifetime ⌝ }
+{
+    let Life::Least(so_far) = life else {
+        return Life::Least(lifetime);
+    };
+    if so_far < lifetime {
+        return Life::Least(so_far);
+    }
+    Life::Least(lifetime)
 }
 
 // Writes a name at the front of a name buffer: that of a question that has no answer, or a failing record's domain.

@@ -16,6 +16,8 @@ pub mod Explaining
 pub mod Together
 -- Unasked: the first's answer depends only on what its own questions find.
 pub mod Unasked
+-- Keeping: the first call's lifetime is the smallest of the entries that its questions found.
+pub mod Keeping
 -- Facts: a wanted name is a name as the table has it, a wanted kind one of five; only a fail has a text; the counts' bounds.
 pub mod Facts
 -- Demand3: demand 3 as one theorem about the calls.

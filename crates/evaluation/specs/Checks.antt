@@ -16,24 +16,25 @@ use Rattle.records.specs.Opening.{Passing, argumentIn}
 use Rattle.records.specs.declared.opening.Modifier.{Modifier}
 use Rattle.records.specs.declared.Term.{Term}
 use Rattle.rules.specs.declared.Counts.{Counts}
+use Rattle.rules.specs.declared.Life.{Life}
 use Rattle.rules.specs.declared.Ending.{Ending}
 use Rattle.rules.specs.declared.FailingPlace.{FailingPlace}
 use Rattle.rules.specs.declared.Matched.{Matched}
 use Rattle.rules.specs.declared.Stepped.{Stepped}
 use Rattle.rules.specs.declared.Span.{Span}
 use Rattle.rules.specs.declared.Checked.{Checked}
-use Rattle.rules.specs.Tree.{run}
+use Rattle.rules.specs.Tree.{SettlesTo}
 use Rattle.rules.specs.Tables.{tableIn}
 use Rattle.rules.specs.Evaluation.{one, modifierOf, termsOf, recordLookup, noCounts}
 use Rattle.rules.specs.Exp.{ExpAt}
-use Rattle.rules.specs.Outcomes.{Settles, spanOf, ExpStands, FailingIn}
+use Rattle.rules.specs.Outcomes.{spanOf, ExpStands, FailingIn}
 
 -- a result that no record's sign gives, and a question without an entry
-abbrev pub endedOf : ℕ → Counts → Checked
-endedOf v c = record { ending = Ending.Result v; counts = c; failing = FailingPlace.Nowhere }
+abbrev pub endedOf : ℕ → Counts → Life → Checked
+endedOf v c l = record { ending = Ending.Result v; counts = c; life = l; failing = FailingPlace.Nowhere }
 
-abbrev pub wantingOf : ℕ → ℕ → Counts → Checked
-wantingOf kind n c = record { ending = Ending.Wanting kind n; counts = c; failing = FailingPlace.Nowhere }
+abbrev pub wantingOf : ℕ → ℕ → Counts → Life → Checked
+wantingOf kind n c l = record { ending = Ending.Wanting kind n; counts = c; life = l; failing = FailingPlace.Nowhere }
 
 -- the sign of a term; a modifier has none
 unfoldable pub signOf : Term → ℕ
@@ -49,11 +50,11 @@ signOf (Term.Explanation from to) = 0
 signOf (Term.Unknown name to) = 0
 
 -- a matching term's result, and for a fail the record that failed
-unfoldable pub signedOf : ℕ → Span → Modifier → Counts → Checked
-signedOf sign domain exp c =
-    cond (eqb sign 43) (endedOf 2 c)
-    (cond (eqb sign 45) (record { ending = Ending.Result 3; counts = c; failing = FailingPlace.In domain exp })
-    (cond (eqb sign 126) (endedOf 4 c) (endedOf 1 c)))
+unfoldable pub signedOf : ℕ → Span → Modifier → Counts → Life → Checked
+signedOf sign domain exp c l =
+    cond (eqb sign 43) (endedOf 2 c l)
+    (cond (eqb sign 45) (record { ending = Ending.Result 3; counts = c; life = l; failing = FailingPlace.In domain exp })
+    (cond (eqb sign 126) (endedOf 4 c l) (endedOf 1 c l)))
 
 -- where a modifier's argument stands in the table, by its place in a record that begins at a place of the table
 unfoldable pub inTable : Modifier → ℕ → Modifier
@@ -69,7 +70,7 @@ FitsTable (Modifier.Part from to) start = (from ≤ to) × (start + to < 2 ^ 63)
 pub record SelectedAt (t : List ℕ) (domain text : Span) : Type 0 where
   pub labels : 1 < labelCount (spanOf t domain)
   pub short : length (spanOf t domain) ≤ 253
-  pub selected : Settles (run (tableIn t) (recordLookup (spanOf t domain) noCounts)) (one (spanOf t text))
+  pub selected : SettlesTo (tableIn t) (recordLookup (spanOf t domain) noCounts) (one (spanOf t text))
   pub stands : (es : List Entry) → Encoded t es → ItemAt t kind-txt (spanOf t domain) (spanOf t text) (text .from)
 
 -- the terms of that record from a place on are to be tried: all before pass, and its redirect and exp stand at the given places
@@ -86,7 +87,7 @@ FindsExp t d (Modifier.Part from to) = ExpStands t d (Modifier.Part from to)
 
 -- a redirect's result
 unfoldable pub redirectedBy : Ending → Checked → Checked
-redirectedBy (Ending.Result v) o = cond (eqb v 0) (endedOf 6 (o .counts)) o
+redirectedBy (Ending.Result v) o = cond (eqb v 0) (endedOf 6 (o .counts) (o .life)) o
 redirectedBy (Ending.Wanting kind n) o = o
 
 abbrev pub redirectedOf : Checked → Checked
@@ -105,4 +106,4 @@ includedBy (Ending.Result v) = includedNow v
 includedBy (Ending.Wanting kind n) = Matched.Stop (Ending.Wanting kind n)
 
 abbrev pub includedOf : Checked → Stepped
-includedOf o = record { matched = includedBy (o .ending); counts = o .counts }
+includedOf o = record { matched = includedBy (o .ending); counts = o .counts; life = o .life }

@@ -25,8 +25,8 @@ pub record Demand3 (s : List ℕ) (calls : Calls s) : Type 0 where
   pub reads : Claim s calls
   -- A text that is refused is never evaluated. For all arguments that fit, every accepted table and whatever `evaluate` hands back then: whichever
   -- check selects the text, the outermost, an include's or a redirect's at any depth, the answer is permerror with the counts k that the evaluation
-  -- had just then, and the buffer is as it was.
+  -- had just then, with some lifetime, and the buffer is as it was.
   pub never : (number place : ℕ) → calls .record-answer ≡ RecordAnswer.Refused number place
       → (a : Lent) (h : Handed) → Evaluates a h → Fit a → (es : List Entry) → length (a .table) ≤ most-bytes → Encoded (a .table) es
       → (e : List ℕ) (k : Counts) → Reaches (tableOf es) (mailIn a) (normal (a .domain)) noCounts e k → Selects (tableOf es) e s
-      → h ≡ handed (Answer.Decided result-permerror k) (a .name)
+      → (life : ℕ) × (h ≡ handed (Answer.Decided result-permerror k life) (a .name))

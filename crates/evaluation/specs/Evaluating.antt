@@ -12,10 +12,12 @@ use Rattle.answer_table.specs.declared.TableAnswer.{TableAnswer}
 use Rattle.answer_table.specs.declared.TableAnswer.the-variants.{Accepted, TooLong, Malformed, Repeated}
 use Rattle.answer_table.specs.Reader.{checkTable}
 use Rattle.macros.specs.Expansion.{isSender, isHost, isShort}
-use Rattle.rules.specs.Tree.{Settled, run}
+use Rattle.rules.specs.declared.Life.{Life}
+use Rattle.rules.specs.Tree.{Table, Settled, run}
+use Rattle.rules.specs.Lifetimes.{lifeOf, seconds}
 use Rattle.rules.specs.Tables.{tableIn}
 use Rattle.rules.specs.Mechanisms.{Mail}
-use Rattle.rules.specs.Evaluation.{Verdict, verdict}
+use Rattle.rules.specs.Evaluation.{evaluation, Verdict, verdict}
 use Rattle.rules.specs.Outcomes.{mailOf}
 use Rattle.evaluation.specs.Numbers.{Outcome, refused, refused-at, settles}
 
@@ -52,20 +54,25 @@ refusalOf domain sender helo receiver name =
     cond (isSender sender) (cond (isHost helo && isHost receiver) (cond (isShort domain) (cond (leb 253 name) 0 23) 22) 21) 20
 
 -- 24, 25 and 26
-unfoldable pub afterTable : TableAnswer → Settled Verdict → Outcome
-afterTable (Accepted n) x = settles x
-afterTable TooLong x = refused 24
-afterTable (Malformed p) x = refused-at 25 p
-afterTable (Repeated p) x = refused-at 26 p
+unfoldable pub afterTable : TableAnswer → Settled Verdict → ℕ → Outcome
+afterTable (Accepted n) x life = settles x life
+afterTable TooLong x life = refused 24
+afterTable (Malformed p) x life = refused-at 25 p
+afterTable (Repeated p) x life = refused-at 26 p
+
+-- the lifetime of an evaluation; W-209: "the first call's result", so an explanation's entries never count
+unfoldable pub lifetimeOf : Table → Mail → List ℕ → ℕ
+lifetimeOf t mail domain = seconds (lifeOf (run t Life.Unmet (evaluation mail domain)))
 
 -- what one call gave: 20 to 23, then the table's, then the evaluation with its text
 unfoldable pub evaluated : Address → (domain sender helo receiver : List ℕ) → ℕ → (table name text : List ℕ) → Outcome
-evaluated client domain sender helo receiver seconds table name text =
+evaluated client domain sender helo receiver t table name text =
     cond (isSender sender)
     (cond (isHost helo && isHost receiver)
     (cond (isShort domain)
     (cond (hasRoom name text)
-    (afterTable (checkTable table) (run (tableIn table) (verdict (mailFor client sender helo receiver seconds) domain)))
+    (afterTable (checkTable table) (run (tableIn table) Life.Unmet (verdict (mailFor client sender helo receiver t) domain))
+    (lifetimeOf (tableIn table) (mailFor client sender helo receiver t) domain))
     (refused 23))
     (refused 22))
     (refused 21))

@@ -1,6 +1,7 @@
 -- The first call: what it is lent and hands back, and what it answers, by the table's list of entries. W-203 amends the house rules: "the first call gives
 -- the result and, for fail, the failing record's domain (in the name buffer, as d shows it) and the place and length of its exp argument in the table,
--- or 0 for both where it has none". No reader of the table is named; records and macro strings enter by their readers, which the laws of `records` and
+-- or 0 for both where it has none". W-209: "the first call's result, 7 included," gains a lifetime, "the smallest among the entries it consulted, or 0 if none"
+-- (`kept-for`, proofs/Laws/Keeping.antt). No reader of the table is named; records and macro strings enter by their readers, which the laws of `records` and
 -- `macros` tie to the productions. What is lent determines what is handed back (`first-one`, proofs/Laws/Deciding.antt).
 use Prim.Native.Nat.{ℕ, _-_, _≤_}
 use mathlib.Core.Path.{_≡_}
@@ -14,8 +15,10 @@ use Rattle.answer_table.specs.Answers.{TableAnswers, Encoded, most-bytes}
 use Rattle.records.specs.Readings.{absent, present}
 use Rattle.records.specs.declared.opening.Modifier.{Modifier}
 use Rattle.rules.specs.declared.Counts.{Counts}
+use Rattle.rules.specs.declared.Life.{Life}
 use Rattle.rules.specs.declared.FailingPlace.{FailingPlace}
 use Rattle.rules.specs.Tree.{Settled, settled, wanting, run}
+use Rattle.rules.specs.Lifetimes.{seconds}
 use Rattle.rules.specs.Tables.{tableOf}
 use Rattle.rules.specs.Mechanisms.{Mail}
 use Rattle.rules.specs.Evaluation.{Failing, Result, evaluation}
@@ -57,13 +60,13 @@ abbrev pub Fit : Lent → Type 0
 Fit a = Fits (a .domain) (a .sender) (a .helo) (a .receiver) (hasNameRoom (a .name))
 
 -- what the call comes to: refused, without or with a place; a result but fail; a fail, with the failing record's domain and its exp argument's place and
--- length; or a question that is missing
+-- length; or a question that is missing. The last three with the counts and, after them, the lifetime
 pub data Outcome : Type 0 where
   refused : ℕ → Outcome
   refused-at : ℕ → ℕ → Outcome
-  decided : ℕ → Counts → Outcome
-  failed : Counts → List ℕ → ℕ → ℕ → Outcome
-  wants : ℕ → List ℕ → Counts → Outcome
+  decided : ℕ → Counts → ℕ → Outcome
+  failed : Counts → ℕ → List ℕ → ℕ → ℕ → Outcome
+  wants : ℕ → List ℕ → Counts → ℕ → Outcome
 
 -- a refusal of the table, with its place where it has one
 abbrev pub refusedBy : ℕ → Place → Outcome
@@ -74,17 +77,17 @@ refusedBy number (byte p) = refused-at number p
 unfoldable pub answerOf : Outcome → Answer
 answerOf (refused number) = Answer.Refused number
 answerOf (refused-at number place) = Answer.RefusedAt number place
-answerOf (decided value c) = Answer.Decided value c
-answerOf (failed c d place size) = Answer.Fail c (length d) place size
-answerOf (wants kind n c) = Answer.Wanting kind (length n) c
+answerOf (decided value c life) = Answer.Decided value c life
+answerOf (failed c life d place size) = Answer.Fail c life (length d) place size
+answerOf (wants kind n c life) = Answer.Wanting kind (length n) c life
 
 -- the name buffer is written for 3 and 7 only; "A buffer that is written keeps all bytes after the written length."; 20 to 26: "nothing written"
 unfoldable pub nameAfter : Outcome → List ℕ → List ℕ
 nameAfter (refused number) before = before
 nameAfter (refused-at number place) before = before
-nameAfter (decided value c) before = before
-nameAfter (failed c d place size) before = overwritten d before
-nameAfter (wants kind n c) before = overwritten n before
+nameAfter (decided value c life) before = before
+nameAfter (failed c life d place size) before = overwritten d before
+nameAfter (wants kind n c life) before = overwritten n before
 
 -- the answer and the buffer afterwards
 pub record Says (o : Outcome) (r : Answer) (name name′ : List ℕ) : Type 0 where
@@ -93,10 +96,10 @@ pub record Says (o : Outcome) (r : Answer) (name name′ : List ℕ) : Type 0 wh
 
 -- what the table t settles, as an outcome. A fail and nothing else names the record that failed (`evaluation-facts`, rules/proofs/Laws/Verdicts.antt).
 pub data Comes (t : List ℕ) : Settled Result → Outcome → Type 0 where
-  decides : {r : Result} → r .failing ≡ absent → Comes t (settled r) (decided (r .value) (r .counts))
-  fails : {r : Result} {f : Failing} {place size : ℕ} → r .failing ≡ present f → ExpOf t (f .domain) (f .exp) place size
-      → Comes t (settled r) (failed (r .counts) (f .domain) place size)
-  lacks : {kind : ℕ} {n : List ℕ} {c : Counts} → Comes t (wanting kind n c) (wants kind n c)
+  decides : {r : Result} {l : Life} → r .failing ≡ absent → Comes t (settled r l) (decided (r .value) (r .counts) (seconds l))
+  fails : {r : Result} {f : Failing} {l : Life} {place size : ℕ} → r .failing ≡ present f → ExpOf t (f .domain) (f .exp) place size
+      → Comes t (settled r l) (failed (r .counts) (seconds l) (f .domain) place size)
+  lacks : {kind : ℕ} {n : List ℕ} {c : Counts} {l : Life} → Comes t (wanting kind n c l) (wants kind n c (seconds l))
 
 -- "Evaluation tests 20 to 24 in that order, then whichever of 25 and 26 has the earlier place (25 if equal)"; then the evaluation over the one list
 -- of entries that the table encodes. "The first never asks for an explanation's TXT": no explanation is among its questions.
@@ -104,7 +107,7 @@ pub data Answers (a : Lent) : Outcome → Type 0 where
   refuses : {number : ℕ} → Refuses (a .domain) (a .sender) (a .helo) (a .receiver) (hasNameRoom (a .name)) number → Answers a (refused number)
   bad-table : {number : ℕ} {place : Place} → Fit a → TableAnswers (a .table) (table-refused number place) → Answers a (refusedBy number place)
   evaluates : {es : List Entry} {o : Outcome} → Fit a → length (a .table) ≤ most-bytes → Encoded (a .table) es
-      → Comes (a .table) (run (tableOf es) (evaluation (mailIn a) (a .domain))) o → Answers a o
+      → Comes (a .table) (run (tableOf es) Life.Unmet (evaluation (mailIn a) (a .domain))) o → Answers a o
 
 -- what `evaluate` promises of its answer and of the lent buffer afterwards
 pub record Evaluates (a : Lent) (h : Handed) : Type 0 where
@@ -121,9 +124,9 @@ unfoldable pub sizeOf : Modifier → ℕ
 sizeOf Modifier.Absent = 0
 sizeOf (Modifier.Part from to) = to - from
 
-unfoldable pub finished : List ℕ → ℕ → Counts → FailingPlace → Outcome
-finished t v c FailingPlace.Nowhere = decided v c
-finished t v c (FailingPlace.In domain exp) = failed c (spanOf t domain) (placeOf exp) (sizeOf exp)
+unfoldable pub finished : List ℕ → ℕ → Counts → ℕ → FailingPlace → Outcome
+finished t v c life FailingPlace.Nowhere = decided v c life
+finished t v c life (FailingPlace.In domain exp) = failed c life (spanOf t domain) (placeOf exp) (sizeOf exp)
 
 pub record Decides (t : List ℕ) (x : Settled Result) (r : Answer) (name name′ : List ℕ) : Type 0 where
   pub outcome : Outcome

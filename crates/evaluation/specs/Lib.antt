@@ -1,4 +1,4 @@
--- What the contracts of this crate are said in; what both calls give together; demand 3; and that SPF entries are ignored.
+-- What the contracts of this crate are said in; what both calls give together; how long a decision may be kept; demand 3; and that SPF entries are ignored.
 -- Checks: what the parts of a check answer.
 pub mod Checks
 -- Numbers: what an evaluation as one call came to.
@@ -11,6 +11,8 @@ pub mod First
 pub mod Second
 -- Together: both calls give what one gave, as statements.
 pub mod Together
+-- Keeping: how long the first call's decision may be kept, as one statement.
+pub mod Keeping
 -- Demand3: reading a record, reading its terms and evaluating, as one statement.
 pub mod Demand3
 -- SpfEntries: SPF entries are ignored, as one statement.

@@ -13,6 +13,7 @@ use Rattle.answer_table.specs.Layout.{Entry}
 use Rattle.answer_table.specs.Numbers.{Place, nowhere, byte, refused as table-refused}
 use Rattle.answer_table.specs.Answers.{TableAnswers, Encoded, most-bytes}
 use Rattle.records.specs.Readings.{present}
+use Rattle.rules.specs.declared.Life.{Life}
 use Rattle.rules.specs.declared.Explained.{Explained}
 use Rattle.rules.specs.Tree.{Settled, settled, wanting, run}
 use Rattle.rules.specs.Tables.{tableOf}
@@ -108,17 +109,17 @@ pub record Says (o : Outcome) (r : Explanation) (name name′ text text′ : Lis
   pub name-buffer : name′ ≡ nameAfter o name
   pub text-buffer : text′ ≡ textAfter o text
 
--- what the table settles of an explanation, as an outcome; a missing question has counts of 0
+-- what the table settles of an explanation, as an outcome; a missing question has counts of 0, and W-209 gives this call no lifetime
 unfoldable pub comesTo : Settled (List ℕ) → Outcome
-comesTo (settled s) = shows s
-comesTo (wanting kind n c) = wants kind n
+comesTo (settled s l) = shows s
+comesTo (wanting kind n c l) = wants kind n
 
 -- what place and size come to for a domain, over a table t that encodes the entries es: "empty for 0 and 0"; the text or the question, if they are its exp
 -- argument; 28 for any other
 pub data Judges (t : List ℕ) (es : List Entry) (mail : Mail) (domain : Naming) (place size : ℕ) : Outcome → Type 0 where
   none : place ≡ 0 → size ≡ 0 → Judges t es mail domain place size (shows [])
   argument : {d x : List ℕ} → domain ≡ Naming.name d → ExpAt t d place x → length x ≡ size
-      → Judges t es mail domain place size (comesTo (run (tableOf es) (explanation mail d (present x) noCounts)))
+      → Judges t es mail domain place size (comesTo (run (tableOf es) Life.Unmet (explanation mail d (present x) noCounts)))
   no-argument : (place ≡ 0 → size ≡ 0 → ⊥) → ((d x : List ℕ) → domain ≡ Naming.name d → ExpAt t d place x → length x ≡ size → ⊥)
       → Judges t es mail domain place size (refused 28)
 

@@ -21,7 +21,7 @@ use Rattle.evaluation.specs.Evaluating.{hasRoom, evaluated}
 use Rattle.evaluation.specs.First as first
 use Rattle.evaluation.specs.Second as second
 
--- a number with its kind or place and counts, and what comes with it: a fail's text, or a wanted question's name
+-- a number with its kind or place, counts and lifetime, and what comes with it: a fail's text, or a wanted question's name
 pub record Given : Type 0 where
   pub report : Report
   pub bytes : Optional (List ℕ)
@@ -30,29 +30,31 @@ pub record Given : Type 0 where
 abbrev pub oneGave : Outcome → Given
 oneGave o = record { report = reportOf o; bytes = bytesOf o }
 
-abbrev pub given : ℕ → Optional ℕ → Counts → Optional (List ℕ) → Given
-given number kind-or-place c s = record { report = record { number = number; kind-or-place = kind-or-place; lookups = c .lookups; voids = c .voids }; bytes = s }
+abbrev pub given : ℕ → Optional ℕ → Counts → ℕ → Optional (List ℕ) → Given
+given number kind-or-place c life s =
+    record { report = record { number = number; kind-or-place = kind-or-place; lookups = c .lookups; voids = c .voids; lifetime = life }; bytes = s }
 
 -- the second call after a fail: the same arguments and table, with the domain that the first wrote and the place and length that it answered
 abbrev pub following : first.Lent → first.Handed → (n place size : ℕ) → (name text : List ℕ) → second.Lent
 following a h n place size name text =
     second.lent (a .client) (take n (h .name)) (a .sender) (a .helo) (a .receiver) (a .seconds) (a .table) place size name text
 
--- "number, question or text of the second with the counts of the first"; a refusal has none
-abbrev pub afterFail : Counts → second.Handed → Explanation → Given
-afterFail c k (Explanation.Text n) = given 3 absent c (present (take n (k .text)))
-afterFail c k (Explanation.Wanting kind n) = given 7 (present kind) c (present (take n (k .name)))
-afterFail c k (Explanation.Refused number) = given number absent noCounts absent
-afterFail c k (Explanation.RefusedAt number place) = given number (present place) noCounts absent
+-- "number, question or text of the second with the counts of the first", and W-209 adds the first's lifetime; a refusal has none
+abbrev pub afterFail : Counts → ℕ → second.Handed → Explanation → Given
+afterFail c life k (Explanation.Text n) = given 3 absent c life (present (take n (k .text)))
+afterFail c life k (Explanation.Wanting kind n) = given 7 (present kind) c life (present (take n (k .name)))
+afterFail c life k (Explanation.Refused number) = given number absent noCounts 0 absent
+afterFail c life k (Explanation.RefusedAt number place) = given number (present place) noCounts 0 absent
 
 -- what both calls give: after a fail what the second makes of it, lent the buffers name and text; otherwise what the first gives
 pub data BothGive (a : first.Lent) (h : first.Handed) (name text : List ℕ) : Given → Type 0 where
-  decided : {value : ℕ} {c : Counts} → h .answer ≡ Answer.Decided value c → BothGive a h name text (given value absent c absent)
-  wanting : {kind n : ℕ} {c : Counts} → h .answer ≡ Answer.Wanting kind n c → BothGive a h name text (given 7 (present kind) c (present (take n (h .name))))
-  refused : {number : ℕ} → h .answer ≡ Answer.Refused number → BothGive a h name text (given number absent noCounts absent)
-  refused-at : {number place : ℕ} → h .answer ≡ Answer.RefusedAt number place → BothGive a h name text (given number (present place) noCounts absent)
-  failed : {c : Counts} {n place size : ℕ} {k : second.Handed} → h .answer ≡ Answer.Fail c n place size
-      → second.Explains (following a h n place size name text) k → BothGive a h name text (afterFail c k (k .answer))
+  decided : {value life : ℕ} {c : Counts} → h .answer ≡ Answer.Decided value c life → BothGive a h name text (given value absent c life absent)
+  wanting : {kind n life : ℕ} {c : Counts} → h .answer ≡ Answer.Wanting kind n c life
+      → BothGive a h name text (given 7 (present kind) c life (present (take n (h .name))))
+  refused : {number : ℕ} → h .answer ≡ Answer.Refused number → BothGive a h name text (given number absent noCounts 0 absent)
+  refused-at : {number place : ℕ} → h .answer ≡ Answer.RefusedAt number place → BothGive a h name text (given number (present place) noCounts 0 absent)
+  failed : {c : Counts} {life n place size : ℕ} {k : second.Handed} → h .answer ≡ Answer.Fail c life n place size
+      → second.Explains (following a h n place size name text) k → BothGive a h name text (afterFail c life k (k .answer))
 
 -- "Together they give what one gave": for all arguments, fitting or not, with any two buffers for the second call that have room
 abbrev pub Together : Type 0
@@ -68,7 +70,7 @@ pub data Made : Explanation → Type 0 where
 
 abbrev pub Never28 : Type 0
 Never28 =
-    (a : first.Lent) (h : first.Handed) → first.Evaluates a h → (c : Counts) (n place size : ℕ) → h .answer ≡ Answer.Fail c n place size
+    (a : first.Lent) (h : first.Handed) → first.Evaluates a h → (c : Counts) (life n place size : ℕ) → h .answer ≡ Answer.Fail c life n place size
     → (name text : List ℕ) → hasRoom name text ≡ true → (k : second.Handed) → second.Explains (following a h n place size name text) k → Made (k .answer)
 
 -- the same call with another table
@@ -78,7 +80,8 @@ withTable a t = first.lent (a .client) (a .domain) (a .sender) (a .helo) (a .rec
 -- two answers over two tables are the same but for where the exp argument stands, which is the same argument
 pub data SameAnswer (t u : List ℕ) : Answer → Answer → Type 0 where
   same : {r : Answer} → SameAnswer t u r r
-  moved : {c : Counts} {n p q : ℕ} {d x : List ℕ} → ExpAt t d p x → ExpAt u d q x → SameAnswer t u (Answer.Fail c n p (length x)) (Answer.Fail c n q (length x))
+  moved : {c : Counts} {life n p q : ℕ} {d x : List ℕ} → ExpAt t d p x → ExpAt u d q x
+      → SameAnswer t u (Answer.Fail c life n p (length x)) (Answer.Fail c life n q (length x))
 
 pub record SameButPlace (t u : List ℕ) (h g : first.Handed) : Type 0 where
   pub answer : SameAnswer t u (h .answer) (g .answer)

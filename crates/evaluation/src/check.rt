@@ -24,6 +24,7 @@ use rules::Checked;
 use rules::Counts;
 use rules::Ending;
 use rules::FailingPlace;
+use rules::Life;
 use rules::Matched;
 use rules::Selected;
 use rules::Span;
@@ -32,23 +33,25 @@ use rules::Target;
 use text::bytes;
 
 // A result that no record's sign gives.
-pub fn ended(value: u8, counts: Counts) -> Checked
-    ensures { λ r. ⌜ r ≡ endedOf value counts ⌝ }
+pub fn ended(value: u8, counts: Counts, life: Life) -> Checked
+    ensures { λ r. ⌜ r ≡ endedOf value counts life ⌝ }
 {
     Checked {
         ending: Ending::Result(value),
         counts,
+        life,
         failing: FailingPlace::Nowhere,
     }
 }
 
 // A question without an entry.
-fn wanting(kind: u16, size: usize, counts: Counts) -> Checked
-    ensures { λ r. ⌜ r ≡ wantingOf kind size counts ⌝ }
+fn wanting(kind: u16, size: usize, counts: Counts, life: Life) -> Checked
+    ensures { λ r. ⌜ r ≡ wantingOf kind size counts life ⌝ }
 {
     Checked {
         ending: Ending::Wanting { kind, length: size },
         counts,
+        life,
         failing: FailingPlace::Nowhere,
     }
 }
@@ -102,30 +105,31 @@ fn sign_of(term: Term) -> u8
 }
 
 // The result of a sign, and for a fail the record that failed.
-fn sign_result(sign: u8, domain: Span, exp: Modifier, counts: Counts) -> Checked
-    ensures { λ r. ⌜ r ≡ signedOf sign domain exp counts ⌝ }
+fn sign_result(sign: u8, domain: Span, exp: Modifier, counts: Counts, life: Life) -> Checked
+    ensures { λ r. ⌜ r ≡ signedOf sign domain exp counts life ⌝ }
 {
     if sign == 43 {
-        return ended(2, counts);
+        return ended(2, counts, life);
     }
     if sign == 45 {
         return Checked {
             ending: Ending::Result(3),
             counts,
+            life,
             failing: FailingPlace::In { domain, exp },
         };
     }
     if sign == 126 {
-        return ended(4, counts);
+        return ended(4, counts, life);
     }
-    ended(1, counts)
+    ended(1, counts, life)
 }
 
 // A matching term gives its sign's result.
-fn signed(term: Term, domain: Span, exp: Modifier, counts: Counts) -> Checked
-    ensures { λ r. ⌜ r ≡ signedOf (signOf term) domain exp counts ⌝ }
+fn signed(term: Term, domain: Span, exp: Modifier, counts: Counts, life: Life) -> Checked
+    ensures { λ r. ⌜ r ≡ signedOf (signOf term) domain exp counts life ⌝ }
 {
-    sign_result(sign_of(term), domain, exp, counts)
+    sign_result(sign_of(term), domain, exp, counts, life)
 }
 
 // Where a modifier's argument stands in the table, by its place in a record that begins at a place of the table.
@@ -152,19 +156,23 @@ pub fn check_domain(
     table: &[u8],
     domain: &[u8],
     counts: Counts,
+    life: Life,
     out: &mut [u8],
 ) -> Checked
     requires { ⌜ (length (now sender) ≤ 320) × (length (now domain) ≤ 253) × (counts .lookups ≤ 10) × (counts .voids ≤ 2) ⌝ }
-    ensures { λ r. ⌜ SaysCheck (now (table .entry)) (run (tableIn (now (table .entry))) (whole (mailOf client (now (sender .entry)) (now (helo .entry)) (now (receiver .entry)) seconds) (name (now (domain .entry))) counts)) r (now (out .entry)) (now (out .exit)) ⌝ }
+    ensures { λ r. ⌜ SaysCheck (now (table .entry)) (run (tableIn (now (table .entry))) life (whole (mailOf client (now (sender .entry)) (now (helo .entry)) (now (receiver .entry)) seconds) (name (now (domain .entry))) counts)) r (now (out .entry)) (now (out .exit)) ⌝ }
 {
     if domain::count_labels(domain) <= 1 {
-        return ended(0, counts);
+        return ended(0, counts, life);
     }
-    match record_lookup::select_record(table, domain) {
-        Selected::Ends(value) => ended(value, counts),
+    let found = record_lookup::select_record(table, domain, life);
+    let selected = found.selected;
+    let met = found.life;
+    match selected {
+        Selected::Ends(value) => ended(value, counts, met),
         Selected::Missing => {
             client_match::want(domain, out);
-            wanting(16, domain.len(), counts)
+            wanting(16, domain.len(), counts, met)
         }
         Selected::One {
             domain: place,
@@ -179,6 +187,7 @@ pub fn check_domain(
             place,
             text,
             counts,
+            met,
             out,
         ),
     }
@@ -195,10 +204,11 @@ fn evaluate_record(
     domain: Span,
     text: Span,
     counts: Counts,
+    life: Life,
     out: &mut [u8],
 ) -> Checked
     requires { ⌜ (length (now sender) ≤ 320) × (counts .lookups ≤ 10) × (counts .voids ≤ 2) × SelectedAt (now table) domain text ⌝ }
-    ensures { λ r. ⌜ SaysCheck (now (table .entry)) (run (tableIn (now (table .entry))) (readOutcome (mailOf client (now (sender .entry)) (now (helo .entry)) (now (receiver .entry)) seconds) (whole (mailOf client (now (sender .entry)) (now (helo .entry)) (now (receiver .entry)) seconds)) (spanOf (now (table .entry)) domain) (spanOf (now (table .entry)) text) (readRecord (spanOf (now (table .entry)) text)) counts)) r (now (out .entry)) (now (out .exit)) ⌝ }
+    ensures { λ r. ⌜ SaysCheck (now (table .entry)) (run (tableIn (now (table .entry))) life (readOutcome (mailOf client (now (sender .entry)) (now (helo .entry)) (now (receiver .entry)) seconds) (whole (mailOf client (now (sender .entry)) (now (helo .entry)) (now (receiver .entry)) seconds)) (spanOf (now (table .entry)) domain) (spanOf (now (table .entry)) text) (readRecord (spanOf (now (table .entry)) text)) counts)) r (now (out .entry)) (now (out .exit)) ⌝ }
 {
     let reading = opening::open_record(bytes::part(table, text.from, text.to), client);
     let opening = reading.opening;
@@ -206,8 +216,10 @@ fn evaluate_record(
     let redirect = modifiers.redirect;
     let exp = modifiers.exp;
     match opening {
-        Opening::Refused { number: _, at: _ } => ended(6, counts),
-        Opening::Matched { sign } => { sign_result(sign, domain, in_table(exp, text.from), counts) }
+        Opening::Refused { number: _, at: _ } => ended(6, counts, life),
+        Opening::Matched { sign } => {
+            sign_result(sign, domain, in_table(exp, text.from), counts, life)
+        }
         Opening::Open { at } => try_terms(
             client,
             sender,
@@ -221,6 +233,7 @@ fn evaluate_record(
             in_table(exp, text.from),
             at,
             counts,
+            life,
             out,
         ),
     }
@@ -240,14 +253,16 @@ fn try_terms(
     exp: Modifier,
     start: usize,
     counts: Counts,
+    life: Life,
     out: &mut [u8],
 ) -> Checked
     requires { ⌜ (length (now sender) ≤ 320) × (counts .lookups ≤ 10) × (counts .voids ≤ 2) × Underway client (now table) domain text redirect exp start ⌝ }
-    ensures { λ r. ⌜ SaysCheck (now (table .entry)) (run (tableIn (now (table .entry))) (tryTerms (mailOf client (now (sender .entry)) (now (helo .entry)) (now (receiver .entry)) seconds) (whole (mailOf client (now (sender .entry)) (now (helo .entry)) (now (receiver .entry)) seconds)) (spanOf (now (table .entry)) domain) (termsOf (spanOf (now (table .entry)) text) after-version) (termsOf (spanOf (now (table .entry)) text) after-version) counts)) r (now (out .entry)) (now (out .exit)) ⌝ }
+    ensures { λ r. ⌜ SaysCheck (now (table .entry)) (run (tableIn (now (table .entry))) life (tryTerms (mailOf client (now (sender .entry)) (now (helo .entry)) (now (receiver .entry)) seconds) (whole (mailOf client (now (sender .entry)) (now (helo .entry)) (now (receiver .entry)) seconds)) (spanOf (now (table .entry)) domain) (termsOf (spanOf (now (table .entry)) text) after-version) (termsOf (spanOf (now (table .entry)) text) after-version) counts)) r (now (out .entry)) (now (out .exit)) ⌝ }
 {
     let s = bytes::part(table, text.from, text.to);
     let mut at = start;
     let mut so_far = counts;
+    let mut least = life;
     while at <= s.len() {
         let TermAnswer::Is {
             at: place,
@@ -266,6 +281,7 @@ fn try_terms(
                 s,
                 redirect,
                 so_far,
+                least,
                 out,
             );
         };
@@ -280,23 +296,27 @@ fn try_terms(
             bytes::part(s, place, next),
             term,
             so_far,
+            least,
             out,
         );
         let c = step.counts;
+        let met = step.life;
         let matched = step.matched;
         match matched {
             Matched::Yes => {
-                return signed(term, domain, exp, c);
+                return signed(term, domain, exp, c, met);
             }
             Matched::Stop(ending) => {
                 return Checked {
                     ending,
                     counts: c,
+                    life: met,
                     failing: FailingPlace::Nowhere,
                 };
             }
             Matched::No => {
                 so_far = c;
+                least = met;
                 at = next;
             }
         }
@@ -312,6 +332,7 @@ fn try_terms(
         s,
         redirect,
         so_far,
+        least,
         out,
     )
 }
@@ -328,13 +349,14 @@ fn no_match(
     s: &[u8],
     redirect: Modifier,
     counts: Counts,
+    life: Life,
     out: &mut [u8],
 ) -> Checked
     requires { ⌜ (length (now sender) ≤ 320) × (length (spanOf (now table) domain) ≤ 253) × (counts .lookups ≤ 10) × (counts .voids ≤ 2) ⌝ }
-    ensures { λ r. ⌜ SaysCheck (now (table .entry)) (run (tableIn (now (table .entry))) (noMatch (mailOf client (now (sender .entry)) (now (helo .entry)) (now (receiver .entry)) seconds) (whole (mailOf client (now (sender .entry)) (now (helo .entry)) (now (receiver .entry)) seconds)) (spanOf (now (table .entry)) domain) (argumentIn (now (s .entry)) redirect) counts)) r (now (out .entry)) (now (out .exit)) ⌝ }
+    ensures { λ r. ⌜ SaysCheck (now (table .entry)) (run (tableIn (now (table .entry))) life (noMatch (mailOf client (now (sender .entry)) (now (helo .entry)) (now (receiver .entry)) seconds) (whole (mailOf client (now (sender .entry)) (now (helo .entry)) (now (receiver .entry)) seconds)) (spanOf (now (table .entry)) domain) (argumentIn (now (s .entry)) redirect) counts)) r (now (out .entry)) (now (out .exit)) ⌝ }
 {
     let Modifier::Part { from, to } = redirect else {
-        return ended(1, counts);
+        return ended(1, counts, life);
     };
     let o = begin_check(
         client,
@@ -346,6 +368,7 @@ fn no_match(
         domain,
         bytes::part(s, from, to),
         counts,
+        life,
         out,
     );
     none_is_permerror(o)
@@ -363,10 +386,11 @@ fn try_term(
     w: &[u8],
     term: Term,
     counts: Counts,
+    life: Life,
     out: &mut [u8],
 ) -> Stepped
     requires { ⌜ (length (now sender) ≤ 320) × (length (spanOf (now table) domain) ≤ 253) × (counts .lookups ≤ 10) × (counts .voids ≤ 2) ⌝ }
-    ensures { λ r. ⌜ SaysStep (run (tableIn (now (table .entry))) (termStep (mailOf client (now (sender .entry)) (now (helo .entry)) (now (receiver .entry)) seconds) (whole (mailOf client (now (sender .entry)) (now (helo .entry)) (now (receiver .entry)) seconds)) (spanOf (now (table .entry)) domain) (saidOf (now (w .entry)) term) (saidOf (now (w .entry)) term .sign) counts)) r (now (out .entry)) (now (out .exit)) ⌝ }
+    ensures { λ r. ⌜ SaysStep (run (tableIn (now (table .entry))) life (termStep (mailOf client (now (sender .entry)) (now (helo .entry)) (now (receiver .entry)) seconds) (whole (mailOf client (now (sender .entry)) (now (helo .entry)) (now (receiver .entry)) seconds)) (spanOf (now (table .entry)) domain) (saidOf (now (w .entry)) term) (saidOf (now (w .entry)) term .sign) counts)) r (now (out .entry)) (now (out .exit)) ⌝ }
 {
     match mechanisms::try_plain(
         client,
@@ -379,6 +403,7 @@ fn try_term(
         w,
         term,
         counts,
+        life,
         out,
     ) {
         Tried::Step(step) => step,
@@ -392,6 +417,7 @@ fn try_term(
             domain,
             bytes::part(w, from, to),
             counts,
+            life,
             out,
         ),
     }
@@ -408,10 +434,11 @@ fn include(
     domain: Span,
     spec: &[u8],
     counts: Counts,
+    life: Life,
     out: &mut [u8],
 ) -> Stepped
     requires { ⌜ (length (now sender) ≤ 320) × (length (spanOf (now table) domain) ≤ 253) × (counts .lookups ≤ 10) × (counts .voids ≤ 2) ⌝ }
-    ensures { λ r. ⌜ SaysStep (run (tableIn (now (table .entry))) (includeStep (mailOf client (now (sender .entry)) (now (helo .entry)) (now (receiver .entry)) seconds) (whole (mailOf client (now (sender .entry)) (now (helo .entry)) (now (receiver .entry)) seconds)) (spanOf (now (table .entry)) domain) (now (spec .entry)) counts)) r (now (out .entry)) (now (out .exit)) ⌝ }
+    ensures { λ r. ⌜ SaysStep (run (tableIn (now (table .entry))) life (includeStep (mailOf client (now (sender .entry)) (now (helo .entry)) (now (receiver .entry)) seconds) (whole (mailOf client (now (sender .entry)) (now (helo .entry)) (now (receiver .entry)) seconds)) (spanOf (now (table .entry)) domain) (now (spec .entry)) counts)) r (now (out .entry)) (now (out .exit)) ⌝ }
 {
     let o = begin_check(
         client,
@@ -423,6 +450,7 @@ fn include(
         domain,
         spec,
         counts,
+        life,
         out,
     );
     include_of(o)
@@ -439,21 +467,22 @@ fn begin_check(
     domain: Span,
     spec: &[u8],
     counts: Counts,
+    life: Life,
     out: &mut [u8],
 ) -> Checked
     requires { ⌜ (length (now sender) ≤ 320) × (length (spanOf (now table) domain) ≤ 253) × (counts .lookups ≤ 10) × (counts .voids ≤ 2) ⌝ }
-    ensures { λ r. ⌜ SaysCheck (now (table .entry)) (run (tableIn (now (table .entry))) (begunCheck (mailOf client (now (sender .entry)) (now (helo .entry)) (now (receiver .entry)) seconds) (whole (mailOf client (now (sender .entry)) (now (helo .entry)) (now (receiver .entry)) seconds)) (spanOf (now (table .entry)) domain) (now (spec .entry)) counts)) r (now (out .entry)) (now (out .exit)) ⌝ }
+    ensures { λ r. ⌜ SaysCheck (now (table .entry)) (run (tableIn (now (table .entry))) life (begunCheck (mailOf client (now (sender .entry)) (now (helo .entry)) (now (receiver .entry)) seconds) (whole (mailOf client (now (sender .entry)) (now (helo .entry)) (now (receiver .entry)) seconds)) (spanOf (now (table .entry)) domain) (now (spec .entry)) counts)) r (now (out .entry)) (now (out .exit)) ⌝ }
 {
     let used = counts.lookups;
     if 10 <= used {
-        return ended(6, counts);
+        return ended(6, counts, life);
     }
     let begun = Counts {
         lookups: used + 1,
         voids: counts.voids,
     };
     let mut to = [0u8; MOST_NAME];
-    match target_name::make_target(
+    let made = target_name::make_target(
         client,
         sender,
         helo,
@@ -463,11 +492,15 @@ fn begin_check(
         bytes::part(table, domain.from, domain.to),
         spec,
         begun,
+        life,
         &mut to,
         out,
-    ) {
-        Target::Malformed => ended(0, begun),
-        Target::Wanting { kind, length: n } => wanting(kind, n, begun),
+    );
+    let target = made.target;
+    let met = made.life;
+    match target {
+        Target::Malformed => ended(0, begun, met),
+        Target::Wanting { kind, length: n } => wanting(kind, n, begun, met),
         Target::Name(n) => check_domain(
             client,
             sender,
@@ -477,6 +510,7 @@ fn begin_check(
             table,
             bytes::part(&to, 0, n),
             begun,
+            met,
             out,
         ),
     }
@@ -487,12 +521,13 @@ fn none_is_permerror(o: Checked) -> Checked
     ensures { λ r. ⌜ r ≡ redirectedOf o ⌝ }
 {
     let counts = o.counts;
+    let life = o.life;
     let ending = o.ending;
     match ending {
         Ending::Wanting { kind: _, length: _ } => o,
         Ending::Result(value) => {
             if value == 0 {
-                return ended(6, counts);
+                return ended(6, counts, life);
             }
             o
         }
@@ -504,15 +539,18 @@ fn include_of(o: Checked) -> Stepped
     ensures { λ r. ⌜ r ≡ includedOf o ⌝ }
 {
     let counts = o.counts;
+    let life = o.life;
     let ending = o.ending;
     match ending {
         Ending::Result(value) => Stepped {
             matched: included(value),
             counts,
+            life,
         },
         Ending::Wanting { kind, length } => Stepped {
             matched: Matched::Stop(Ending::Wanting { kind, length }),
             counts,
+            life,
         },
     }
 }

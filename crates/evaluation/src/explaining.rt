@@ -19,6 +19,7 @@ use records::opening::Modifier;
 use records::opening::Opening;
 use rules::Counts;
 use rules::Explained;
+use rules::Life;
 use rules::Selected;
 use text::bytes;
 
@@ -41,7 +42,9 @@ fn find_exp(table: &[u8], domain: &[u8]) -> Modifier
     if domain::count_labels(domain) <= 1 {
         return Modifier::Absent;
     }
-    let Selected::One { domain: _, text } = record_lookup::select_record(table, domain) else {
+    let found = record_lookup::select_record(table, domain, Life::Unmet);
+    let selected = found.selected;
+    let Selected::One { domain: _, text } = selected else {
         return Modifier::Absent;
     };
     let from = text.from;

@@ -2,8 +2,10 @@
 ghost use Prim.Native.Nat.{_≤_};
 ghost use mathlib.Core.Path.{_≡_};
 ghost use lib.ListN.{length};
+ghost use Rattle.rules.specs.declared.Life.the-variants.{Unmet};
 ghost use Rattle.rules.specs.Tree.{run};
 ghost use Rattle.rules.specs.Tables.{tableIn};
+ghost use Rattle.rules.specs.Lifetimes.{seconds};
 ghost use Rattle.rules.specs.Evaluation.{evaluation};
 ghost use Rattle.rules.specs.Outcomes.{mailOf, SaysCheck, FailingAt};
 ghost use Rattle.evaluation.specs.Evaluating.{refusalOf};
@@ -18,6 +20,7 @@ use rules::Checked;
 use rules::Counts;
 use rules::Ending;
 use rules::FailingPlace;
+use rules::Life;
 use text::bytes;
 
 mod check;
@@ -25,23 +28,26 @@ pub mod explaining;
 
 // What the first call answers.
 pub enum Answer {
-    // 0 to 6 but 3, and both counts.
+    // 0 to 6 but 3, both counts, and how many seconds the decision may be kept.
     Decided {
         value: u8,
         counts: Counts,
+        lifetime: u32,
     },
-    // 3: both counts, the length of the failing record's domain, and the place and length of its exp argument in the table, 0 and 0 where it has none.
+    // 3: both counts, the lifetime, the length of the failing record's domain, and the place and length of its exp argument in the table, 0 and 0 where it has none.
     Fail {
         counts: Counts,
+        lifetime: u32,
         domain: usize,
         place: usize,
         length: usize,
     },
-    // 7: the kind of the question that has no entry, the length of its name, and the counts so far.
+    // 7: the kind of the question that has no entry, the length of its name, and the counts and the lifetime so far.
     Wanting {
         kind: u16,
         length: usize,
         counts: Counts,
+        lifetime: u32,
     },
     // 20 to 24.
     Refused(u8),
@@ -83,7 +89,7 @@ fn check_given(
     out: &mut [u8],
 ) -> Checked
     requires { ⌜ length (now sender) ≤ 320 ⌝ }
-    ensures { λ r. ⌜ SaysCheck (now (table .entry)) (run (tableIn (now (table .entry))) (evaluation (mailOf client (now (sender .entry)) (now (helo .entry)) (now (receiver .entry)) seconds) (now (domain .entry)))) r (now (out .entry)) (now (out .exit)) ⌝ }
+    ensures { λ r. ⌜ SaysCheck (now (table .entry)) (run (tableIn (now (table .entry))) Unmet (evaluation (mailOf client (now (sender .entry)) (now (helo .entry)) (now (receiver .entry)) seconds) (now (domain .entry)))) r (now (out .entry)) (now (out .exit)) ⌝ }
 {
     let none = Counts {
         lookups: 0,
@@ -91,7 +97,7 @@ fn check_given(
     };
     let mut to = [0u8; MOST_NAME];
     match domain::read_name(domain, &mut to) {
-        Name::Malformed => check::ended(0, none),
+        Name::Malformed => check::ended(0, none, Life::Unmet),
         Name::Written(n) => check::check_domain(
             client,
             sender,
@@ -101,30 +107,54 @@ fn check_given(
             table,
             bytes::part(&to, 0, n),
             none,
+            Life::Unmet,
             out,
         ),
     }
 }
 
+// The smallest lifetime met, or 0 where no entry was.
+fn seconds_of(life: Life) -> u32
+    ensures { λ r. ⌜ r ≡ seconds life ⌝ }
+{
+    match life {
+        Life::Unmet => 0,
+        Life::Least(seconds) => seconds,
+    }
+}
+
 // The answer with a result; for a fail the failing record's domain is written.
-fn finish(table: &[u8], value: u8, counts: Counts, failing: FailingPlace, name: &mut [u8]) -> Answer
+fn finish(
+    table: &[u8],
+    value: u8,
+    counts: Counts,
+    lifetime: u32,
+    failing: FailingPlace,
+    name: &mut [u8],
+) -> Answer
     requires { ⌜ FailingAt (now table) failing ⌝ }
-    ensures { λ r. ⌜ Says (finished (now (table .entry)) value counts failing) r (now (name .entry)) (now (name .exit)) ⌝ }
+    ensures { λ r. ⌜ Says (finished (now (table .entry)) value counts lifetime failing) r (now (name .entry)) (now (name .exit)) ⌝ }
 {
     let FailingPlace::In { domain, exp } = failing else {
-        return Answer::Decided { value, counts };
+        return Answer::Decided {
+            value,
+            counts,
+            lifetime,
+        };
     };
     let d = bytes::part(table, domain.from, domain.to);
     client_match::want(d, name);
     match exp {
         Modifier::Absent => Answer::Fail {
             counts,
+            lifetime,
             domain: d.len(),
             place: 0,
             length: 0,
         },
         Modifier::Part { from, to } => Answer::Fail {
             counts,
+            lifetime,
             domain: d.len(),
             place: from,
             length: to - from,
@@ -144,10 +174,12 @@ fn decide(
     name: &mut [u8],
 ) -> Answer
     requires { ⌜ length (now sender) ≤ 320 ⌝ }
-    ensures { λ r. ⌜ Decides (now (table .entry)) (run (tableIn (now (table .entry))) (evaluation (mailOf client (now (sender .entry)) (now (helo .entry)) (now (receiver .entry)) seconds) (now (domain .entry)))) r (now (name .entry)) (now (name .exit)) ⌝ }
+    ensures { λ r. ⌜ Decides (now (table .entry)) (run (tableIn (now (table .entry))) Unmet (evaluation (mailOf client (now (sender .entry)) (now (helo .entry)) (now (receiver .entry)) seconds) (now (domain .entry)))) r (now (name .entry)) (now (name .exit)) ⌝ }
 {
     let o = check_given(client, sender, helo, receiver, seconds, table, domain, name);
     let counts = o.counts;
+    let life = o.life;
+    let lifetime = seconds_of(life);
     let ending = o.ending;
     let failing = o.failing;
     match ending {
@@ -155,13 +187,14 @@ fn decide(
             kind,
             length: n,
             counts,
+            lifetime,
         },
-        Ending::Result(value) => finish(table, value, counts, failing, name),
+        Ending::Result(value) => finish(table, value, counts, lifetime, failing, name),
     }
 }
 
 // The first call: 20 to 24 in that order, then 25 or 26, then the result. The name of a wanted question or the failing record's domain is written at the
-// front of `name`. No question of an explanation is asked.
+// front of `name`. No question of an explanation is asked. The lifetime is the smallest of the entries that its questions found.
 pub fn evaluate(
     client: Address,
     domain: &[u8],

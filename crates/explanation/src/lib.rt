@@ -1,10 +1,11 @@
-// The explanation that the exp of a record makes: one TXT text, expanded. It counts nothing.
+// The explanation that the exp of a record makes: one TXT text, expanded. It counts nothing, and answers no lifetime.
 ghost use Prim.Native.Nat.{_≤_};
 ghost use mathlib.Core.List.{[], _∷_};
 ghost use lib.ListN.{length};
 ghost use Rattle.domain.specs.Normal.{name};
 ghost use Rattle.records.specs.Readings.{present};
 ghost use Rattle.macros.specs.declared.Form.the-variants.{Explanation};
+ghost use Rattle.rules.specs.declared.Life.the-variants.{Unmet};
 ghost use Rattle.rules.specs.Tree.{run};
 ghost use Rattle.rules.specs.Tables.{tableIn};
 ghost use Rattle.rules.specs.Mechanisms.{expansion};
@@ -19,6 +20,7 @@ use macros::Expanded;
 use macros::Form;
 use rules::Counts;
 use rules::Explained;
+use rules::Life;
 use rules::PValue;
 use rules::Target;
 use text::bytes;
@@ -86,9 +88,11 @@ fn explain_with_p(
     out: &mut [u8],
 ) -> Explained
     requires { ⌜ length (now sender) ≤ 320 ⌝ }
-    ensures { λ r. ⌜ SaysText counts (run (tableIn (now (table .entry))) (withP (mailOf client (now (sender .entry)) (now (helo .entry)) (now (receiver .entry)) seconds) (now (domain .entry)) (now (s .entry)) counts)) r (now (text .entry)) (now (text .exit)) (now (out .entry)) (now (out .exit)) ⌝ }
+    ensures { λ r. ⌜ SaysText counts (run (tableIn (now (table .entry))) Unmet (withP (mailOf client (now (sender .entry)) (now (helo .entry)) (now (receiver .entry)) seconds) (now (domain .entry)) (now (s .entry)) counts)) r (now (text .entry)) (now (text .exit)) (now (out .entry)) (now (out .exit)) ⌝ }
 {
-    match target_name::find_p(client, table, domain, counts, out) {
+    let found = target_name::find_p(client, table, domain, counts, Life::Unmet, out);
+    let value = found.value;
+    match value {
         PValue::Current => Explained::Text(write_shown(
             client,
             sender,
@@ -141,7 +145,7 @@ fn explain_text(
     out: &mut [u8],
 ) -> Explained
     requires { ⌜ length (now sender) ≤ 320 ⌝ }
-    ensures { λ r. ⌜ SaysText counts (run (tableIn (now (table .entry))) (explained (mailOf client (now (sender .entry)) (now (helo .entry)) (now (receiver .entry)) seconds) (now (domain .entry)) counts (now (s .entry) ∷ []))) r (now (text .entry)) (now (text .exit)) (now (out .entry)) (now (out .exit)) ⌝ }
+    ensures { λ r. ⌜ SaysText counts (run (tableIn (now (table .entry))) Unmet (explained (mailOf client (now (sender .entry)) (now (helo .entry)) (now (receiver .entry)) seconds) (now (domain .entry)) counts (now (s .entry) ∷ []))) r (now (text .entry)) (now (text .exit)) (now (out .entry)) (now (out .exit)) ⌝ }
 {
     if macros::read_macro_string(Form::Explanation, s) {
         if macros::uses_p(Form::Explanation, s) {
@@ -189,10 +193,16 @@ fn explain_name(
     out: &mut [u8],
 ) -> Explained
     requires { ⌜ length (now sender) ≤ 320 ⌝ }
-    ensures { λ r. ⌜ SaysText counts (run (tableIn (now (table .entry))) (explainName (mailOf client (now (sender .entry)) (now (helo .entry)) (now (receiver .entry)) seconds) (now (domain .entry)) counts (name (now (target .entry))))) r (now (text .entry)) (now (text .exit)) (now (out .entry)) (now (out .exit)) ⌝ }
+    ensures { λ r. ⌜ SaysText counts (run (tableIn (now (table .entry))) Unmet (explainName (mailOf client (now (sender .entry)) (now (helo .entry)) (now (receiver .entry)) seconds) (now (domain .entry)) counts (name (now (target .entry))))) r (now (text .entry)) (now (text .exit)) (now (out .entry)) (now (out .exit)) ⌝ }
 {
     let found = answer_table::find(table, 16, target);
-    let Found::Entry { status, start, end } = found else {
+    let Found::Entry {
+        status,
+        lifetime: _,
+        start,
+        end,
+    } = found
+    else {
         client_match::want(target, out);
         return Explained::Wanting {
             kind: 16,
@@ -239,10 +249,10 @@ pub fn explain(
     out: &mut [u8],
 ) -> Explained
     requires { ⌜ length (now sender) ≤ 320 ⌝ }
-    ensures { λ r. ⌜ SaysText counts (run (tableIn (now (table .entry))) (explanation (mailOf client (now (sender .entry)) (now (helo .entry)) (now (receiver .entry)) seconds) (now (domain .entry)) (present (now (spec .entry))) counts)) r (now (text .entry)) (now (text .exit)) (now (out .entry)) (now (out .exit)) ⌝ }
+    ensures { λ r. ⌜ SaysText counts (run (tableIn (now (table .entry))) Unmet (explanation (mailOf client (now (sender .entry)) (now (helo .entry)) (now (receiver .entry)) seconds) (now (domain .entry)) (present (now (spec .entry))) counts)) r (now (text .entry)) (now (text .exit)) (now (out .entry)) (now (out .exit)) ⌝ }
 {
     let mut target = [0u8; MOST_NAME];
-    match target_name::make_target(
+    let made = target_name::make_target(
         client,
         sender,
         helo,
@@ -252,9 +262,12 @@ pub fn explain(
         domain,
         spec,
         counts,
+        Life::Unmet,
         &mut target,
         out,
-    ) {
+    );
+    let named = made.target;
+    match named {
         Target::Name(n) => explain_name(
             client,
             sender,

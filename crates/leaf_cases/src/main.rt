@@ -8,11 +8,11 @@
 //     below NAME TARGET                 1 if the name is the target or below it, else 0
 //     shorten TEXT                      what is left once labels have left from the left
 //     table TABLE                       `entries` and their number, or `refused`, number and place
-//     find KIND NAME TABLE              `missing`, or the status and the items
+//     find KIND NAME TABLE              `missing`, or the status, the lifetime and the items
 //     mx NAME TABLE                     the preference and host of each MX item
-//     append KIND STATUS NAME ITEMS BUFFER SIZE
+//     append KIND STATUS NAME ITEMS BUFFER SIZE LIFETIME
 //                                       `appended`, the new length and the bytes from the old length on; or `refused`, number and place (`.` for none);
-//                                       and last `kept` or `changed`, of the other bytes
+//                                       and last `kept` or `changed`, of the other bytes. No LIFETIME is one of 0
 //
 // Any other line is printed as it is.
 use address::FromOctets;
@@ -151,8 +151,14 @@ fn run_find(line: &[u8]) {
     let found = answer_table::find(part(&space, 0, n), (kind % 65536) as u16, part(&name, 0, m));
     match found {
         Found::Missing => case_support::print_line(b"missing"),
-        Found::Entry { status, .. } => {
+        Found::Entry {
+            status,
+            lifetime,
+            ..
+        } => {
             io::print_decimal(1, status as u64);
+            io::write_all(1, b" ");
+            io::print_decimal(1, lifetime as u64);
             print_items(answer_table::found_items(part(&space, 0, n), found));
             case_support::print_line(b"");
         }
@@ -215,6 +221,7 @@ fn run_append_to(line: &[u8], before: &[u8], after: &mut [u8]) {
     let answer = answer_entry::append_entry(
         (case_support::number_of(case_support::word(line, 1)) % 65536) as u16,
         (case_support::number_of(case_support::word(line, 2)) % 256) as u8,
+        (case_support::number_of(case_support::word(line, 7)) % 4294967296) as u32,
         part(&name, 0, n),
         part(&items, 0, m),
         after,

@@ -10,6 +10,7 @@ ghost use Rattle.mechanism_lookups.specs.Steps.{matchAnswer};
 use address::Address;
 use rules::Counts;
 use rules::Ending;
+use rules::Life;
 use rules::Matched;
 use rules::Stepped;
 use text::bytes;
@@ -18,26 +19,33 @@ mod hosts;
 mod names;
 mod replies;
 
-// What a question comes to: a step, for want of an entry or of items; a failed answer; or items, which stand in the table from a place to another.
+// What a question comes to: a step, for want of an entry or of items; a failed answer; or items, which stand in the table from a place to another. With
+// the lifetime after it.
 enum Asked {
     Ended(Stepped),
-    Failed,
-    Items { start: usize, end: usize },
+    Failed(Life),
+    Items {
+        start: usize,
+        end: usize,
+        life: Life,
+    },
 }
 
-// What is known once a test is made: whether it matches, with the counts as they are.
-pub fn matched(test: bool, counts: Counts) -> Stepped
-    ensures { λ r. ⌜ r ≡ matchAnswer test counts ⌝ }
+// What is known once a test is made: whether it matches, with the counts and the lifetime as they are.
+pub fn matched(test: bool, counts: Counts, life: Life) -> Stepped
+    ensures { λ r. ⌜ r ≡ matchAnswer test counts life ⌝ }
 {
     if test {
         return Stepped {
             matched: Matched::Yes,
             counts,
+            life,
         };
     }
     Stepped {
         matched: Matched::No,
         counts,
+        life,
     }
 }
 
@@ -48,37 +56,54 @@ pub fn ask_a(
     table: &[u8],
     name: &[u8],
     counts: Counts,
+    life: Life,
     out: &mut [u8],
 ) -> Stepped
     requires { ⌜ counts .voids ≤ 2 ⌝ }
-    ensures { λ r. ⌜ SaysStep (run (tableIn (now (table .entry))) (askA client length counts (now (name .entry)))) r (now (out .entry)) (now (out .exit)) ⌝ }
+    ensures { λ r. ⌜ SaysStep (run (tableIn (now (table .entry))) life (askA client length counts (now (name .entry)))) r (now (out .entry)) (now (out .exit)) ⌝ }
 {
-    match replies::ask(table, client_match::address_kind(client), name, counts, out) {
+    match replies::ask(
+        table,
+        client_match::address_kind(client),
+        name,
+        counts,
+        life,
+        out,
+    ) {
         Asked::Ended(stepped) => stepped,
-        Asked::Failed => Stepped {
+        Asked::Failed(met) => Stepped {
             matched: Matched::Stop(Ending::Result(5)),
             counts,
+            life: met,
         },
-        Asked::Items { start, end } => {
-            replies::addresses(client, length, bytes::part(table, start, end), counts)
-        }
+        Asked::Items {
+            start,
+            end,
+            life: met,
+        } => { replies::addresses(client, length, bytes::part(table, start, end), counts, met) }
     }
 }
 
 // exists: always the A question.
-pub fn ask_exists(table: &[u8], name: &[u8], counts: Counts, out: &mut [u8]) -> Stepped
+pub fn ask_exists(table: &[u8], name: &[u8], counts: Counts, life: Life, out: &mut [u8]) -> Stepped
     requires { ⌜ counts .voids ≤ 2 ⌝ }
-    ensures { λ r. ⌜ SaysStep (run (tableIn (now (table .entry))) (askExists counts (now (name .entry)))) r (now (out .entry)) (now (out .exit)) ⌝ }
+    ensures { λ r. ⌜ SaysStep (run (tableIn (now (table .entry))) life (askExists counts (now (name .entry)))) r (now (out .entry)) (now (out .exit)) ⌝ }
 {
-    match replies::ask(table, 1, name, counts, out) {
+    match replies::ask(table, 1, name, counts, life, out) {
         Asked::Ended(stepped) => stepped,
-        Asked::Failed => Stepped {
+        Asked::Failed(met) => Stepped {
             matched: Matched::Stop(Ending::Result(5)),
             counts,
+            life: met,
         },
-        Asked::Items { start: _, end: _ } => Stepped {
+        Asked::Items {
+            start: _,
+            end: _,
+            life: met,
+        } => Stepped {
             matched: Matched::Yes,
             counts,
+            life: met,
         },
     }
 }
@@ -90,24 +115,31 @@ pub fn ask_mx(
     table: &[u8],
     name: &[u8],
     counts: Counts,
+    life: Life,
     out: &mut [u8],
 ) -> Stepped
     requires { ⌜ counts .voids ≤ 2 ⌝ }
-    ensures { λ r. ⌜ SaysStep (run (tableIn (now (table .entry))) (askMx client length counts (now (name .entry)))) r (now (out .entry)) (now (out .exit)) ⌝ }
+    ensures { λ r. ⌜ SaysStep (run (tableIn (now (table .entry))) life (askMx client length counts (now (name .entry)))) r (now (out .entry)) (now (out .exit)) ⌝ }
 {
-    match replies::ask(table, 15, name, counts, out) {
+    match replies::ask(table, 15, name, counts, life, out) {
         Asked::Ended(stepped) => stepped,
-        Asked::Failed => Stepped {
+        Asked::Failed(met) => Stepped {
             matched: Matched::Stop(Ending::Result(5)),
             counts,
+            life: met,
         },
-        Asked::Items { start, end } => {
+        Asked::Items {
+            start,
+            end,
+            life: met,
+        } => {
             hosts::ask_items(
                 client,
                 length,
                 table,
                 bytes::part(table, start, end),
                 counts,
+                met,
                 out,
             )
         }
@@ -121,24 +153,31 @@ fn ask_pointers(
     name: &[u8],
     target: &[u8],
     counts: Counts,
+    life: Life,
     out: &mut [u8],
 ) -> Stepped
     requires { ⌜ counts .voids ≤ 2 ⌝ }
-    ensures { λ r. ⌜ SaysStep (run (tableIn (now (table .entry))) (ownQuestion no counts 12 (now (name .entry)) (λ ds. askNames client (now (target .entry)) (take most-names ds) counts))) r (now (out .entry)) (now (out .exit)) ⌝ }
+    ensures { λ r. ⌜ SaysStep (run (tableIn (now (table .entry))) life (ownQuestion no counts 12 (now (name .entry)) (λ ds. askNames client (now (target .entry)) (take most-names ds) counts))) r (now (out .entry)) (now (out .exit)) ⌝ }
 {
-    match replies::ask(table, 12, name, counts, out) {
+    match replies::ask(table, 12, name, counts, life, out) {
         Asked::Ended(stepped) => stepped,
-        Asked::Failed => Stepped {
+        Asked::Failed(met) => Stepped {
             matched: Matched::No,
             counts,
+            life: met,
         },
-        Asked::Items { start, end } => {
+        Asked::Items {
+            start,
+            end,
+            life: met,
+        } => {
             names::ask_names(
                 client,
                 table,
                 bytes::part(table, start, end),
                 target,
                 counts,
+                met,
                 out,
             )
         }
@@ -151,12 +190,13 @@ pub fn ask_ptr(
     table: &[u8],
     target: &[u8],
     counts: Counts,
+    life: Life,
     out: &mut [u8],
 ) -> Stepped
     requires { ⌜ counts .voids ≤ 2 ⌝ }
-    ensures { λ r. ⌜ SaysStep (run (tableIn (now (table .entry))) (askPtr client counts (now (target .entry)))) r (now (out .entry)) (now (out .exit)) ⌝ }
+    ensures { λ r. ⌜ SaysStep (run (tableIn (now (table .entry))) life (askPtr client counts (now (target .entry)))) r (now (out .entry)) (now (out .exit)) ⌝ }
 {
     let mut reversed = [0u8; 72];
     let n = address_text::put_reversed_name(client, &mut reversed, 0);
-    ask_pointers(client, table, &reversed[..n], target, counts, out)
+    ask_pointers(client, table, &reversed[..n], target, counts, life, out)
 }

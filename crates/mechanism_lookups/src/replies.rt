@@ -9,13 +9,14 @@ use address::Address;
 use answer_table::Found;
 use rules::Counts;
 use rules::Ending;
+use rules::Life;
 use rules::Matched;
 use rules::Stepped;
 use text::bytes;
 
 // A question without an entry: its name is written.
-fn missing(kind: u16, name: &[u8], counts: Counts, out: &mut [u8]) -> Stepped
-    ensures { λ r. ⌜ Unanswered kind (now (name .entry)) counts r (now (out .entry)) (now (out .exit)) ⌝ }
+fn missing(kind: u16, name: &[u8], counts: Counts, life: Life, out: &mut [u8]) -> Stepped
+    ensures { λ r. ⌜ Unanswered kind (now (name .entry)) counts life r (now (out .entry)) (now (out .exit)) ⌝ }
 {
     client_match::want(name, out);
     Stepped {
@@ -24,13 +25,14 @@ fn missing(kind: u16, name: &[u8], counts: Counts, out: &mut [u8]) -> Stepped
             length: name.len(),
         }),
         counts,
+        life,
     }
 }
 
 // A void answer is counted, and the third ends the check.
-fn void(counts: Counts) -> Stepped
+fn void(counts: Counts, life: Life) -> Stepped
     requires { ⌜ counts .voids ≤ 2 ⌝ }
-    ensures { λ r. ⌜ r ≡ voidAnswer counts ⌝ }
+    ensures { λ r. ⌜ r ≡ voidAnswer counts life ⌝ }
 {
     let after = Counts {
         lookups: counts.lookups,
@@ -40,34 +42,64 @@ fn void(counts: Counts) -> Stepped
         return Stepped {
             matched: Matched::No,
             counts: after,
+            life,
         };
     }
     Stepped {
         matched: Matched::Stop(Ending::Result(6)),
         counts: after,
+        life,
     }
 }
 
-// Asks a question: without an entry its name is written, and a void answer is counted.
-pub fn ask(table: &[u8], kind: u16, name: &[u8], counts: Counts, out: &mut [u8]) -> Asked
+// Asks a question: without an entry its name is written, and a void answer is counted. An entry's lifetime is taken in, whatever its answer.
+pub fn ask(
+    table: &[u8],
+    kind: u16,
+    name: &[u8],
+    counts: Counts,
+    life: Life,
+    out: &mut [u8],
+) -> Asked
     requires { ⌜ counts .voids ≤ 2 ⌝ }
-    ensures { λ r. ⌜ AskedIs (now (table .entry)) counts kind (now (name .entry)) (now (out .entry)) (now (out .exit)) r ⌝ }
+    ensures { λ r. ⌜ AskedIs (now (table .entry)) counts life kind (now (name .entry)) (now (out .entry)) (now (out .exit)) r ⌝ }
 {
-    let Found::Entry { status, start, end } = answer_table::find(table, kind, name) else {
-        return Asked::Ended(missing(kind, name, counts, out));
+    let Found::Entry {
+        status,
+        lifetime,
+        start,
+        end,
+    } = answer_table::find(table, kind, name)
+    else {
+        return Asked::Ended(missing(kind, name, counts, life, out));
     };
+    let met = client_match::sooner(life, lifetime);
     if status == 2 {
-        return Asked::Failed;
+        return Asked::Failed(met);
     }
     if bytes::part(table, start, end).len() == 0 {
-        return Asked::Ended(void(counts));
+        return Asked::Ended(void(counts, met));
     }
-    Asked::Items { start, end }
+    Asked::Items {
+        start,
+        end,
+        life: met,
+    }
 }
 
 // Whether any address of an answer matches the client.
-pub fn addresses(client: Address, length: usize, items: &[u8], counts: Counts) -> Stepped
-    ensures { λ r. ⌜ r ≡ matchAnswer (anyMatches client length (itemsOf (now (items .entry)))) counts ⌝ }
+pub fn addresses(
+    client: Address,
+    length: usize,
+    items: &[u8],
+    counts: Counts,
+    life: Life,
+) -> Stepped
+    ensures { λ r. ⌜ r ≡ matchAnswer (anyMatches client length (itemsOf (now (items .entry)))) counts life ⌝ }
 {
-    crate::matched(client_match::any_matches(client, length, items), counts)
+    crate::matched(
+        client_match::any_matches(client, length, items),
+        counts,
+        life,
+    )
 }

@@ -10,6 +10,7 @@ use Rattle.records.specs.Readings.{Optional, absent, present}
 use Rattle.records.specs.Numbers.{saidOf}
 use Rattle.records.specs.declared.Term.{Term}
 use Rattle.rules.specs.declared.Counts.{Counts}
+use Rattle.rules.specs.declared.Life.{Life}
 use Rattle.rules.specs.Tree.{Table, Check, run}
 use Rattle.rules.specs.Mechanisms.{Mail, Step, askA, askExists, askMx, askPtr}
 use Rattle.rules.specs.Evaluation.{Sub, includeStep, termStep}
@@ -34,7 +35,7 @@ abbrev pub specIf : Bool → List ℕ → Optional (List ℕ)
 specIf given spec = cond given (present spec) absent
 
 -- what a term of the text w comes to, whatever the check one level down: its step; or it is an include, with its domain-spec's places in w
-unfoldable pub TriedIs : Table → Mail → List ℕ → List ℕ → Term → Counts → (before after : List ℕ) → Tried → Type 0
-TriedIs t mail d w x c before after (Tried.Step r) = (sub : Sub) → SaysStep (run t (termStep mail sub d (saidOf w x) (saidOf w x .sign) c)) r before after
-TriedIs t mail d w x c before after (Tried.Include from to) =
+unfoldable pub TriedIs : Table → Mail → List ℕ → List ℕ → Term → Counts → Life → (before after : List ℕ) → Tried → Type 0
+TriedIs t mail d w x c l before after (Tried.Step r) = (sub : Sub) → SaysStep (run t l (termStep mail sub d (saidOf w x) (saidOf w x .sign) c)) r before after
+TriedIs t mail d w x c l before after (Tried.Include from to) =
     (after ≡ before) × ((sub : Sub) → termStep mail sub d (saidOf w x) (saidOf w x .sign) c ≡ includeStep mail sub d (part w from to) c)

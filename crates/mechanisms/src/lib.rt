@@ -14,6 +14,7 @@ use domain::MOST_NAME;
 use records::Term;
 use rules::Counts;
 use rules::Ending;
+use rules::Life;
 use rules::Matched;
 use rules::Stepped;
 use rules::Target;
@@ -41,16 +42,17 @@ fn ask(
     table: &[u8],
     name: &[u8],
     counts: Counts,
+    life: Life,
     out: &mut [u8],
 ) -> Stepped
     requires { ⌜ counts .voids ≤ 2 ⌝ }
-    ensures { λ r. ⌜ SaysStep (run (tableIn (now (table .entry))) (asker question client prefix counts (now (name .entry)))) r (now (out .entry)) (now (out .exit)) ⌝ }
+    ensures { λ r. ⌜ SaysStep (run (tableIn (now (table .entry))) life (asker question client prefix counts (now (name .entry)))) r (now (out .entry)) (now (out .exit)) ⌝ }
 {
     match question {
-        Question::A => mechanism_lookups::ask_a(client, prefix, table, name, counts, out),
-        Question::Mx => mechanism_lookups::ask_mx(client, prefix, table, name, counts, out),
-        Question::Ptr => mechanism_lookups::ask_ptr(client, table, name, counts, out),
-        Question::Exists => mechanism_lookups::ask_exists(table, name, counts, out),
+        Question::A => mechanism_lookups::ask_a(client, prefix, table, name, counts, life, out),
+        Question::Mx => mechanism_lookups::ask_mx(client, prefix, table, name, counts, life, out),
+        Question::Ptr => mechanism_lookups::ask_ptr(client, table, name, counts, life, out),
+        Question::Exists => mechanism_lookups::ask_exists(table, name, counts, life, out),
     }
 }
 
@@ -68,16 +70,18 @@ fn counted_step(
     given: bool,
     spec: &[u8],
     counts: Counts,
+    life: Life,
     out: &mut [u8],
 ) -> Stepped
     requires { ⌜ (length (now sender) ≤ 320) × (length (now domain) ≤ 253) × (counts .voids ≤ 2) ⌝ }
-    ensures { λ r. ⌜ SaysStep (run (tableIn (now (table .entry))) (countedStep (mailOf client (now (sender .entry)) (now (helo .entry)) (now (receiver .entry)) seconds) (now (domain .entry)) (specIf given (now (spec .entry))) (asker question client prefix) counts)) r (now (out .entry)) (now (out .exit)) ⌝ }
+    ensures { λ r. ⌜ SaysStep (run (tableIn (now (table .entry))) life (countedStep (mailOf client (now (sender .entry)) (now (helo .entry)) (now (receiver .entry)) seconds) (now (domain .entry)) (specIf given (now (spec .entry))) (asker question client prefix) counts)) r (now (out .entry)) (now (out .exit)) ⌝ }
 {
     let used = counts.lookups;
     if 10 <= used {
         return Stepped {
             matched: Matched::Stop(Ending::Result(6)),
             counts,
+            life,
         };
     }
     let begun = Counts {
@@ -85,7 +89,7 @@ fn counted_step(
         voids: counts.voids,
     };
     let mut to = [0u8; MOST_NAME];
-    match target_name::make_target_or(
+    let made = target_name::make_target_or(
         client,
         sender,
         helo,
@@ -96,16 +100,22 @@ fn counted_step(
         given,
         spec,
         begun,
+        life,
         &mut to,
         out,
-    ) {
+    );
+    let target = made.target;
+    let met = made.life;
+    match target {
         Target::Malformed => Stepped {
             matched: Matched::No,
             counts: begun,
+            life: met,
         },
         Target::Wanting { kind, length: n } => Stepped {
             matched: Matched::Stop(Ending::Wanting { kind, length: n }),
             counts: begun,
+            life: met,
         },
         Target::Name(n) => ask(
             question,
@@ -114,6 +124,7 @@ fn counted_step(
             table,
             bytes::part(&to, 0, n),
             begun,
+            met,
             out,
         ),
     }
@@ -151,13 +162,14 @@ pub fn try_plain(
     w: &[u8],
     term: Term,
     counts: Counts,
+    life: Life,
     out: &mut [u8],
 ) -> Tried
     requires { ⌜ (length (now sender) ≤ 320) × (length (now domain) ≤ 253) × (counts .voids ≤ 2) ⌝ }
-    ensures { λ r. ⌜ TriedIs (tableIn (now (table .entry))) (mailOf client (now (sender .entry)) (now (helo .entry)) (now (receiver .entry)) seconds) (now (domain .entry)) (now (w .entry)) term counts (now (out .entry)) (now (out .exit)) r ⌝ }
+    ensures { λ r. ⌜ TriedIs (tableIn (now (table .entry))) (mailOf client (now (sender .entry)) (now (helo .entry)) (now (receiver .entry)) seconds) (now (domain .entry)) (now (w .entry)) term counts life (now (out .entry)) (now (out .exit)) r ⌝ }
 {
     match term {
-        Term::All { sign: _ } => Tried::Step(mechanism_lookups::matched(true, counts)),
+        Term::All { sign: _ } => Tried::Step(mechanism_lookups::matched(true, counts, life)),
         Term::Include { sign: _, from, to } => Tried::Include { from, to },
         Term::A {
             sign: _,
@@ -178,6 +190,7 @@ pub fn try_plain(
             differ(from, to),
             bytes::part(w, from, to),
             counts,
+            life,
             out,
         )),
         Term::Mx {
@@ -199,6 +212,7 @@ pub fn try_plain(
             differ(from, to),
             bytes::part(w, from, to),
             counts,
+            life,
             out,
         )),
         Term::Ptr { sign: _, from, to } => Tried::Step(counted_step(
@@ -214,6 +228,7 @@ pub fn try_plain(
             differ(from, to),
             bytes::part(w, from, to),
             counts,
+            life,
             out,
         )),
         Term::Network {
@@ -225,6 +240,7 @@ pub fn try_plain(
         } => Tried::Step(mechanism_lookups::matched(
             address::matches(client, address, length as usize),
             counts,
+            life,
         )),
         Term::Exists { sign: _, from, to } => Tried::Step(counted_step(
             Question::Exists,
@@ -239,13 +255,23 @@ pub fn try_plain(
             true,
             bytes::part(w, from, to),
             counts,
+            life,
             out,
         )),
-        Term::Redirect { from: _, to: _ } => Tried::Step(mechanism_lookups::matched(false, counts)),
+        Term::Redirect { from: _, to: _ } => Tried::Step(mechanism_lookups::matched(
+            false,
+            counts,
+            life,
+        )),
         Term::Explanation { from: _, to: _ } => Tried::Step(mechanism_lookups::matched(
             false,
             counts,
+            life,
         )),
-        Term::Unknown { name: _, to: _ } => Tried::Step(mechanism_lookups::matched(false, counts)),
+        Term::Unknown { name: _, to: _ } => Tried::Step(mechanism_lookups::matched(
+            false,
+            counts,
+            life,
+        )),
     }
 }

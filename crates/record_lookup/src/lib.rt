@@ -7,6 +7,8 @@ ghost use Rattle.rules.specs.Outcomes.{SaysSelection};
 ghost use Rattle.record_lookup.specs.Picking.{oneMore, joined, PickedIs};
 use answer_table::Found;
 use answer_table::items;
+use rules::Life;
+use rules::LookedUp;
 use rules::Selected;
 use rules::Span;
 use text::bytes;
@@ -54,25 +56,47 @@ fn pick(table: &[u8], start: usize, end: usize) -> Picked
     seen
 }
 
-// The record of a domain, among the texts of its TXT question.
-pub fn select_record(table: &[u8], domain: &[u8]) -> Selected
-    ensures { λ r. ⌜ SaysSelection (now (domain .entry)) (now (table .entry)) r ⌝ }
+// The record of a domain, among the texts of its TXT question, and the lifetime after it.
+pub fn select_record(table: &[u8], domain: &[u8], life: Life) -> LookedUp
+    ensures { λ r. ⌜ SaysSelection (now (domain .entry)) (now (table .entry)) life r ⌝ }
 {
-    let Found::Entry { status, start, end } = answer_table::find(table, 16, domain) else {
-        return Selected::Missing;
+    let Found::Entry {
+        status,
+        lifetime,
+        start,
+        end,
+    } = answer_table::find(table, 16, domain)
+    else {
+        return LookedUp {
+            selected: Selected::Missing,
+            life,
+        };
     };
+    let life = client_match::sooner(life, lifetime);
     if status == 2 {
-        return Selected::Ends(5);
+        return LookedUp {
+            selected: Selected::Ends(5),
+            life,
+        };
     }
     match pick(table, start, end) {
-        Picked::Nothing => Selected::Ends(0),
-        Picked::Several => Selected::Ends(6),
-        Picked::One { from, to } => Selected::One {
-            domain: Span {
-                from: start - domain.len(),
-                to: start,
+        Picked::Nothing => LookedUp {
+            selected: Selected::Ends(0),
+            life,
+        },
+        Picked::Several => LookedUp {
+            selected: Selected::Ends(6),
+            life,
+        },
+        Picked::One { from, to } => LookedUp {
+            selected: Selected::One {
+                domain: Span {
+                    from: start - domain.len(),
+                    to: start,
+                },
+                text: Span { from, to },
             },
-            text: Span { from, to },
+            life,
         },
     }
 }

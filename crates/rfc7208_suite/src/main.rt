@@ -59,7 +59,7 @@ fn run_line(line: &[u8], zone: &mut [u8], size: usize) -> usize {
 // At most as many lines as the budget says.
 fn main() {
     let mut line = [0u8; 1024];
-    let mut zone = [0u8; 8192];
+    let mut zone = [0u8; 12288];
     let mut size: usize = 0;
     let mut budget: usize = 1000000;
     while 0 < budget {

@@ -15,6 +15,7 @@ fn status_of(found: Found) -> u8 {
     match found {
         Found::Entry {
             status,
+            lifetime: _,
             start: _,
             end: _,
         } => status,
@@ -22,12 +23,22 @@ fn status_of(found: Found) -> u8 {
     }
 }
 
+// The suite names no lifetimes: every answer has this one. The program prints none.
+const LIFETIME: u32 = 300;
+
 // Appends the zone's answer to a question to a table; answers the table's new size. One that is refused leaves the table, and the check undecided.
 fn append_answer(zone: &[u8], kind: u16, name: &[u8], table: &mut [u8], size: usize) -> usize {
     let found = answer_table::find(zone, kind, name);
     let items = answer_table::found_items(zone, found);
-    let AppendAnswer::Appended(end) = append_entry(kind, status_of(found), name, items, table, size)
-    else {
+    let AppendAnswer::Appended(end) = append_entry(
+        kind,
+        status_of(found),
+        LIFETIME,
+        name,
+        items,
+        table,
+        size,
+    ) else {
         return size;
     };
     end
@@ -121,6 +132,7 @@ fn collect_answers(
             kind,
             length: n,
             counts: _,
+            lifetime: _,
         } = evaluate(
             client,
             domain,
@@ -146,9 +158,14 @@ pub fn run(zone: &[u8], client: Address, domain: &[u8], sender: &[u8], helo: &[u
     let size = collect_answers(zone, client, domain, sender, helo, &mut table);
     let t = part(&table, 0, size);
     match evaluate(client, domain, sender, helo, b"", 0, t, &mut name) {
-        Answer::Decided { value, counts: _ } => print_decided(value, b""),
+        Answer::Decided {
+            value,
+            counts: _,
+            lifetime: _,
+        } => print_decided(value, b""),
         Answer::Fail {
             counts: _,
+            lifetime: _,
             domain: n,
             place,
             length,
@@ -167,6 +184,7 @@ pub fn run(zone: &[u8], client: Address, domain: &[u8], sender: &[u8], helo: &[u
             kind: _,
             length: _,
             counts: _,
+            lifetime: _,
         } => case_support::print_line(b"undecided"),
         Answer::Refused(number) => print_refused(number),
         Answer::RefusedAt { number, at: _ } => print_refused(number),

@@ -4,6 +4,10 @@ use crate::explanations;
 use crate::turns;
 use crate::turns::Turn;
 use address::Address;
+use answer_table::Layout;
+use answer_table::MOST_ENTRIES;
+use answer_table::entries;
+use answer_table::entries::Header;
 use evaluation::Answer;
 use evaluation::evaluate;
 use robustness_inputs::arguments;
@@ -61,32 +65,73 @@ fn note_refusal(number: u8, name: &[u8], counts: &mut [u64], digest: u64) -> u64
     tally::fold_number(digest, number as usize)
 }
 
-fn fold_counts(digest: u64, lookups: u8, voids: u8) -> u64 {
-    tally::fold_number(digest, 256 * lookups as usize + voids as usize)
+// Whether some entry of an accepted table has a lifetime.
+fn has_lifetime(table: &[u8], lifetime: u32) -> bool {
+    let mut at: usize = 0;
+    let mut budget: usize = MOST_ENTRIES;
+    while 0 < budget {
+        let rest = part(table, at, table.len());
+        let Header::Whole { size, .. } = entries::read_header(Layout::New, rest) else {
+            return false;
+        };
+        if entries::lifetime(Layout::New, rest) == lifetime {
+            return true;
+        }
+        at = std::num::wrapping_add_u64(at as u64, size as u64) as usize;
+        budget -= 1;
+    }
+    false
 }
 
-// Counts an answer and folds its number, kind or place, its counts, what it wrote, and the place and length of an exp argument.
-fn note_answer(answer: Answer, name: &[u8], counts: &mut [u64], digest: u64) -> u64 {
+// Where an answer's lifetime over a table is counted.
+fn place_of_lifetime(table: &[u8], lifetime: u32) -> u8 {
+    if lifetime == 0 {
+        return tally::ZEROS;
+    }
+    if has_lifetime(table, lifetime) {
+        return tally::LIVES;
+    }
+    tally::STRAYS
+}
+
+// Folds both counts and the lifetime.
+fn fold_counts(digest: u64, lookups: u8, voids: u8, lifetime: u32) -> u64 {
+    let counted = tally::fold_number(digest, 256 * lookups as usize + voids as usize);
+    let low = tally::fold_number(counted, (lifetime % 65536) as usize);
+    tally::fold_number(low, (lifetime / 65536) as usize)
+}
+
+// Counts an answer over a table and folds its number, kind or place, its counts and lifetime, what it wrote, and the place and length of an exp argument.
+fn note_answer(answer: Answer, table: &[u8], name: &[u8], counts: &mut [u64], digest: u64) -> u64 {
     match answer {
-        Answer::Decided { value, counts: c } => {
+        Answer::Decided {
+            value,
+            counts: c,
+            lifetime,
+        } => {
             tally::count(counts, tally::EVALUATE, value);
             tally::count(counts, place_of(value, c.lookups, c.voids), 0);
+            tally::count(counts, place_of_lifetime(table, lifetime), 0);
             tally::count_kept(name, 0, b"", 0, counts);
             fold_counts(
                 tally::fold_number(digest, value as usize),
                 c.lookups,
                 c.voids,
+                lifetime,
             )
         }
         Answer::Fail {
             counts: c,
+            lifetime,
             domain: n,
             place,
             length,
         } => {
             tally::count(counts, tally::EVALUATE, 3);
+            tally::count(counts, place_of_lifetime(table, lifetime), 0);
             tally::count_kept(name, n, b"", 0, counts);
-            let counted = fold_counts(tally::fold_number(digest, 3), c.lookups, c.voids);
+            let numbered = tally::fold_number(digest, 3);
+            let counted = fold_counts(numbered, c.lookups, c.voids, lifetime);
             let named = tally::fold_bytes(counted, part(name, 0, n));
             tally::fold_number(tally::fold_number(named, place), length)
         }
@@ -94,11 +139,14 @@ fn note_answer(answer: Answer, name: &[u8], counts: &mut [u64], digest: u64) -> 
             kind,
             length: n,
             counts: c,
+            lifetime,
         } => {
             tally::count(counts, tally::EVALUATE, 7);
+            tally::count(counts, place_of_lifetime(table, lifetime), 0);
             tally::count_kept(name, n, b"", 0, counts);
             let kinded = tally::fold_number(digest, 65536 * 7 + kind as usize);
-            tally::fold_bytes(fold_counts(kinded, c.lookups, c.voids), part(name, 0, n))
+            let counted = fold_counts(kinded, c.lookups, c.voids, lifetime);
+            tally::fold_bytes(counted, part(name, 0, n))
         }
         Answer::Refused(number) => note_refusal(number, name, counts, digest),
         Answer::RefusedAt { number, at } => {
@@ -125,11 +173,12 @@ fn run_turn(
     case_support::fill(&mut name);
     let t = part(table, 0, size);
     let answer = evaluate_front(rooms, client, domain, sender, helo, receiver, t, &mut name);
-    let noted = note_answer(answer, &name, counts, digest);
+    let noted = note_answer(answer, t, &name, counts, digest);
     let Answer::Wanting {
         kind,
         length: n,
         counts: _,
+        lifetime: _,
     } = answer
     else {
         let explained = explanations::run(

@@ -190,6 +190,7 @@ fn run_turns(
 fn told_of(seed: u64, answer: Answer) -> Told {
     let Answer::Fail {
         counts: _,
+        lifetime: _,
         domain: _,
         place,
         length,
@@ -204,6 +205,7 @@ fn told_of(seed: u64, answer: Answer) -> Told {
 fn put_failing(seed: u64, answer: Answer, name: &[u8], domain: &[u8], out: &mut [u8]) -> usize {
     let Answer::Fail {
         counts: _,
+        lifetime: _,
         domain: n,
         place: _,
         length: _,

@@ -1,7 +1,8 @@
 // Calls the library on generated and damaged records, tables and arguments, and prints how often each answer was given and a digest of all answers.
 //
-// It shows that every call returns and that a call keeps every byte that it does not write. The stored output is the program's own: it says nothing of
-// whether an answer is right, and guards against a change of behaviour that was not meant. Numbers come from a fixed seed, so each run is the same.
+// It shows that every call returns, that a call keeps every byte that it does not write, and that an evaluation's lifetime is 0 or that of an entry. The
+// stored output is the program's own: it says nothing of whether an answer is right, and guards against a change of behaviour that was not meant. Numbers
+// come from a fixed seed, so each run is the same.
 mod checks;
 mod explanations;
 mod readings;
@@ -108,6 +109,9 @@ fn print_counts(counts: &[u64]) {
     print_numbers(b"evaluate", 20, 27, counts, tally::EVALUATE);
     print_count(b"permerrors after 10 lookups", counts, tally::TENTHS);
     print_count(b"permerrors after 3 voids", counts, tally::VOIDS);
+    print_count(b"lifetimes of 0", counts, tally::ZEROS);
+    print_count(b"lifetimes of an entry", counts, tally::LIVES);
+    print_count(b"lifetimes of no entry", counts, tally::STRAYS);
     print_number(b"explain", 3, counts, tally::EXPLAIN);
     print_number(b"explain", 7, counts, tally::EXPLAIN);
     print_numbers(b"explain", 20, 27, counts, tally::EXPLAIN);

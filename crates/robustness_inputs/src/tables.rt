@@ -138,6 +138,16 @@ fn pick_status(seed: u64, kind: u16) -> u8 {
     }
 }
 
+// The lifetime of an entry: of a small set, so that two are often the same, the largest, or any.
+fn pick_lifetime(seed: u64) -> u32 {
+    match random::up_to(seed, 1, 9) {
+        0 => 0,
+        1 => 4294967295,
+        2..=5 => 60 * random::up_to(seed, 2, 60) as u32,
+        _ => (random::draw(seed, 3) % 4294967296) as u32,
+    }
+}
+
 // The items of an entry by its status; only a damaged entry that was not answered has some.
 fn put_answers(seed: u64, kind: u16, status: u8, name: &[u8], out: &mut [u8], at: usize) -> usize {
     if status == 0 {
@@ -153,7 +163,8 @@ fn put_answers(seed: u64, kind: u16, status: u8, name: &[u8], out: &mut [u8], at
 fn put_entry(seed: u64, kind: u16, name: &[u8], out: &mut [u8], at: usize) -> usize {
     let status = pick_status(random::draw(seed, 1), kind);
     let start = encoding::put_number(out, at, 0);
-    let headed = encoding::put_head(out, start, kind, status, name);
+    let lifetime = pick_lifetime(random::draw(seed, 3));
+    let headed = encoding::put_head(out, start, kind, status, lifetime, name);
     let end = put_answers(random::draw(seed, 2), kind, status, name, out, headed);
     encoding::put_number(out, at, distance(start, end));
     end
@@ -199,7 +210,7 @@ fn put_pairs(seed: u64, times: usize, out: &mut [u8], at: usize) -> usize {
 // An entry of a name of its own without items.
 fn put_small(k: usize, out: &mut [u8], at: usize) -> usize {
     let name = [97 + (k % 26) as u8, 97 + (k / 26 % 26) as u8];
-    encoding::put_entry(out, at, 1, 0, &name, b"")
+    encoding::put_entry(out, at, 1, 0, (k % 65536) as u32, &name, b"")
 }
 
 // A crowd of entries.

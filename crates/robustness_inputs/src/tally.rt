@@ -12,7 +12,8 @@ pub const TERM: u8 = 128;
 pub const EXPAND: u8 = 192;
 
 // Where others stand: the explanations that aren't empty; the permerrors after ten lookups and after three void answers; all other results; the reads
-// that answered the end; the calls that kept every byte that they did not write, and those that did not.
+// that answered the end; the calls that kept every byte that they did not write, and those that did not; the answers with a lifetime of 0, with that of an
+// entry of the table, and with another.
 pub const TEXTS: u8 = 100;
 
 pub const TENTHS: u8 = 101;
@@ -26,6 +27,12 @@ pub const ENDS: u8 = 104;
 pub const KEPT: u8 = 105;
 
 pub const CHANGED: u8 = 106;
+
+pub const ZEROS: u8 = 107;
+
+pub const LIVES: u8 = 108;
+
+pub const STRAYS: u8 = 109;
 
 // The digest of nothing.
 pub const START: u64 = 14695981039346656037;

@@ -25,6 +25,8 @@ pub mod Verdicts
 pub mod Recounting
 -- Enough: the depth bound never decides.
 pub mod Enough
+-- Lifetimes: a run's lifetime is the smallest of the entries that its questions found.
+pub mod Lifetimes
 -- Agreement: what a check consults decides it.
 pub mod Agreement
 -- Growth: a settled result stays when the table gains entries.

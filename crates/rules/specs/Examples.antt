@@ -32,9 +32,11 @@ use Rattle.records.specs.Numbers.{saidOf}
 use Rattle.records.specs.Reader.{laterKind, kindOf, specAt, allOf, withSpec, ptrOf, cutOf, hostsCut, hostsAt, withHosts, networkTerm, networkCut, networkBy, mechanismBy, mechanismOf, modifierOf as records-reader-of-modifierOf, tokenOf, tokenAnswer, termFrom, readTerm, isRedirect, isExplanation, checkAfter, checkFrom, hasVersion, readRecord}
 use Rattle.rules.specs.Evaluation.{includeMatch, checkTarget, begunCheck, includeOf, includeStep, lengthFor, networkStep, mechanismStep, termStep, signResult, modifierOf, signed, noneIsPermerror, redirectOf, noMatch, afterStep, tryTerms, termsAfter, termsFrom, termsOf, readOutcome, versioned, selection, textReply, recordLookup, afterLookup, checkName, check, evaluation, shown, givesShown, explained, explainReply, explainName, explanation, explanationOf, verdict, having, plainStep, matchResult}
 use Rattle.rules.specs.Mechanisms.{addressKind, itemMatches, anyMatches, width, includesClient, withValid, validated, namesOf, holdsName, firstBelow, firstOr, chosen, givesChosen, pReply, pValue, expansion, givesExpansion, expanded, givesName, target, targetOr, counting, voidStep, ownReply, aStep, existsStep, insertHost, byPreference, mxItems, mxStep, ptrStep, atTarget, targetStep, countedStep, onMatch, untilMatch, askHost}
-use Rattle.rules.specs.Tables.{replyBy, replyOf, tableIn}
-use Rattle.rules.specs.Tree.{items, settled, wanting, bind, then, answered, run}
-use Rattle.rules.specs.Zones.{zone, txt, nothing, answer, answer6, decided, result}
+use Rattle.rules.specs.Tables.{replyBy, answerOf, tableIn}
+use Rattle.rules.specs.Tree.{items, settled, wanting, bind, then, answered, sooner, run}
+use Rattle.rules.specs.declared.Life.{Life}
+use Rattle.rules.specs.Zones.{zone, aside, txt, nothing, answer, answer6, decided, result, lifetime}
+use Rattle.rules.specs.Lifetimes.{seconds, lifeOf}
 use Rattle.rules.specs.Rules.{Rules}
 
 -- a label of 60 bytes and its dot
@@ -43,7 +45,7 @@ long = bytes "aaaaaaaaaabbbbbbbbbbccccccccccddddddddddeeeeeeeeeeffffffffff."
 
 pub record Cases : Type 0 where
   -- nothing is known yet: the TXT question is wanting
-  pub first-question : answer [] ≡ wanting 16 (bytes "example.com") (record { lookups = 0; voids = 0 })
+  pub first-question : answer [] ≡ wanting 16 (bytes "example.com") (record { lookups = 0; voids = 0 }) Life.Unmet
   pub plain-fail : answer (txt (bytes "example.com") (bytes "v=spf1 -all") ∷ []) ≡ decided 3 0 0
   -- 192.0.2.129 against 192.0.2.0 at /24 and /25
   pub within-24 : answer (txt (bytes "example.com") (bytes "v=spf1 ip4:192.0.2.0/24 -all") ∷ []) ≡ decided 2 0 0
@@ -51,7 +53,7 @@ pub record Cases : Type 0 where
   -- an included fail isn't this record's fail
   pub included-fail : answer (txt (bytes "example.com") (bytes "v=spf1 include:b.example ?all") ∷ txt (bytes "b.example") (bytes "v=spf1 -all") ∷ []) ≡ decided 1 1 0
   -- a redirect to a domain without a record isn't neutral
-  pub redirect-none : answer (txt (bytes "example.com") (bytes "v=spf1 redirect=b.example") ∷ record { kind = 16; owner = bytes "b.example"; reply = items [] } ∷ [])
+  pub redirect-none : answer (txt (bytes "example.com") (bytes "v=spf1 redirect=b.example") ∷ record { kind = 16; owner = bytes "b.example"; reply = items []; lifetime = 300 } ∷ [])
       ≡ decided 6 1 0
   -- a later bad term is read before any is tried
   pub later-bad-term : answer (txt (bytes "example.com") (bytes "v=spf1 +all moo") ∷ []) ≡ decided 6 0 0
@@ -59,7 +61,7 @@ pub record Cases : Type 0 where
   pub length-33 : answer (txt (bytes "example.com") (bytes "v=spf1 ip4:192.0.2.0/33 -all") ∷ []) ≡ decided 6 0 0
   -- a name of 254 bytes loses its first label, not its first byte
   pub long-name : answer (txt (bytes "example.com") (bytes "v=spf1 exists:" ++ (long ++ (long ++ (long ++ (long ++ bytes "bc.example"))))) ∷ [])
-      ≡ wanting 1 (long ++ (long ++ (long ++ bytes "bc.example"))) (record { lookups = 1; voids = 0 })
+      ≡ wanting 1 (long ++ (long ++ (long ++ bytes "bc.example"))) (record { lookups = 1; voids = 0 }) Life.Unmet
   -- two void exists and `-all` give 3, three give 6
   pub two-voids : answer (txt (bytes "example.com") (bytes "v=spf1 exists:a.b exists:a.b -all") ∷ nothing (bytes "a.b") ∷ []) ≡ decided 3 2 2
   pub three-voids : answer (txt (bytes "example.com") (bytes "v=spf1 exists:a.b exists:a.b exists:a.b -all") ∷ nothing (bytes "a.b") ∷ []) ≡ decided 6 3 3
@@ -74,7 +76,7 @@ pub record Cases : Type 0 where
       ∷ txt (bytes "a8.b") (bytes "v=spf1 redirect=a9.b") ∷ txt (bytes "a9.b") (bytes "v=spf1 redirect=b0.b") ∷ txt (bytes "b0.b") (bytes "v=spf1 -all") ∷ []) ≡ decided 6 10 0
   -- the explanation of a fail, expanded
   pub explained-fail : answer (txt (bytes "example.com") (bytes "v=spf1 -all exp=e.example") ∷ txt (bytes "e.example") (bytes "%{i} at %{t}") ∷ [])
-      ≡ settled (record { value = 3; counts = record { lookups = 0; voids = 0 }; text = bytes "192.0.2.129 at 7" })
+      ≡ settled (record { value = 3; counts = record { lookups = 0; voids = 0 }; text = bytes "192.0.2.129 at 7" }) Life.Unmet
 
 -- the paper's cases, and its sentences
 pub record Computed : Type 0 where
@@ -82,7 +84,7 @@ pub record Computed : Type 0 where
   pub rules : Rules
 
 pub computed : Computed
-unfolding zone answer answer6 result number within isSpace isNotSpace isNotSlash isUpper isNotUpper isAlpha isDigit isLengthByte isAlphanumeric isHexDigit isVisible isPrintable isLabelByte isNameByte isToplabelByte isMacroLiteral isDelimiter lower decimalFrom decimal isDecimal readDecimal pushed hasNoLeadingZero readNumber same sameWord contains all rightmost grow split isIn text-runs-of-run runEnd trailingStart overwritten bitsOf bits agree matchesAt octetsOf octets valueFrom valueOf fromOctets mappedPrefix clientOctets asClient labels isLabel isName isTableName labelCount atOrBelow withoutDot lowered normal shorterLabels shortened digit numeral inDecimal inHex nibbles hexGroups octetTexts nibbleTexts dotted readable family reversedName partsOf address-text-rows-of-textOf ordered place separatorBefore joinBy separated address-text-rows-of-row isListed reversedIf kept isUnreserved hexDigit escapedByte escaped transformed macros-expansion-of-lastPart senderDomain frontParts localAsWritten localPart receiverName lettersOf letterValue laterValue escapeText pieceText macroText macros-expansion-of-textOf isSender isHost isShort isLetter isPartCount fitted outcome questionName isLiteral isEscape isReverse closedAt delimitersAt reversalAt digitsAt bracesOf pieceOf macroOf piecesAfter piecesFrom pieces endsInMacro isToplabel lastLabel endsInLabel endsRight isMacroString isP anyP scanOf usesP hexValue hexFrom groupsFrom octetAt dotOctetAt readIp4 slashNumber readLength readLength4 readLength6 frontEnd secondLength readDual firstColon isDoubleColon doubleColon readH16 tailOf lastOf networks-reader6-of-lastPart push rowOf readRow readSide addressOf filled fullOf shortOf readIp6 firstOf readAddress octetPairs networkOf isQualifier isReserved countOf saidOf laterKind kindOf specAt allOf withSpec ptrOf cutOf hostsCut hostsAt withHosts networkTerm networkCut networkBy mechanismBy mechanismOf records-reader-of-modifierOf tokenOf tokenAnswer termFrom readTerm isRedirect isExplanation checkAfter checkFrom hasVersion readRecord includeMatch checkTarget begunCheck includeOf includeStep lengthFor networkStep mechanismStep termStep signResult modifierOf signed noneIsPermerror redirectOf noMatch afterStep tryTerms termsAfter termsFrom termsOf readOutcome versioned selection textReply recordLookup afterLookup checkName check evaluation shown givesShown explained explainReply explainName explanation explanationOf verdict addressKind itemMatches anyMatches width includesClient withValid validated namesOf holdsName firstBelow firstOr chosen givesChosen pReply pValue expansion givesExpansion expanded givesName target targetOr counting voidStep ownReply aStep existsStep insertHost byPreference mxItems mxStep ptrStep replyBy replyOf tableIn bind then answered run having plainStep matchResult atTarget targetStep countedStep onMatch untilMatch askHost
+unfolding zone answer answer6 result number within isSpace isNotSpace isNotSlash isUpper isNotUpper isAlpha isDigit isLengthByte isAlphanumeric isHexDigit isVisible isPrintable isLabelByte isNameByte isToplabelByte isMacroLiteral isDelimiter lower decimalFrom decimal isDecimal readDecimal pushed hasNoLeadingZero readNumber same sameWord contains all rightmost grow split isIn text-runs-of-run runEnd trailingStart overwritten bitsOf bits agree matchesAt octetsOf octets valueFrom valueOf fromOctets mappedPrefix clientOctets asClient labels isLabel isName isTableName labelCount atOrBelow withoutDot lowered normal shorterLabels shortened digit numeral inDecimal inHex nibbles hexGroups octetTexts nibbleTexts dotted readable family reversedName partsOf address-text-rows-of-textOf ordered place separatorBefore joinBy separated address-text-rows-of-row isListed reversedIf kept isUnreserved hexDigit escapedByte escaped transformed macros-expansion-of-lastPart senderDomain frontParts localAsWritten localPart receiverName lettersOf letterValue laterValue escapeText pieceText macroText macros-expansion-of-textOf isSender isHost isShort isLetter isPartCount fitted outcome questionName isLiteral isEscape isReverse closedAt delimitersAt reversalAt digitsAt bracesOf pieceOf macroOf piecesAfter piecesFrom pieces endsInMacro isToplabel lastLabel endsInLabel endsRight isMacroString isP anyP scanOf usesP hexValue hexFrom groupsFrom octetAt dotOctetAt readIp4 slashNumber readLength readLength4 readLength6 frontEnd secondLength readDual firstColon isDoubleColon doubleColon readH16 tailOf lastOf networks-reader6-of-lastPart push rowOf readRow readSide addressOf filled fullOf shortOf readIp6 firstOf readAddress octetPairs networkOf isQualifier isReserved countOf saidOf laterKind kindOf specAt allOf withSpec ptrOf cutOf hostsCut hostsAt withHosts networkTerm networkCut networkBy mechanismBy mechanismOf records-reader-of-modifierOf tokenOf tokenAnswer termFrom readTerm isRedirect isExplanation checkAfter checkFrom hasVersion readRecord includeMatch checkTarget begunCheck includeOf includeStep lengthFor networkStep mechanismStep termStep signResult modifierOf signed noneIsPermerror redirectOf noMatch afterStep tryTerms termsAfter termsFrom termsOf readOutcome versioned selection textReply recordLookup afterLookup checkName check evaluation shown givesShown explained explainReply explainName explanation explanationOf verdict addressKind itemMatches anyMatches width includesClient withValid validated namesOf holdsName firstBelow firstOr chosen givesChosen pReply pValue expansion givesExpansion expanded givesName target targetOr counting voidStep ownReply aStep existsStep insertHost byPreference mxItems mxStep ptrStep replyBy answerOf tableIn bind then answered sooner run aside seconds lifeOf lifetime having plainStep matchResult atTarget targetStep countedStep onMatch untilMatch askHost
 computed = record {
   scope = record {
     first-question = refl;
@@ -111,5 +113,20 @@ computed = record {
     voids = record { one-host = refl; one-host-of-six = refl; same-host-thrice = refl; third-before-match = refl; third-before-missing = refl; third-of-check = refl; after-mx = refl; failed-host = refl; failed-names = refl; two-names = refl; third-name = refl; p-not-counted = refl; p-before-ptr = refl; include-not-counted = refl };
     explanation = record { missing = refl; through-redirect = refl; through-include = refl; lookup-failed = refl; void = refl; doubled = refl; malformed-text = refl; malformed-name = refl; unprintable = refl; of-500-bytes = refl; of-501-bytes = refl };
     failing = record { without-exp = refl; not-asked = refl; through-redirect = refl; by-include = refl; p-not-asked = refl; malformed-target = refl };
+    lifetimes = record {
+      void-answer = refl;
+      failed-answer = refl;
+      record-first = refl;
+      missing = refl;
+      empty-table = refl;
+      largest = refl;
+      of-zero = refl;
+      kind-99 = refl;
+      other-family = refl;
+      behind-match = refl;
+      unasked = refl;
+      of-p = refl;
+      explanation = refl;
+    };
   };
 }

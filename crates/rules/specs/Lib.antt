@@ -5,6 +5,8 @@ pub mod Results
 pub mod Tree
 -- Trail: the questions that a check asks.
 pub mod Trail
+-- Lifetimes: how long a decision may be kept.
+pub mod Lifetimes
 -- Tables: an answer table as what it has for each question.
 pub mod Tables
 -- Mechanisms: what each mechanism asks and whether it matches.

@@ -12,13 +12,13 @@ use Rattle.records.specs.Readings.{present, Placed}
 use Rattle.records.specs.Grammar.{Record}
 use Rattle.records.specs.Answers.{most-bytes, Version}
 use Rattle.rules.specs.declared.Counts.{Counts}
-use Rattle.rules.specs.Tree.{items, Table, settled, run}
+use Rattle.rules.specs.Tree.{items, Table, Has, SettlesTo}
 use Rattle.rules.specs.Mechanisms.{Mail, no, target, most-lookups, begun}
 use Rattle.rules.specs.Evaluation.{Sub, termStep, modifierOf, whole}
 
 -- the texts of a domain: those of its TXT question. W-207 amends the house rules: "Record lookup now uses TXT alone"
 abbrev pub Texts : Table → List ℕ → List (List ℕ) → Type 0
-Texts t d ss = t kind-txt d ≡ present (items ss)
+Texts t d ss = Has t kind-txt d (items ss)
 
 -- a text "with a version section", by the production
 abbrev pub WithVersion : List ℕ → Type 0
@@ -43,15 +43,15 @@ pub data Selects (t : Table) (d s : List ℕ) : Type 0 where
 -- its counts; the term is an include that is begun, or none is left and the record has a redirect that is begun; and its target is a name.
 pub data Begins (t : Table) (mail : Mail) (sub : Sub) (d : List ℕ) (all-terms : List Placed) : List Placed → Counts → List ℕ → Counts → Type 0 where
   past-term : {x : Placed} {ts : List Placed} {c l k : Counts} {e : List ℕ}
-      → run t (termStep mail sub d (x .said) (x .said .sign) c) ≡ settled (record { match = no; counts = l })
+      → SettlesTo t (termStep mail sub d (x .said) (x .said .sign) c) (record { match = no; counts = l })
       → Begins t mail sub d all-terms ts l e k → Begins t mail sub d all-terms (x ∷ ts) c e k
   by-include : {x : Placed} {ts : List Placed} {c : Counts} {e spec : List ℕ} {sign : ℕ}
       → x .said .name ≡ bytes "include" → x .said .sign ≡ present sign → x .said .argument ≡ present spec
-      → c .lookups < most-lookups → run t (target mail d spec (begun c)) ≡ settled (name e)
+      → c .lookups < most-lookups → SettlesTo t (target mail d spec (begun c)) (name e)
       → Begins t mail sub d all-terms (x ∷ ts) c e (begun c)
   by-redirect : {c : Counts} {e spec : List ℕ}
       → modifierOf (bytes "redirect") all-terms ≡ present spec
-      → c .lookups < most-lookups → run t (target mail d spec (begun c)) ≡ settled (name e)
+      → c .lookups < most-lookups → SettlesTo t (target mail d spec (begun c)) (name e)
       → Begins t mail sub d all-terms [] c e (begun c)
 
 -- The check of a domain from the counts c on comes to the check of the domain e with the counts k: it is that check; or it selects a record of the

@@ -20,16 +20,16 @@ use Rattle.macros.specs.Reader.{isLiteral, pieceOf, piecesAfter, piecesFrom, pi
 use Rattle.records.specs.Grammar.{isQualifier, isReserved, Record}
 use Rattle.records.specs.Numbers.{saidOf}
 use Rattle.records.specs.Reader.{laterKind, kindOf, specAt, allOf, withSpec, mechanismBy, mechanismOf, modifierOf as records-reader-of-modifierOf, tokenOf, tokenAnswer, termFrom, readTerm, isRedirect, isExplanation, checkAfter, checkFrom, hasVersion, readRecord, Reads, stop, step}
-use Rattle.records.specs.Readings.{present, Placed}
+use Rattle.records.specs.Readings.{Placed}
 use Rattle.records.specs.Answers.{most-bytes}
 use Rattle.records.specs.declared.RecordAnswer.{RecordAnswer}
 use Rattle.records.proofs.Laws.Versions.{version-of}
 use Rattle.records.proofs.Laws.Records.{record-sound, record-complete, reads-one}
 use Rattle.rules.specs.Evaluation.{includeMatch, checkTarget, begunCheck, includeOf, includeStep, having, mechanismStep, termStep, modifierOf, noneIsPermerror, redirectOf, noMatch, afterStep, tryTerms, termsAfter, termsFrom, termsOf, readOutcome, versioned, selection, textReply, recordLookup, afterLookup, checkName, check, evaluation, explanationOf, verdict, noCounts}
 use Rattle.rules.specs.Mechanisms.{expansion, givesExpansion, expanded, givesName, target, counting}
-use Rattle.rules.specs.Tree.{bind, then, answered, run, items}
+use Rattle.rules.specs.Tree.{Has, bind, then, answered, sooner, run, items}
 use Rattle.rules.specs.Reached.{none, first, Selects, only, past-term, by-include, by-redirect, Reaches, here, below, Outside, unproduced}
-use Rattle.rules.specs.Zones.{Row, zone, txt, mail, answer, decided}
+use Rattle.rules.specs.Zones.{Row, zone, aside, txt, mail, answer, decided}
 
 -- example.com includes b.example, which redirects to c.example, whose record is outside the grammar; what stands after the include isn't tried
 abbrev pub rows : List Row
@@ -43,7 +43,7 @@ made s ts h e w =
     subst (Record s) (sym (reads-one w (record-complete (d .1) h .walk))) (d .1)
 
 -- the text of an owner that has a single one
-selected : (d s : List ℕ) → ltb 1 (labelCount d) ≡ true → zone rows 16 d ≡ present (items (s ∷ [])) → hasVersion s ≡ true
+selected : (d s : List ℕ) → ltb 1 (labelCount d) ≡ true → Has (zone rows) 16 d (items (s ∷ [])) → hasVersion s ≡ true
     → Selects (zone rows) d s
 selected d s l q v = only (ltb-true 1 (labelCount d) l) q (first (take 6 s, drop 6 s, version-of s v) none)
 
@@ -56,14 +56,14 @@ pub record ReachedCase : Type 0 where
   pub answered : answer rows ≡ decided 6 2 0
 
 pub reached-case : ReachedCase
-unfolding zone answer within isSpace isNotSpace isNotSlash isUpper isNotUpper isAlpha isDigit isLengthByte isAlphanumeric isHexDigit isVisible isPrintable isLabelByte isNameByte isToplabelByte isMacroLiteral isDelimiter lower same sameWord contains all rightmost grow split isIn text-runs-of-run runEnd trailingStart labels isLabel isName isTableName labelCount atOrBelow withoutDot lowered normal shorterLabels shortened separatorBefore joinBy pieceText macros-expansion-of-textOf questionName isLiteral pieceOf piecesAfter piecesFrom pieces endsInMacro isToplabel lastLabel endsInLabel endsRight isMacroString isP anyP usesP isQualifier isReserved saidOf laterKind kindOf specAt allOf withSpec mechanismBy mechanismOf records-reader-of-modifierOf tokenOf tokenAnswer termFrom readTerm isRedirect isExplanation checkAfter checkFrom hasVersion readRecord includeMatch checkTarget begunCheck includeOf includeStep having mechanismStep termStep modifierOf noneIsPermerror redirectOf noMatch afterStep tryTerms termsAfter termsFrom termsOf readOutcome versioned selection textReply recordLookup afterLookup checkName check evaluation explanationOf verdict expansion givesExpansion expanded givesName target counting bind then answered run
+unfolding zone answer within isSpace isNotSpace isNotSlash isUpper isNotUpper isAlpha isDigit isLengthByte isAlphanumeric isHexDigit isVisible isPrintable isLabelByte isNameByte isToplabelByte isMacroLiteral isDelimiter lower same sameWord contains all rightmost grow split isIn text-runs-of-run runEnd trailingStart labels isLabel isName isTableName labelCount atOrBelow withoutDot lowered normal shorterLabels shortened separatorBefore joinBy pieceText macros-expansion-of-textOf questionName isLiteral pieceOf piecesAfter piecesFrom pieces endsInMacro isToplabel lastLabel endsInLabel endsRight isMacroString isP anyP usesP isQualifier isReserved saidOf laterKind kindOf specAt allOf withSpec mechanismBy mechanismOf records-reader-of-modifierOf tokenOf tokenAnswer termFrom readTerm isRedirect isExplanation checkAfter checkFrom hasVersion readRecord includeMatch checkTarget begunCheck includeOf includeStep having mechanismStep termStep modifierOf noneIsPermerror redirectOf noMatch afterStep tryTerms termsAfter termsFrom termsOf readOutcome versioned selection textReply recordLookup afterLookup checkName check evaluation explanationOf verdict expansion givesExpansion expanded givesName target counting bind then answered sooner run aside
 reached-case = record {
   reached =
-      below (selected (bytes "example.com") _ refl refl refl) (omega arith) (made _ _ (omega arith) refl (step refl (step refl (stop refl))))
-      (by-include {c = noCounts} refl refl refl (omega arith) refl)
-      (below (selected (bytes "b.example") _ refl refl refl) (omega arith) (made _ _ (omega arith) refl (step refl (stop refl)))
-      (past-term refl (by-redirect {c = record { lookups = 1; voids = 0 }} refl (omega arith) refl)) here);
-  selects = selected (bytes "c.example") _ refl refl refl;
+      below (selected (bytes "example.com") _ refl (300, refl) refl) (omega arith) (made _ _ (omega arith) refl (step refl (step refl (stop refl))))
+      (by-include {c = noCounts} refl refl refl (omega arith) (λ l. (l, refl)))
+      (below (selected (bytes "b.example") _ refl (300, refl) refl) (omega arith) (made _ _ (omega arith) refl (step refl (stop refl)))
+      (past-term (λ l. (l, refl)) (by-redirect {c = record { lookups = 1; voids = 0 }} refl (omega arith) (λ l. (l, refl)))) here);
+  selects = selected (bytes "c.example") _ refl (300, refl) refl;
   outside = unproduced (λ ts r. let a = record-complete r (omega arith) .accepted in let z : _≡_ {A = ℕ} 0 1 = cc in omega arith);
   answered = refl;
 }

@@ -7,13 +7,14 @@ use Rattle.text.specs.Texts.{bytes}
 use Rattle.rules.specs.Tree.{run}
 use Rattle.rules.specs.Evaluation.{verdict}
 use Rattle.records.specs.Readings.{absent, present}
-use Rattle.rules.specs.Zones.{Row, zone, txt, row, broken, spf, included, mail, here, elsewhere, here6, elsewhere6, answer, answer6, decided, fails, wants, result, failedIn}
+use Rattle.rules.specs.declared.Life.{Life}
+use Rattle.rules.specs.Zones.{Row, zone, aside, lasting, txt, row, broken, spf, included, mail, here, elsewhere, here6, elsewhere6, answer, answer6, lifetime, decided, fails, wants, result, failedIn}
 
 -- record lookup
 pub record LookupRules : Type 0 where
   -- "A malformed or single-label domain gives none."
-  pub malformed-domain : run (zone []) (verdict mail (bytes "example..com")) ≡ decided 0 0 0
-  pub single-label : run (zone []) (verdict mail (bytes "localhost.")) ≡ decided 0 0 0
+  pub malformed-domain : aside (run (zone []) Life.Unmet (verdict mail (bytes "example..com"))) ≡ decided 0 0 0
+  pub single-label : aside (run (zone []) Life.Unmet (verdict mail (bytes "localhost."))) ≡ decided 0 0 0
   -- "Failed gives temperror."
   pub lookup-failed : answer (broken 16 "example.com" ∷ []) ≡ decided 5 0 0
   -- "none gives none, several permerror, a single one is selected"
@@ -187,6 +188,30 @@ pub record FailingRules : Type 0 where
   pub p-not-asked : result (spf "v=spf1 -all exp=%{p}.x" ∷ []) ≡ failedIn 0 "example.com" (present (bytes "%{p}.x"))
   pub malformed-target : result (spf "v=spf1 -all exp=a..b" ∷ []) ≡ failedIn 0 "example.com" (present (bytes "a..b"))
 
+-- W-209 amends the house rules: "the smallest among the entries it consulted, or 0 if none"
+pub record LifetimeRules : Type 0 where
+  -- "consulted": every entry that a question found, a void answer's and a failed one's too
+  pub void-answer : lifetime (lasting 50 (spf "v=spf1 a:g.x ?all") ∷ lasting 7 (row 1 "g.x" []) ∷ []) ≡ 7
+  pub failed-answer : lifetime (lasting 50 (spf "v=spf1 a:g.x ?all") ∷ lasting 7 (broken 1 "g.x") ∷ []) ≡ 7
+  pub record-first : lifetime (lasting 5 (spf "v=spf1 a:g.x ?all") ∷ lasting 7 (row 1 "g.x" []) ∷ []) ≡ 5
+  -- "7 included": the missing question has no entry and adds nothing; "0 if none"
+  pub missing : lifetime (lasting 50 (spf "v=spf1 a:g.x ?all") ∷ []) ≡ 50
+  pub empty-table : lifetime [] ≡ 0
+  -- the largest lifetime is one, and 0 is one too
+  pub largest : lifetime (lasting 4294967295 (spf "v=spf1 -all") ∷ []) ≡ 4294967295
+  pub of-zero : lifetime (lasting 50 (spf "v=spf1 a:g.x ?all") ∷ lasting 0 (row 1 "g.x" []) ∷ []) ≡ 0
+  -- entries passed over: of kind 99, of the other family, a host behind a match, an entry that no term asks for
+  pub kind-99 : lifetime (lasting 50 (spf "v=spf1 -all") ∷ lasting 1 (row 99 "example.com" (bytes "v=spf1 -all" ∷ [])) ∷ []) ≡ 50
+  pub other-family : lifetime (lasting 50 (spf "v=spf1 a:g.x -all") ∷ lasting 60 (row 1 "g.x" (elsewhere ∷ [])) ∷ lasting 1 (row 28 "g.x" (here6 ∷ [])) ∷ []) ≡ 50
+  pub behind-match : lifetime (lasting 50 (spf "v=spf1 mx -all") ∷ lasting 60 (row 15 "example.com" ((0 ∷ 1 ∷ bytes "ok.x") ∷ (0 ∷ 2 ∷ bytes "h.x") ∷ []))
+      ∷ lasting 70 (row 1 "ok.x" (here ∷ [])) ∷ lasting 1 (row 1 "h.x" []) ∷ []) ≡ 50
+  pub unasked : lifetime (lasting 50 (spf "v=spf1 ip4:192.0.2.129 a:g.x -all") ∷ lasting 1 (row 1 "g.x" []) ∷ []) ≡ 50
+  -- p: "all of the first 10 names are asked", also after the current domain was found
+  pub of-p : lifetime (lasting 50 (spf "v=spf1 exists:%{p}.x -all") ∷ lasting 60 (row 12 "129.2.0.192.in-addr.arpa" (bytes "example.com" ∷ bytes "h.x" ∷ []))
+      ∷ lasting 60 (row 1 "example.com" (here ∷ [])) ∷ lasting 9 (row 1 "h.x" []) ∷ lasting 60 (row 1 "example.com.x" []) ∷ []) ≡ 9
+  -- "the first call's result": the explanation's entries never count
+  pub explanation : lifetime (lasting 50 (spf "v=spf1 -all exp=e.x") ∷ lasting 7 (row 16 "e.x" (bytes "no" ∷ [])) ∷ []) ≡ 50
+
 pub record Rules : Type 0 where
   pub lookup : LookupRules
   pub signs : SignRules
@@ -198,3 +223,4 @@ pub record Rules : Type 0 where
   pub voids : VoidRules
   pub explanation : ExplanationRules
   pub failing : FailingRules
+  pub lifetimes : LifetimeRules

@@ -13,6 +13,12 @@ pub enum Ending {
     Wanting { kind: u16, length: usize },
 }
 
+// The smallest lifetime of the entries consulted so far; none where no entry was.
+pub enum Life {
+    Unmet,
+    Least(u32),
+}
+
 // Whether a term matches.
 pub enum Matched {
     Yes,
@@ -20,10 +26,11 @@ pub enum Matched {
     Stop(Ending),
 }
 
-// What a term comes to, with the counts after it.
+// What a term comes to, with the counts and the lifetime after it.
 pub struct Stepped {
     pub matched: Matched,
     pub counts: Counts,
+    pub life: Life,
 }
 
 // What a domain-spec names: a name that was written, with its length; nothing; or a question of p without an entry.
@@ -33,12 +40,24 @@ pub enum Target {
     Wanting { kind: u16, length: usize },
 }
 
+// A domain-spec's name, with the lifetime after it.
+pub struct Targeted {
+    pub target: Target,
+    pub life: Life,
+}
+
 // The value of p: the current domain, a name that stands in the table, `unknown`, or a question without an entry.
 pub enum PValue {
     Current,
     Listed { from: usize, to: usize },
     Unknown,
     Wanting { kind: u16, length: usize },
+}
+
+// The value of p, with the lifetime after it.
+pub struct PFound {
+    pub value: PValue,
+    pub life: Life,
 }
 
 // A part of the table, by its places.
@@ -55,16 +74,23 @@ pub enum Selected {
     Missing,
 }
 
+// What record lookup comes to, with the lifetime after it.
+pub struct LookedUp {
+    pub selected: Selected,
+    pub life: Life,
+}
+
 // Which record failed: none; or the one whose domain's name stands in the table, and where in the table the argument of its exp stands.
 pub enum FailingPlace {
     Nowhere,
     In { domain: Span, exp: Modifier },
 }
 
-// What a check comes to, with the counts after it, and for a fail which record failed.
+// What a check comes to, with the counts and the lifetime after it, and for a fail which record failed.
 pub struct Checked {
     pub ending: Ending,
     pub counts: Counts,
+    pub life: Life,
     pub failing: FailingPlace,
 }
 

@@ -22,7 +22,7 @@ use text::fields::field;
 
 // Prints the answer to what is held.
 fn print_held(input: &[u8]) {
-    let mut out = [0u8; 600];
+    let mut out = [0u8; 640];
     let size = check_input::answer_input(input, &mut out);
     io::write_all(1, part(&out, 0, size));
 }
@@ -65,7 +65,7 @@ pub fn run_wide(front: &[u8], rest: &[u8], byte: u8, count: usize) {
     print_held(part(&held, 0, size));
 }
 
-// Prints the second call's answer with the counts of the first, from buffers of some length; `domain` is the failing record's.
+// Prints the second call's answer with the counts and the lifetime of the first, from buffers of some length; `domain` is the failing record's.
 fn explain_lent(
     client: Address,
     domain: &[u8],
@@ -74,6 +74,7 @@ fn explain_lent(
     place: usize,
     size: usize,
     counts: Counts,
+    lifetime: u32,
     name: &mut [u8],
     text: &mut [u8],
     out: &mut [u8],
@@ -96,14 +97,14 @@ fn explain_lent(
         text,
     ) {
         Explanation::Text(n) => {
-            let next = put_number(3, counts, out, 0);
+            let next = put_number(3, counts, lifetime, out, 0);
             put_line(part(text, 0, n), out, next)
         }
         Explanation::Wanting { kind, length: n } => {
-            put_named(kind, counts, part(name, 0, n), out, 0)
+            put_named(kind, counts, lifetime, part(name, 0, n), out, 0)
         }
-        Explanation::Refused(number) => put_number(number, none, out, 0),
-        Explanation::RefusedAt { number, at } => put_placed(number, at as u64, none, out, 0),
+        Explanation::Refused(number) => put_number(number, none, 0, out, 0),
+        Explanation::RefusedAt { number, at } => put_placed(number, at as u64, none, 0, out, 0),
     }
 }
 
@@ -131,9 +132,14 @@ fn call_lent(
         after_fields(input, 10, 6),
         name,
     ) {
-        Answer::Decided { value, counts } => put_number(value, counts, out, 0),
+        Answer::Decided {
+            value,
+            counts,
+            lifetime,
+        } => put_number(value, counts, lifetime, out, 0),
         Answer::Fail {
             counts,
+            lifetime,
             domain: n,
             place,
             length: size,
@@ -145,6 +151,7 @@ fn call_lent(
             place,
             size,
             counts,
+            lifetime,
             question,
             text,
             out,
@@ -153,9 +160,10 @@ fn call_lent(
             kind,
             length: n,
             counts,
-        } => put_named(kind, counts, part(name, 0, n), out, 0),
-        Answer::Refused(number) => put_number(number, none, out, 0),
-        Answer::RefusedAt { number, at } => put_placed(number, at as u64, none, out, 0),
+            lifetime,
+        } => put_named(kind, counts, lifetime, part(name, 0, n), out, 0),
+        Answer::Refused(number) => put_number(number, none, 0, out, 0),
+        Answer::RefusedAt { number, at } => put_placed(number, at as u64, none, 0, out, 0),
     }
 }
 

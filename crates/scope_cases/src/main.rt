@@ -8,7 +8,7 @@
 //                                       `ok` and the expansion, or `refused` and the number; HELO is helo.example, the receiver empty, t 7
 //     match LABEL CLIENT NETWORK LENGTH
 //                                       1 if they match at that prefix length, else 0
-//     check LABEL INPUT                 what the check program prints: number, kind or place and both counts, and for 3 and 7 the text or name on a second line;
+//     check LABEL INPUT                 what the check program prints: number, kind or place, both counts and the lifetime, and for 3 and 7 the text or name on a second line;
 //                                       `input` for a client or t that cannot be read. INPUT is client, domain, sender, HELO, receiver and t, a line
 //                                       each, and the table
 //     wide LABEL COUNT BYTE FRONT REST  the same of an input that is FRONT, so many of a byte, and REST, held chunk by chunk

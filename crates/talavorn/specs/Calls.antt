@@ -16,6 +16,7 @@ use Rattle.answer_table.specs.Numbers.{reported as table-reported}
 use Rattle.answer_table.specs.Reader.{checkTable}
 use Rattle.answer_table.specs.Answers.{TableAnswers}
 use Rattle.answer_entry.specs.Appending.{Outcome as AppendOutcome, Appends}
+use Rattle.old_layout.specs.Rewriting.{Outcome as AddOutcome, Rewrites}
 use Rattle.macros.specs.declared.Form.{Form}
 use Rattle.macros.specs.Expansion.{Given}
 use Rattle.macros.specs.Numbers.{Outcome as Expansion, refused as expansion-refused, answerOf as expandedOf, bufferOf}
@@ -35,7 +36,7 @@ use Rattle.evaluation.specs.First as first
 use Rattle.evaluation.specs.Second as second
 use Rattle.talavorn.specs.declared.numbers.FormAnswer.{FormAnswer}
 use Rattle.talavorn.specs.declared.numbers.IdentityAnswer.{IdentityAnswer}
-use Rattle.talavorn.specs.Numbers.{no-address, no-form, no-identity, encoded, encodedExplanation, recordNumbers, tableNumbers, appendedNumbers, expandedNumbers, writtenNumbers, lineNumbers, houseNumbers, matchNumber, addressOctets, shapeOf, termNumbers, termOctets}
+use Rattle.talavorn.specs.Numbers.{no-address, no-form, no-identity, encoded, encodedExplanation, recordNumbers, tableNumbers, appendedNumbers, expandedNumbers, writtenNumbers, lineNumbers, houseNumbers, addedNumbers, matchNumber, addressOctets, shapeOf, termNumbers, termOctets}
 
 -- an evaluation, by the table's list of entries: octets that are no client's are refused before all else. What is lent determines what is handed back
 -- (`first-one`, evaluation/proofs/Laws/Deciding.antt)
@@ -159,10 +160,16 @@ pub record TableSays (t numbers : List ℕ) : Type 0 where
   pub checked : TableAnswers t (table-reported (checkTable t))
 
 -- appending an entry, its name in lower case, to a table in a buffer
-pub record AppendSays (kind status : ℕ) (name items table : List ℕ) (size : ℕ) (numbers table′ : List ℕ) : Type 0 where
+pub record AppendSays (kind status lifetime : ℕ) (name items table : List ℕ) (size : ℕ) (numbers table′ : List ℕ) : Type 0 where
   pub outcome : AppendOutcome
-  pub appends : Appends kind status (map lower name) items table size outcome table′
+  pub appends : Appends kind status lifetime (map lower name) items table size outcome table′
   pub answer : numbers ≡ appendedNumbers size outcome
+
+-- rewriting a table without lifetimes into a buffer (W-209; `rewrites-one`, old_layout/proofs/Laws/Outcomes.antt)
+pub record AddSays (old numbers before after : List ℕ) : Type 0 where
+  pub outcome : AddOutcome
+  pub rewrites : Rewrites old before outcome after
+  pub answer : numbers ≡ addedNumbers outcome
 
 -- reading an address
 pub record AddressSays (s : List ℕ) (r : ℕ) (octets octets′ : List ℕ) : Type 0 where

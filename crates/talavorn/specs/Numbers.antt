@@ -11,6 +11,7 @@ use Rattle.address.specs.Matching.{matchesAt}
 use Rattle.networks.specs.declared.Network.{Network}
 use Rattle.answer_table.specs.Numbers.{nowhere, byte, Report as TableReport, accepted as table-accepted, refused as table-refused}
 use Rattle.answer_entry.specs.Appending.{Outcome as AppendOutcome, appended, refused as append-refused}
+use Rattle.old_layout.specs.Rewriting.{Outcome as AddOutcome, written, refused as add-refused}
 use Rattle.macros.specs.declared.Form.{Form}
 use Rattle.macros.specs.declared.Expanded.{Expanded}
 use Rattle.records.specs.Numbers.{RecordReport, accepted, refused}
@@ -36,14 +37,14 @@ no-form = 91
 abbrev pub no-identity : ℕ
 no-identity = 92
 
--- an evaluation: the result's or refusal's number; kind or place; both counts; the length of the name that was written, a wanted question's or the failing
+-- an evaluation: the result's or refusal's number; kind or place; both counts; the lifetime (W-209); the length of the name that was written, a wanted question's or the failing
 -- record's domain; the place and length of its exp argument. 0 for what an answer has not
 unfoldable pub encoded : Answer → List ℕ
-encoded (Answer.Decided value c) = value ∷ 0 ∷ c .lookups ∷ c .voids ∷ 0 ∷ 0 ∷ 0 ∷ []
-encoded (Answer.Fail c n place size) = 3 ∷ 0 ∷ c .lookups ∷ c .voids ∷ n ∷ place ∷ size ∷ []
-encoded (Answer.Wanting kind n c) = 7 ∷ kind ∷ c .lookups ∷ c .voids ∷ n ∷ 0 ∷ 0 ∷ []
-encoded (Answer.Refused number) = number ∷ 0 ∷ 0 ∷ 0 ∷ 0 ∷ 0 ∷ 0 ∷ []
-encoded (Answer.RefusedAt number place) = number ∷ place ∷ 0 ∷ 0 ∷ 0 ∷ 0 ∷ 0 ∷ []
+encoded (Answer.Decided value c life) = value ∷ 0 ∷ c .lookups ∷ c .voids ∷ life ∷ 0 ∷ 0 ∷ 0 ∷ []
+encoded (Answer.Fail c life n place size) = 3 ∷ 0 ∷ c .lookups ∷ c .voids ∷ life ∷ n ∷ place ∷ size ∷ []
+encoded (Answer.Wanting kind n c life) = 7 ∷ kind ∷ c .lookups ∷ c .voids ∷ life ∷ n ∷ 0 ∷ 0 ∷ []
+encoded (Answer.Refused number) = number ∷ 0 ∷ 0 ∷ 0 ∷ 0 ∷ 0 ∷ 0 ∷ 0 ∷ []
+encoded (Answer.RefusedAt number place) = number ∷ place ∷ 0 ∷ 0 ∷ 0 ∷ 0 ∷ 0 ∷ 0 ∷ []
 
 -- an explanation: 3, 7 or the refusal's number; kind or place; the length of the text or name that was written. 0 for what an answer has not
 unfoldable pub encodedExplanation : Explanation → List ℕ
@@ -100,6 +101,12 @@ unfoldable pub houseNumbers : HouseAnswer → List ℕ
 houseNumbers (HouseAnswer.Listed n) = 0 ∷ n ∷ []
 houseNumbers (HouseAnswer.Refused number) = number ∷ 0 ∷ []
 houseNumbers (HouseAnswer.RefusedAt number place) = number ∷ place ∷ []
+
+-- a table that is rewritten (W-209): 0; the length of the new one. Or the refusal's number; its place, 0 where it has none
+unfoldable pub addedNumbers : AddOutcome → List ℕ
+addedNumbers (written n) = 0 ∷ n ∷ []
+addedNumbers (add-refused number nowhere) = number ∷ 0 ∷ []
+addedNumbers (add-refused number (byte p)) = number ∷ p ∷ []
 
 -- whether a client matches a network at a prefix length
 unfoldable pub matchNumber : FromOctets → FromOctets → ℕ → ℕ

@@ -7,7 +7,7 @@ ghost use Rattle.macros.specs.Expansion.{given};
 ghost use Rattle.macros.specs.Numbers.{outcome};
 ghost use Rattle.received.specs.Answers.{given as lineGiven};
 ghost use Rattle.talavorn.specs.Numbers.{formOf, identityFor};
-ghost use Rattle.talavorn.specs.Calls.{expandFor, EvaluateAnswers, ExplainAnswers, RecordSays, TermSays, ExpandSays, ExpandAnswers, WriteAnswers, LineSays, UnquoteAnswers, HouseSays, MatchSays, TableSays, AppendSays, AddressSays};
+ghost use Rattle.talavorn.specs.Calls.{expandFor, EvaluateAnswers, ExplainAnswers, RecordSays, TermSays, ExpandSays, ExpandAnswers, WriteAnswers, LineSays, UnquoteAnswers, HouseSays, MatchSays, TableSays, AppendSays, AddSays, AddressSays};
 use address::FromOctets;
 use answer_table::TableAnswer;
 use evaluation::explaining;
@@ -30,12 +30,12 @@ pub extern "C" fn talavorn_evaluate(
     seconds: u64,
     table: &[u8],
     name: &mut [u8],
-    values: &mut [usize; 6],
+    values: &mut [usize; 7],
 ) -> u8
     ensures { λ r. ⌜ EvaluateAnswers (fromOctets (now (client .entry))) (now (domain .entry)) (now (sender .entry)) (now (helo .entry)) (now (receiver .entry)) seconds (now (table .entry)) (r ∷ now (values .exit)) (now (name .entry)) (now (name .exit)) ⌝ }
 {
     let FromOctets::Is(a) = address::from_octets(client) else {
-        *values = [0, 0, 0, 0, 0, 0];
+        *values = [0, 0, 0, 0, 0, 0, 0];
         return 90;
     };
     let answer = evaluation::evaluate(a, domain, sender, helo, receiver, seconds, table, name);
@@ -261,16 +261,26 @@ pub extern "C" fn talavorn_check_table(table: &[u8], place: &mut usize) -> u8
 pub extern "C" fn talavorn_append_entry(
     kind: u16,
     status: u8,
+    lifetime: u32,
     name: &[u8],
     items: &[u8],
     table: &mut [u8],
     size: &mut usize,
     place: &mut usize,
 ) -> u8
-    ensures { λ r. ⌜ AppendSays kind status (now (name .entry)) (now (items .entry)) (now (table .entry)) (now (size .entry)) (r ∷ now (size .exit) ∷ now (place .exit) ∷ []) (now (table .exit)) ⌝ }
+    ensures { λ r. ⌜ AppendSays kind status lifetime (now (name .entry)) (now (items .entry)) (now (table .entry)) (now (size .entry)) (r ∷ now (size .exit) ∷ now (place .exit) ∷ []) (now (table .exit)) ⌝ }
 {
-    let answer = answer_entry::append_entry(kind, status, name, items, table, *size);
+    let answer = answer_entry::append_entry(kind, status, lifetime, name, items, table, *size);
     numbers::put_appended(answer, size, place)
+}
+
+// Rewrites a table of the layout without lifetimes into a lent buffer, with a lifetime of 0 in each entry: 0 and the new length; or 24 to 26 and the
+// place in the old table, 0 for 24.
+#[no_mangle]
+pub extern "C" fn talavorn_add_lifetimes(old: &[u8], new: &mut [u8], value: &mut usize) -> u8
+    ensures { λ r. ⌜ AddSays (now (old .entry)) (r ∷ now (value .exit) ∷ []) (now (new .entry)) (now (new .exit)) ⌝ }
+{
+    numbers::put_added(old_layout::add_lifetimes(old, new), value)
 }
 
 // Reads an address, written as for ip4 or ip6: 4 or 16, with as many octets written, or 0.

@@ -6,13 +6,15 @@ ghost use lib.ListN.{length};
 ghost use Rattle.text.specs.Writing.{overwritten};
 ghost use Rattle.address.specs.Octets.{octets};
 ghost use Rattle.answer_entry.specs.Numbers.{outcomeOf};
-ghost use Rattle.talavorn.specs.Numbers.{encoded, encodedExplanation, appendedNumbers, expandedNumbers, formOf, writtenNumbers, identityFor, lineNumbers, houseNumbers, Inside, shape, networkShape, shapeOf, termRow, networkOf};
+ghost use Rattle.old_layout.specs.Numbers.{outcomeOf as addedOutcome};
+ghost use Rattle.talavorn.specs.Numbers.{encoded, encodedExplanation, appendedNumbers, expandedNumbers, formOf, writtenNumbers, identityFor, lineNumbers, houseNumbers, addedNumbers, Inside, shape, networkShape, shapeOf, termRow, networkOf};
 use address::Address;
 use answer_entry::AppendAnswer;
 use evaluation::Answer;
 use evaluation::explaining::Explanation;
 use macros::Expanded;
 use macros::Form;
+use old_layout::Added;
 use publishing::HouseAnswer;
 use received::Identity;
 use received::LineAnswer;
@@ -42,17 +44,30 @@ pub struct Shape {
     pub six: u8,
 }
 
-// Writes what an evaluation answers: kind or place, both counts, the length of the name, and the place and length of exp; answers the number.
-pub fn put_answer(answer: Answer, values: &mut [usize; 6]) -> u8
+// Writes what an evaluation answers: kind or place, both counts, the lifetime, the length of the name, and the place and length of exp; answers the number.
+pub fn put_answer(answer: Answer, values: &mut [usize; 7]) -> u8
     ensures { λ r. ⌜ (r ∷ now (values .exit)) ≡ encoded answer ⌝ }
 {
     match answer {
-        Answer::Decided { value, counts } => {
-            *values = [0, counts.lookups as usize, counts.voids as usize, 0, 0, 0];
+        Answer::Decided {
+            value,
+            counts,
+            lifetime,
+        } => {
+            *values = [
+                0,
+                counts.lookups as usize,
+                counts.voids as usize,
+                lifetime as usize,
+                0,
+                0,
+                0,
+            ];
             value
         }
         Answer::Fail {
             counts,
+            lifetime,
             domain,
             place,
             length: size,
@@ -61,6 +76,7 @@ pub fn put_answer(answer: Answer, values: &mut [usize; 6]) -> u8
                 0,
                 counts.lookups as usize,
                 counts.voids as usize,
+                lifetime as usize,
                 domain,
                 place,
                 size,
@@ -71,11 +87,13 @@ pub fn put_answer(answer: Answer, values: &mut [usize; 6]) -> u8
             kind,
             length: size,
             counts,
+            lifetime,
         } => {
             *values = [
                 kind as usize,
                 counts.lookups as usize,
                 counts.voids as usize,
+                lifetime as usize,
                 size,
                 0,
                 0,
@@ -83,11 +101,11 @@ pub fn put_answer(answer: Answer, values: &mut [usize; 6]) -> u8
             7
         }
         Answer::Refused(number) => {
-            *values = [0, 0, 0, 0, 0, 0];
+            *values = [0, 0, 0, 0, 0, 0, 0];
             number
         }
         Answer::RefusedAt { number, at } => {
-            *values = [at, 0, 0, 0, 0, 0];
+            *values = [at, 0, 0, 0, 0, 0, 0];
             number
         }
     }
@@ -362,6 +380,31 @@ pub fn put_house(answer: HouseAnswer, value: &mut usize) -> u8
         HouseAnswer::RefusedAt { number, at } => {
             *value = at;
             number
+        }
+    }
+}
+
+// Writes what the rewriting of a table answers: the length of the new one, or the place of a refusal, 0 where it has none; answers 0, or the number of the
+// refusal.
+pub fn put_added(answer: Added, value: &mut usize) -> u8
+    ensures { λ r. ⌜ (r ∷ now (value .exit) ∷ []) ≡ addedNumbers (addedOutcome answer) ⌝ }
+{
+    match answer {
+        Added::Written(n) => {
+            *value = n;
+            0
+        }
+        Added::TooLong => {
+            *value = 0;
+            24
+        }
+        Added::Malformed(place) => {
+            *value = place;
+            25
+        }
+        Added::Repeated(place) => {
+            *value = place;
+            26
         }
     }
 }

@@ -8,6 +8,7 @@ use Rattle.domain.specs.Names.{atOrBelow}
 use Rattle.domain.specs.Normal.{Naming}
 use Rattle.macros.specs.declared.Form.{Form}
 use Rattle.rules.specs.declared.Counts.{Counts}
+use Rattle.rules.specs.declared.Life.{Life}
 use Rattle.rules.specs.declared.PValue.{PValue}
 use Rattle.rules.specs.Tree.{Reply, Check, give, ask, bind, Settled}
 use Rattle.rules.specs.Outcomes.{Gives, Wants}
@@ -42,10 +43,11 @@ givesValid client r = give (includesClient client r)
 unfoldable pub valid : Address → Counts → List ℕ → Check Bool
 valid client c n = ask (addressKind client) n c (givesValid client)
 
-unfoldable pub SaysValid : Counts → Settled Bool → Validity → (before after : List ℕ) → Type 0
-SaysValid c x Yes before after = Gives x true before after
-SaysValid c x No before after = Gives x false before after
-SaysValid c x (Wanting kind size) before after = Wants x kind size c before after
+-- from a lifetime, which a question without an entry leaves
+unfoldable pub SaysValid : Counts → Life → Settled Bool → Validity → (before after : List ℕ) → Type 0
+SaysValid c l x (Yes j) before after = Gives x true j before after
+SaysValid c l x (No j) before after = Gives x false j before after
+SaysValid c l x (Wanting kind size) before after = Wants x kind size c l before after
 
 -- the target where the domain-spec uses p
 unfoldable pub targetWithP : Mail → List ℕ → List ℕ → Counts → Check Naming

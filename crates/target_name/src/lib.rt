@@ -20,8 +20,11 @@ use domain::Name;
 use macros::Expanded;
 use macros::Form;
 use rules::Counts;
+use rules::Life;
+use rules::PFound;
 use rules::PValue;
 use rules::Target;
+use rules::Targeted;
 use text::bytes;
 use text::bytes::Class;
 use text::words;
@@ -36,10 +39,10 @@ enum Choice {
     Nobody,
 }
 
-// Whether a name is validated, or the question of its addresses without an entry.
+// Whether a name is validated, with the lifetime after it; or the question of its addresses without an entry.
 enum Validity {
-    Yes,
-    No,
+    Yes(Life),
+    No(Life),
     Wanting { kind: u16, length: usize },
 }
 
@@ -88,22 +91,36 @@ fn value_of(choice: Choice) -> PValue
 }
 
 // Asks for a name's addresses.
-fn validate(client: Address, table: &[u8], name: &[u8], counts: Counts, out: &mut [u8]) -> Validity
-    ensures { λ r. ⌜ SaysValid counts (run (tableIn (now (table .entry))) (valid client counts (now (name .entry)))) r (now (out .entry)) (now (out .exit)) ⌝ }
+fn validate(
+    client: Address,
+    table: &[u8],
+    name: &[u8],
+    counts: Counts,
+    life: Life,
+    out: &mut [u8],
+) -> Validity
+    ensures { λ r. ⌜ SaysValid counts life (run (tableIn (now (table .entry))) life (valid client counts (now (name .entry)))) r (now (out .entry)) (now (out .exit)) ⌝ }
 {
     let kind = client_match::address_kind(client);
     let found = answer_table::find(table, kind, name);
-    let Found::Entry { status, start, end } = found else {
+    let Found::Entry {
+        status,
+        lifetime,
+        start,
+        end,
+    } = found
+    else {
         client_match::want(name, out);
         return Validity::Wanting {
             kind,
             length: name.len(),
         };
     };
+    let met = client_match::sooner(life, lifetime);
     if client_match::includes_client(client, status, bytes::part(table, start, end)) {
-        return Validity::Yes;
+        return Validity::Yes(met);
     }
-    Validity::No
+    Validity::No(met)
 }
 
 // The value of p, once its names are known: they stand in the table from a place up to another.
@@ -114,38 +131,51 @@ fn choose_name(
     start: usize,
     end: usize,
     counts: Counts,
+    life: Life,
     out: &mut [u8],
-) -> PValue
-    ensures { λ r. ⌜ SaysP counts (now (domain .entry)) (now (table .entry)) (run (tableIn (now (table .entry))) (pReply client (now (domain .entry)) counts (items (itemsOf (part (now (table .entry)) start end))))) r (now (out .entry)) (now (out .exit)) ⌝ }
+) -> PFound
+    ensures { λ r. ⌜ SaysP counts (now (domain .entry)) (now (table .entry)) (run (tableIn (now (table .entry))) life (pReply client (now (domain .entry)) counts (items (itemsOf (part (now (table .entry)) start end))))) r (now (out .entry)) (now (out .exit)) ⌝ }
 {
     let items = bytes::part(table, start, end);
     let mut choice = Choice::Nobody;
+    let mut met = life;
     let mut at = 0;
     let mut left: usize = 10;
     while 0 < left {
         if items.len() <= at {
-            return value_of(choice);
+            return PFound {
+                value: value_of(choice),
+                life: met,
+            };
         }
         let from = start + at + 2;
         let next = items::next_item(items, at);
         let to = start + next;
         let name = bytes::part(table, from, to);
-        match validate(client, table, name, counts, out) {
-            Validity::Yes => {
+        match validate(client, table, name, counts, met, out) {
+            Validity::Yes(after) => {
                 choice = choose(choice, domain, name, from, to);
+                met = after;
                 at = next;
                 left -= 1;
             }
-            Validity::No => {
+            Validity::No(after) => {
+                met = after;
                 at = next;
                 left -= 1;
             }
             Validity::Wanting { kind, length } => {
-                return PValue::Wanting { kind, length };
+                return PFound {
+                    value: PValue::Wanting { kind, length },
+                    life: met,
+                };
             }
         }
     }
-    value_of(choice)
+    PFound {
+        value: value_of(choice),
+        life: met,
+    }
 }
 
 // The value of p by the name that its first question asks.
@@ -155,22 +185,36 @@ fn ask_names(
     domain: &[u8],
     name: &[u8],
     counts: Counts,
+    life: Life,
     out: &mut [u8],
-) -> PValue
-    ensures { λ r. ⌜ SaysP counts (now (domain .entry)) (now (table .entry)) (run (tableIn (now (table .entry))) (ask 12 (now (name .entry)) counts (pReply client (now (domain .entry)) counts))) r (now (out .entry)) (now (out .exit)) ⌝ }
+) -> PFound
+    ensures { λ r. ⌜ SaysP counts (now (domain .entry)) (now (table .entry)) (run (tableIn (now (table .entry))) life (ask 12 (now (name .entry)) counts (pReply client (now (domain .entry)) counts))) r (now (out .entry)) (now (out .exit)) ⌝ }
 {
     let found = answer_table::find(table, 12, name);
-    let Found::Entry { status, start, end } = found else {
+    let Found::Entry {
+        status,
+        lifetime,
+        start,
+        end,
+    } = found
+    else {
         client_match::want(name, out);
-        return PValue::Wanting {
-            kind: 12,
-            length: name.len(),
+        return PFound {
+            value: PValue::Wanting {
+                kind: 12,
+                length: name.len(),
+            },
+            life,
         };
     };
+    let met = client_match::sooner(life, lifetime);
     if status == 2 {
-        return PValue::Unknown;
+        return PFound {
+            value: PValue::Unknown,
+            life: met,
+        };
     }
-    choose_name(client, table, domain, start, end, counts, out)
+    choose_name(client, table, domain, start, end, counts, met, out)
 }
 
 // The value of p for a current domain.
@@ -179,13 +223,14 @@ pub fn find_p(
     table: &[u8],
     domain: &[u8],
     counts: Counts,
+    life: Life,
     out: &mut [u8],
-) -> PValue
-    ensures { λ r. ⌜ SaysP counts (now (domain .entry)) (now (table .entry)) (run (tableIn (now (table .entry))) (pValue client (now (domain .entry)) counts)) r (now (out .entry)) (now (out .exit)) ⌝ }
+) -> PFound
+    ensures { λ r. ⌜ SaysP counts (now (domain .entry)) (now (table .entry)) (run (tableIn (now (table .entry))) life (pValue client (now (domain .entry)) counts)) r (now (out .entry)) (now (out .exit)) ⌝ }
 {
     let mut name = [0u8; 72];
     let n = address_text::put_reversed_name(client, &mut name, 0);
-    ask_names(client, table, domain, &name[..n], counts, out)
+    ask_names(client, table, domain, &name[..n], counts, life, out)
 }
 
 // The question name that a text is, at the front of `to`.
@@ -243,47 +288,63 @@ fn write_target_with_p(
     domain: &[u8],
     spec: &[u8],
     counts: Counts,
+    life: Life,
     to: &mut [u8],
     out: &mut [u8],
-) -> Target
+) -> Targeted
     requires { ⌜ (length (now sender) ≤ 320) × (253 ≤ length (now to)) ⌝ }
-    ensures { λ r. ⌜ SaysTarget counts (run (tableIn (now (table .entry))) (targetWithP (mailOf client (now (sender .entry)) (now (helo .entry)) (now (receiver .entry)) seconds) (now (domain .entry)) (now (spec .entry)) counts)) r (now (to .exit)) (now (out .entry)) (now (out .exit)) ⌝ }
+    ensures { λ r. ⌜ SaysTarget counts (run (tableIn (now (table .entry))) life (targetWithP (mailOf client (now (sender .entry)) (now (helo .entry)) (now (receiver .entry)) seconds) (now (domain .entry)) (now (spec .entry)) counts)) r (now (to .exit)) (now (out .entry)) (now (out .exit)) ⌝ }
 {
-    match find_p(client, table, domain, counts, out) {
-        PValue::Current => write_target(
-            client,
-            sender,
-            helo,
-            receiver,
-            seconds,
-            domain,
-            spec,
-            domain,
-            to,
-        ),
-        PValue::Listed { from, to: end } => write_target(
-            client,
-            sender,
-            helo,
-            receiver,
-            seconds,
-            domain,
-            spec,
-            bytes::part(table, from, end),
-            to,
-        ),
-        PValue::Unknown => write_target(
-            client,
-            sender,
-            helo,
-            receiver,
-            seconds,
-            domain,
-            spec,
-            b"unknown",
-            to,
-        ),
-        PValue::Wanting { kind, length } => Target::Wanting { kind, length },
+    let found = find_p(client, table, domain, counts, life, out);
+    let value = found.value;
+    let after = found.life;
+    match value {
+        PValue::Current => Targeted {
+            target: write_target(
+                client,
+                sender,
+                helo,
+                receiver,
+                seconds,
+                domain,
+                spec,
+                domain,
+                to,
+            ),
+            life: after,
+        },
+        PValue::Listed { from, to: end } => Targeted {
+            target: write_target(
+                client,
+                sender,
+                helo,
+                receiver,
+                seconds,
+                domain,
+                spec,
+                bytes::part(table, from, end),
+                to,
+            ),
+            life: after,
+        },
+        PValue::Unknown => Targeted {
+            target: write_target(
+                client,
+                sender,
+                helo,
+                receiver,
+                seconds,
+                domain,
+                spec,
+                b"unknown",
+                to,
+            ),
+            life: after,
+        },
+        PValue::Wanting { kind, length } => Targeted {
+            target: Target::Wanting { kind, length },
+            life: after,
+        },
     }
 }
 
@@ -298,14 +359,18 @@ pub fn make_target(
     domain: &[u8],
     spec: &[u8],
     counts: Counts,
+    life: Life,
     to: &mut [u8],
     out: &mut [u8],
-) -> Target
+) -> Targeted
     requires { ⌜ (length (now sender) ≤ 320) × (253 ≤ length (now to)) ⌝ }
-    ensures { λ r. ⌜ SaysTarget counts (run (tableIn (now (table .entry))) (target (mailOf client (now (sender .entry)) (now (helo .entry)) (now (receiver .entry)) seconds) (now (domain .entry)) (now (spec .entry)) counts)) r (now (to .exit)) (now (out .entry)) (now (out .exit)) ⌝ }
+    ensures { λ r. ⌜ SaysTarget counts (run (tableIn (now (table .entry))) life (target (mailOf client (now (sender .entry)) (now (helo .entry)) (now (receiver .entry)) seconds) (now (domain .entry)) (now (spec .entry)) counts)) r (now (to .exit)) (now (out .entry)) (now (out .exit)) ⌝ }
 {
     if words::every(spec, Class::MacroLiteral) {
-        return write_name(spec, to);
+        return Targeted {
+            target: write_name(spec, to),
+            life,
+        };
     }
     if macros::uses_p(Form::DomainSpec, spec) {
         return write_target_with_p(
@@ -318,21 +383,25 @@ pub fn make_target(
             domain,
             spec,
             counts,
+            life,
             to,
             out,
         );
     }
-    write_target(
-        client,
-        sender,
-        helo,
-        receiver,
-        seconds,
-        domain,
-        spec,
-        &spec[..0],
-        to,
-    )
+    Targeted {
+        target: write_target(
+            client,
+            sender,
+            helo,
+            receiver,
+            seconds,
+            domain,
+            spec,
+            &spec[..0],
+            to,
+        ),
+        life,
+    }
 }
 
 // The same for a, mx and ptr: the current domain where no domain-spec is given.
@@ -347,11 +416,12 @@ pub fn make_target_or(
     given: bool,
     spec: &[u8],
     counts: Counts,
+    life: Life,
     to: &mut [u8],
     out: &mut [u8],
-) -> Target
+) -> Targeted
     requires { ⌜ (length (now sender) ≤ 320) × (length (now domain) ≤ 253) × (253 ≤ length (now to)) ⌝ }
-    ensures { λ r. ⌜ SaysTarget counts (run (tableIn (now (table .entry))) (targetOr (mailOf client (now (sender .entry)) (now (helo .entry)) (now (receiver .entry)) seconds) (now (domain .entry)) (cond given (present (now (spec .entry))) absent) counts)) r (now (to .exit)) (now (out .entry)) (now (out .exit)) ⌝ }
+    ensures { λ r. ⌜ SaysTarget counts (run (tableIn (now (table .entry))) life (targetOr (mailOf client (now (sender .entry)) (now (helo .entry)) (now (receiver .entry)) seconds) (now (domain .entry)) (cond given (present (now (spec .entry))) absent) counts)) r (now (to .exit)) (now (out .entry)) (now (out .exit)) ⌝ }
 {
     if given {
         return make_target(
@@ -364,10 +434,14 @@ pub fn make_target_or(
             domain,
             spec,
             counts,
+            life,
             to,
             out,
         );
     }
     writing::put_all(domain, to, 0);
-    Target::Name(domain.len())
+    Targeted {
+        target: Target::Name(domain.len()),
+        life,
+    }
 }

@@ -27,9 +27,9 @@ use Rattle.answer_entry.specs.Fitting.{newSize, isFit}
 use Rattle.answer_entry.proofs.Laws.Fitting.{has-table-accepted, given, new-length, fit-extends, extends-entry, extends-fit, extends-encoded, extends-new}
 
 -- the productions determine the answer: it is what these tests come to
-module _ (kind status : ℕ) (name items buffer : List ℕ) (size : ℕ) where
+module _ (kind status lifetime : ℕ) (name items buffer : List ℕ) (size : ℕ) where
   abbrev new : List ℕ
-  new = extended (take size buffer) kind status name items
+  new = extended (take size buffer) kind status lifetime name items
 
   abbrev afterCheck : Report → Outcome
   afterCheck (table-refused n p) = refused n p
@@ -52,20 +52,21 @@ module _ (kind status : ℕ) (name items buffer : List ℕ) (size : ℕ) where
       (cond (isFit kind status name items size (length es) (length buffer)) (appended (newSize size name items)) (refused 65 nowhere)) ≡ tested
   tested-has-table b = rw (← (found-iff (b .encoded .entries) kind name)) (tested-table (b .inside) (has-table-accepted b))
 
-  appends-tested : {o : Outcome} {a : List ℕ} → Appends kind status name items buffer size o a → (o ≡ tested) × (a ≡ bufferAfter o)
+  appends-tested : {o : Outcome} {a : List ℕ} → Appends kind status lifetime name items buffer size o a → (o ≡ tested) × (a ≡ bufferAfter o)
   appends-tested (beyond h) = (simp (lt-ltb (length buffer) size h), refl)
   appends-tested (no-table h t) = (tested-table h t, refl)
   appends-tested (in-table b h) = (rw h at (tested-has-table b), refl)
   appends-tested (unfit {es = es} b h u) =
-      let f = test-fails (isFit kind status name items size (length es) (length buffer)) (λ y. u (suc (length es)) (fit-extends kind status name items b h y)) in
+      let f = test-fails (isFit kind status name items size (length es) (length buffer))
+      (λ y. u (suc (length es)) (fit-extends kind status lifetime name items b h y)) in
       (rw (h, f) at (tested-has-table b), refl)
   appends-tested (added {es = es} b x) =
-      let h = extends-new kind status name items b (suc (length es)) x in
-      let f = extends-fit kind status name items b (suc (length es)) x in
-      (rw (new-length kind status name items b) (rw (h, f) at (tested-has-table b)), refl)
+      let h = extends-new kind status lifetime name items b (suc (length es)) x in
+      let f = extends-fit kind status lifetime name items b (suc (length es)) x in
+      (rw (new-length kind status lifetime name items b) (rw (h, f) at (tested-has-table b)), refl)
 
-  pub appends-one : {o o′ : Outcome} {a a′ : List ℕ} → Appends kind status name items buffer size o a → Appends kind status name items buffer size o′ a′
-      → (o ≡ o′) × (a ≡ a′)
+  pub appends-one : {o o′ : Outcome} {a a′ : List ℕ} → Appends kind status lifetime name items buffer size o a
+      → Appends kind status lifetime name items buffer size o′ a′ → (o ≡ o′) × (a ≡ a′)
   appends-one p q =
       let x = appends-tested p in
       let y = appends-tested q in
@@ -73,16 +74,17 @@ module _ (kind status : ℕ) (name items buffer : List ℕ) (size : ℕ) where
       (e, x .1 ∙ ap bufferAfter e ∙ sym (y .1))
 
   -- a refusal keeps the buffer
-  pub refused-kept : {k : ℕ} {p : Place} {a : List ℕ} → Appends kind status name items buffer size (refused k p) a → a ≡ buffer
+  pub refused-kept : {k : ℕ} {p : Place} {a : List ℕ} → Appends kind status lifetime name items buffer size (refused k p) a → a ≡ buffer
   refused-kept x = appends-tested x .1
 
 -- the buffer after an append: an accepted table of n bytes, whose entries are the old ones and one more; all other bytes are as before
-pub record Appended (kind status : ℕ) (name items buffer : List ℕ) (size n : ℕ) (after : List ℕ) : Type 0 where
+pub record Appended (kind status lifetime : ℕ) (name items buffer : List ℕ) (size n : ℕ) (after : List ℕ) : Type 0 where
   pub before : List Entry
   pub old : Entries (take size buffer) before
   pub it : Entry
   pub its-kind : it .kind ≡ kind
   pub its-status : it .status ≡ status
+  pub its-lifetime : it .lifetime ≡ lifetime
   pub its-name : it .name ≡ name
   pub its-items : Items kind items (it .items)
   pub table : Encoded (take n after) (before ++ (it ∷ []))
@@ -91,22 +93,23 @@ pub record Appended (kind status : ℕ) (name items buffer : List ℕ) (size n :
   pub front-kept : take size after ≡ take size buffer
   pub rest-kept : drop n after ≡ drop n buffer
 
-pub appended-entries : {kind status : ℕ} {name items buffer : List ℕ} {size n : ℕ} {after : List ℕ}
-    → Appends kind status name items buffer size (appended n) after → Appended kind status name items buffer size n after
-appended-entries {kind} {status} {name} {items} {buffer} {size} (added {es = es} b x) =
-    let w = entryBytes kind status name items in
+pub appended-entries : {kind status lifetime : ℕ} {name items buffer : List ℕ} {size n : ℕ} {after : List ℕ}
+    → Appends kind status lifetime name items buffer size (appended n) after → Appended kind status lifetime name items buffer size n after
+appended-entries {kind} {status} {lifetime} {name} {items} {buffer} {size} (added {es = es} b x) =
+    let w = entryBytes kind status lifetime name items in
     let t = take size buffer ++ w in
     let r = drop (length t) buffer in
     let e : take (length t) (t ++ r) ≡ t = take-append-seam t r in
     record {
       before = es;
       old = b .encoded .entries;
-      it = given kind status name items;
+      it = given kind status lifetime name items;
       its-kind = refl;
       its-status = refl;
+      its-lifetime = refl;
       its-name = refl;
-      its-items = entry-items kind status name items (extends-entry kind status name items b (suc (length es)) x) .held;
-      table = rw e (extends-encoded kind status name items b (suc (length es)) x);
+      its-items = entry-items kind status name items (extends-entry kind status lifetime name items b (suc (length es)) x) .held;
+      table = rw e (extends-encoded kind status lifetime name items b (suc (length es)) x);
       accepts = rw e (x .accepts);
       room = x .room;
       front-kept = ap (take size) (append-assoc (take size buffer) w r) ∙ take-at (take size buffer) (w ++ r) size (length-take-le size buffer (b .inside));
@@ -126,7 +129,8 @@ module _ (kind : ℕ) (name : List ℕ) (e : Entry) where
   lookup-before [] p = simp p
   lookup-before (d ∷ es) p = ap (cond (isPair kind name d) (present d)) (lookup-before es p)
 
-module _ {kind status : ℕ} {name items buffer : List ℕ} {size n : ℕ} {after : List ℕ} (a : Appended kind status name items buffer size n after) where
+module _ {kind status lifetime : ℕ} {name items buffer : List ℕ} {size n : ℕ} {after : List ℕ}
+    (a : Appended kind status lifetime name items buffer size n after) where
   -- the question of the entry is answered by it
   pub appended-found : lookup kind name (a .before ++ (a .it ∷ [])) ≡ present (a .it)
   unfolding isPair

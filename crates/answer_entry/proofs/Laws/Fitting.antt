@@ -14,18 +14,20 @@ use Rattle.text.proofs.Laws.Tests.{and-left, and-right, and-both, or-elim, true
 use Rattle.domain.specs.Names.{isTableName}
 use Rattle.answer_table.specs.Layout.{Entry, Encodes, entry, Entries, none, more, isKind, isStatus, isPair, holds}
 use Rattle.answer_table.specs.Numbers.{accepted, refused, byte}
-use Rattle.answer_table.specs.Answers.{most-bytes, most-entries, Encoded, NoEntry, TableAnswers, malformed, whole}
+use Rattle.answer_table.specs.Answers.{most-bytes, most-entries, EncodedIn, Encoded, NoEntry, TableAnswersIn, TableAnswers, malformed, whole}
 use Rattle.answer_table.specs.Reader.{itemsOf, isEntry}
+use Rattle.answer_table.specs.declared.Layout.{Layout}
 use Rattle.answer_table.proofs.Laws.Encoding.{entry-encoded, entry-none}
 use Rattle.answer_table.proofs.Laws.Entries.{entries-one, entries-snoc, distinct-snoc, distinct-before, pair-is}
 use Rattle.answer_table.proofs.Laws.Checks.{table-answers-is}
 use Rattle.answer_entry.specs.Encoding.{entryBytes}
 use Rattle.answer_entry.specs.Appending.{extended, HasTable, Extends}
 use Rattle.answer_entry.specs.Fitting.{newSize, isFit}
-use Rattle.answer_entry.proofs.Laws.Encoding.{two-bytes, length-entry}
+use Rattle.answer_entry.proofs.Laws.Encoding.{two-bytes, four-bytes, length-entry}
 
--- an accepted table
-pub accepted-encoded : {t : List ℕ} {n : ℕ} → TableAnswers t (accepted n) → (es : List Entry) × Encoded t es × (length es ≡ n) × (length t ≤ most-bytes)
+-- an accepted table, of either layout
+pub accepted-encoded : {lay : Layout} {t : List ℕ} {n : ℕ} → TableAnswersIn lay t (accepted n)
+    → (es : List Entry) × EncodedIn lay t es × (length es ≡ n) × (length t ≤ most-bytes)
 accepted-encoded (whole {es = es} short p) = (es, p, refl, short)
 
 -- and one at the front of a buffer
@@ -48,34 +50,34 @@ held-name (more {e = e} {es = es} p r) kind name h =
     (λ q. held-name r kind name q)
   where
     named : {w : List ℕ} {e : Entry} → Encodes w e → isTableName (e .name) ≡ true
-    named (entry tl tk hk hs hn it may) = hn
+    named (entry tl tk tf hk hs hn it may) = hn
 
-module _ (kind status : ℕ) (name items : List ℕ) where
+module _ (kind status lifetime : ℕ) (name items : List ℕ) where
   -- the entry that is added
   abbrev pub given : Entry
-  given = record { kind = kind; status = status; name = name; items = itemsOf items }
+  given = record { kind = kind; status = status; lifetime = lifetime; name = name; items = itemsOf items }
 
-  pub given-encoded : isEntry kind status name items ≡ true → Encodes (entryBytes kind status name items) given
+  pub given-encoded : isEntry kind status name items ≡ true → Encodes (entryBytes kind status lifetime name items) given
   unfolding entryBytes
-  given-encoded h = entry-encoded status name items (two-bytes _) (two-bytes kind) h
+  given-encoded h = entry-encoded status name items (two-bytes _) (two-bytes kind) (four-bytes lifetime) h
 
   pub entry-named : isEntry kind status name items ≡ true → isTableName name ≡ true
   unfolding isEntry
   entry-named h = and-left (isTableName name) _ (and-right (isStatus status) _ (and-right (isKind kind) _ h))
 
-  given-none : isEntry kind status name items ≡ false → NoEntry (entryBytes kind status name items)
+  given-none : isEntry kind status name items ≡ false → NoEntry (entryBytes kind status lifetime name items)
   unfolding entryBytes
-  given-none h = entry-none status name items (two-bytes _) (two-bytes kind) h
+  given-none h = entry-none status name items (two-bytes _) (two-bytes kind) (four-bytes lifetime) h
 
   module _ {buffer : List ℕ} {size : ℕ} {es : List Entry} (b : HasTable buffer size es) where
-    pub new-length : length (extended (take size buffer) kind status name items) ≡ newSize size name items
+    pub new-length : length (extended (take size buffer) kind status lifetime name items) ≡ newSize size name items
     new-length =
-        length-append (take size buffer) (entryBytes kind status name items)
-        ∙ omega (arith, length-take-le size buffer (b .inside), length-entry kind status name items)
+        length-append (take size buffer) (entryBytes kind status lifetime name items)
+        ∙ omega (arith, length-take-le size buffer (b .inside), length-entry kind status lifetime name items)
 
     -- an entry that passes the tests extends the table
     pub fit-extends : holds kind name es ≡ false → isFit kind status name items size (length es) (length buffer) ≡ true
-        → Extends buffer size kind status name items (suc (length es))
+        → Extends buffer size kind status lifetime name items (suc (length es))
     unfolding isFit
     fit-extends h f =
         let n = newSize size name items in
@@ -87,7 +89,7 @@ module _ (kind status : ℕ) (name items : List ℕ) where
         let l : length (es ++ (given ∷ [])) ≡ suc (length es) = length-append es (given ∷ []) ∙ omega arith in
         record {
           accepts =
-              subst (λ (k : ℕ). TableAnswers (extended (take size buffer) kind status name items) (accepted k)) l
+              subst (λ (k : ℕ). TableAnswers (extended (take size buffer) kind status lifetime name items) (accepted k)) l
               (whole (omega (arith, new-length, short)) (record {
                 entries = entries-snoc (b .encoded .entries) (given-encoded (and-right (ltb (length es) most-entries) _ f₂));
                 few = omega (arith, few, l);
@@ -97,13 +99,13 @@ module _ (kind status : ℕ) (name items : List ℕ) where
         }
 
     -- and no other does
-    module _ (n : ℕ) (x : Extends buffer size kind status name items n) where
-      never : (length es ≡ most-entries) ⊎ NoEntry (entryBytes kind status name items) → ⊥
+    module _ (n : ℕ) (x : Extends buffer size kind status lifetime name items n) where
+      never : (length es ≡ most-entries) ⊎ NoEntry (entryBytes kind status lifetime name items) → ⊥
       never o =
-          let t = extended (take size buffer) kind status name items in
+          let t = extended (take size buffer) kind status lifetime name items in
           let r : TableAnswers t (refused 25 (byte (length (take size buffer)))) =
-          malformed (take size buffer) (entryBytes kind status name items) (accepted-encoded (x .accepts) .3) refl (b .encoded)
-          (omega (arith, length-entry kind status name items)) o in
+          malformed (take size buffer) (entryBytes kind status lifetime name items) (accepted-encoded (x .accepts) .3) refl (b .encoded)
+          (omega (arith, length-entry kind status lifetime name items)) o in
           let e = table-answers-is r ∙ sym (table-answers-is (x .accepts)) in
           let z : _≡_ {A = ℕ} 0 1 = cc in
           omega arith
@@ -121,10 +123,10 @@ module _ (kind status : ℕ) (name items : List ℕ) where
           (and-both (ltb (length es) most-entries) _ few extends-entry))
 
       -- the entries of the new table
-      pub extends-encoded : Encoded (extended (take size buffer) kind status name items) (es ++ (given ∷ []))
+      pub extends-encoded : Encoded (extended (take size buffer) kind status lifetime name items) (es ++ (given ∷ []))
       extends-encoded =
           let a = accepted-encoded (x .accepts) in
-          let t = extended (take size buffer) kind status name items in
+          let t = extended (take size buffer) kind status lifetime name items in
           subst (λ (fs : List Entry). Encoded t fs) (entries-one (a .1 .entries) (entries-snoc (b .encoded .entries) (given-encoded extends-entry))) (a .1)
 
       pub extends-new : holds kind name es ≡ false

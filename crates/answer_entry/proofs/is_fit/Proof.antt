@@ -7,6 +7,9 @@ use Rattle.answer_entry.proofs.is_fit.Tie as tie
 returns : tie.Need-returns
 returns c = search fit-items
 
+header-size-requires : tie.Need-header-size-requires
+header-size-requires c κs = search needs
+
 add-end : tie.Need-add-end
 add-end c = search needs
 
@@ -36,6 +39,7 @@ is-fit-spec =
     tie.close
     (tie.spec
     returns
+    header-size-requires
     add-end
     add-end-2
     add-end-3

@@ -12,52 +12,55 @@ use borrow.Author.Tests.{eqb-true, eq-eqb, not-true}
 use Rattle.text.specs.Lists.{same}
 use Rattle.text.proofs.Laws.Tests.{and-left, and-right, and-both, or-elim, or-false-left, or-false-right, or-false-both, true-false}
 use Rattle.text.proofs.Laws.Words.{same-true, true-same}
-use Rattle.answer_table.specs.Layout.{Entry, Encodes, Entries, none, more, isPair, holds, distinct}
-use Rattle.answer_table.specs.Reader.{headerOf, entryOf, entriesAfter, entriesFrom, entriesOf}
+use Rattle.answer_table.specs.Layout.{Entry, EncodesIn, EntriesIn, none, more, isPair, holds, distinct}
+use Rattle.answer_table.specs.Reader.{headerOf, entryOf, entriesAfter, entriesFrom, entriesIn}
+use Rattle.answer_table.specs.declared.Layout.{Layout}
 use Rattle.answer_table.specs.declared.entries.Header.{Header}
 use Rattle.answer_table.specs.declared.entries.Header.the-variants.{Whole}
-use Rattle.answer_table.proofs.Laws.Encoding.{well-complete}
+use Rattle.answer_table.proofs.Laws.Encoding.{header-none, well-complete}
 
 -- one entry taken off
-pub entries-first : (s : List ℕ) (f kind status n size : ℕ) → headerOf s ≡ Whole kind status n size
-    → entriesFrom (suc f) s ≡ entryOf s kind status n size ∷ entriesFrom f (drop size s)
+pub entries-first : (lay : Layout) (s : List ℕ) (f kind status n size : ℕ) → headerOf lay s ≡ Whole kind status n size
+    → entriesFrom lay (suc f) s ≡ entryOf lay s kind status n size ∷ entriesFrom lay f (drop size s)
 unfolding entriesFrom entriesAfter
-entries-first s f kind status n size e = ap (λ (h : Header). entriesAfter s h (entriesFrom f)) e
+entries-first lay s f kind status n size e = ap (λ (h : Header). entriesAfter lay s h (entriesFrom lay f)) e
 
-entries-none : (f : ℕ) → entriesFrom f [] ≡ []
-unfolding entriesFrom entriesAfter headerOf
-entries-none zero = refl
-entries-none (suc f) = refl
+entries-none : (lay : Layout) (f : ℕ) → entriesFrom lay f [] ≡ []
+unfolding entriesFrom entriesAfter
+entries-none lay zero = refl
+entries-none lay (suc f) = rw (header-none lay)
 
 -- what is encoded is read; as many turns as there are bytes are enough
-entries-read : {t : List ℕ} {es : List Entry} → Entries t es → (f : ℕ) → length t ≤ f → entriesFrom f t ≡ es
-entries-read none f h = entries-none f
+entries-read : {lay : Layout} {t : List ℕ} {es : List Entry} → EntriesIn lay t es → (f : ℕ) → length t ≤ f → entriesFrom lay f t ≡ es
+entries-read {lay} none f h = entries-none lay f
 entries-read (more {w = w} {rest = rest} p q) zero h =
     let r = well-complete p rest in
     absurd (omega (arith, r .some, length-append w rest))
-entries-read (more {w = w} {rest = rest} {e = e} {es = es} p q) (suc f) h =
+entries-read {lay} (more {w = w} {rest = rest} {e = e} {es = es} p q) (suc f) h =
     let r = well-complete p rest in
-    let a = entries-first (w ++ rest) f (e .kind) (e .status) (length (e .name)) (length w) (r .header) in
-    let b : entriesFrom f rest ≡ es = entries-read q f (omega (arith, r .some, length-append w rest)) in
+    let a = entries-first lay (w ++ rest) f (e .kind) (e .status) (length (e .name)) (length w) (r .header) in
+    let b : entriesFrom lay f rest ≡ es = entries-read q f (omega (arith, r .some, length-append w rest)) in
     let d : drop (length w) (w ++ rest) ≡ rest = drop-append-seam w rest in
     cc (r .holds)
 
-pub entries-complete : {t : List ℕ} {es : List Entry} → Entries t es → entriesOf t ≡ es
-unfolding entriesOf
-entries-complete {t} p = entries-read p (length t) (omega arith)
+pub entries-complete : {lay : Layout} {t : List ℕ} {es : List Entry} → EntriesIn lay t es → entriesIn lay t ≡ es
+unfolding entriesIn
+entries-complete {t = t} p = entries-read p (length t) (omega arith)
 
 -- bytes encode one list of entries at most, which tells a reader that an accepted table has its entries and no others
-pub entries-one : {t : List ℕ} {es fs : List Entry} → Entries t es → Entries t fs → es ≡ fs
+pub entries-one : {lay : Layout} {t : List ℕ} {es fs : List Entry} → EntriesIn lay t es → EntriesIn lay t fs → es ≡ fs
 entries-one p q = sym (entries-complete p) ∙ entries-complete q
 
 -- one more entry at the end
-pub entries-snoc : {t w : List ℕ} {es : List Entry} {e : Entry} → Entries t es → Encodes w e → Entries (t ++ w) (es ++ (e ∷ []))
-entries-snoc {w = w} {e = e} none q = subst (λ (x : List ℕ). Entries x (e ∷ [])) (append-nil w) (more q none)
+pub entries-snoc : {lay : Layout} {t w : List ℕ} {es : List Entry} {e : Entry} → EntriesIn lay t es → EncodesIn lay w e
+    → EntriesIn lay (t ++ w) (es ++ (e ∷ []))
+entries-snoc {lay} {w = w} {e = e} none q = subst (λ (x : List ℕ). EntriesIn lay x (e ∷ [])) (append-nil w) (more q none)
 entries-snoc (more p r) q = rw append-assoc (more p (entries-snoc r q))
 
 -- the entry at the front of bytes is one only, and so is what follows it
-entry-first : {w w′ : List ℕ} {e e′ : Entry} → Encodes w e → Encodes w′ e′ → (r r′ : List ℕ) → w ++ r ≡ w′ ++ r′ → (e ≡ e′) × (r ≡ r′)
-entry-first {w} {w′} x x′ r r′ q =
+entry-first : {lay : Layout} {w w′ : List ℕ} {e e′ : Entry} → EncodesIn lay w e → EncodesIn lay w′ e′ → (r r′ : List ℕ) → w ++ r ≡ w′ ++ r′
+    → (e ≡ e′) × (r ≡ r′)
+entry-first {w = w} {w′ = w′} x x′ r r′ q =
     let a = well-complete x r in
     let b = well-complete x′ r′ in
     let d = drop-append-seam w r in
@@ -65,7 +68,7 @@ entry-first {w} {w′} x x′ r r′ q =
     (cc (a .header, a .holds, b .header, b .holds), cc (a .header, b .header))
 
 -- entries at the front of a table are the first of its entries
-pub entries-cut : {front t : List ℕ} {ds es : List Entry} → Entries front ds → Entries t es → (rest : List ℕ) → t ≡ front ++ rest
+pub entries-cut : {lay : Layout} {front t : List ℕ} {ds es : List Entry} → EntriesIn lay front ds → EntriesIn lay t es → (rest : List ℕ) → t ≡ front ++ rest
     → (fs : List Entry) × (es ≡ ds ++ fs)
 entries-cut {es = es} none q rest e = (es, refl)
 entries-cut (more {w = w} {rest = r} x p) none rest e =
@@ -107,7 +110,8 @@ pair-apart d e h = by (isPair (e .kind) (e .name) d) refl
     by false q = refl
     by true q =
         let p = pair-is (e .kind) (e .name) d q in
-        let y = and-both (eqb (e .kind) (d .kind)) (same (e .name) (d .name)) (eq-eqb (e .kind) (d .kind) (sym (p .0))) (true-same (e .name) (d .name) (sym (p .1))) in
+        let y = and-both (eqb (e .kind) (d .kind)) (same (e .name) (d .name)) (eq-eqb (e .kind) (d .kind) (sym (p .0)))
+        (true-same (e .name) (d .name) (sym (p .1))) in
         sym y ∙ h
 
 -- a list without a repeated pair, and one more whose pair isn't in it

@@ -46,7 +46,8 @@ module _ (s : List ℕ) (h : 0 < length s) where
   unfolding itemsFrom
   from-more n = simp some-test
 
-  fit-more : (n kind : ℕ) → itemsFitFrom (suc n) kind s ≡ cond (ltb (length s) (2 + number s)) false (cond (isItem kind (firstItem s)) (itemsFitFrom n kind (otherItems s)) false)
+  fit-more : (n kind : ℕ)
+      → itemsFitFrom (suc n) kind s ≡ cond (ltb (length s) (2 + number s)) false (cond (isItem kind (firstItem s)) (itemsFitFrom n kind (otherItems s)) false)
   unfolding itemsFitFrom
   fit-more n kind = simp some-test
 

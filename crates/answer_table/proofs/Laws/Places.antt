@@ -14,7 +14,9 @@ use Rattle.text.specs.Lists.{same}
 use Rattle.text.proofs.Laws.Orders.{le-or-lt}
 use Rattle.text.proofs.Laws.Tests.{and-right}
 use Rattle.text.proofs.Laws.Words.{same-true}
-use Rattle.answer_table.specs.Reader.{number, firstItem, nextItem, headerOf, nameOf, findAfter, findFrom, findAt}
+use Rattle.answer_table.specs.Layout.{headerSize}
+use Rattle.answer_table.specs.Reader.{number, firstItem, nextItem, headerOf, lifetimeAt, nameOf, findAfter, findFrom, findIn}
+use Rattle.answer_table.specs.declared.Layout.{Layout}
 use Rattle.answer_table.specs.declared.entries.Header.{Header}
 use Rattle.answer_table.specs.declared.entries.Header.the-variants.{Whole, Broken}
 use Rattle.answer_table.specs.declared.Found.{Found}
@@ -22,42 +24,44 @@ use Rattle.answer_table.proofs.Laws.Encoding.{header-facts}
 
 -- a name that ends where the items start
 abbrev Named : List ℕ → List ℕ → Found → Type 0
-Named t name (Found.Entry status start end) = (length name ≤ start) × (part t (start - length name) start ≡ name)
+Named t name (Found.Entry status life start end) = (length name ≤ start) × (part t (start - length name) start ≡ name)
 Named t name Found.Missing = Unit {0}
 
 -- the name of a header's entry, as a part of the table
-name-part : (t : List ℕ) (i n : ℕ) (name : List ℕ) → 6 + n ≤ length (drop i t) → nameOf (drop i t) n ≡ name
-    → (length name ≤ i + (6 + n)) × (part t (i + (6 + n) - length name) (i + (6 + n)) ≡ name)
+name-part : (lay : Layout) (t : List ℕ) (i n : ℕ) (name : List ℕ) → headerSize lay + n ≤ length (drop i t) → nameOf lay (drop i t) n ≡ name
+    → (length name ≤ i + (headerSize lay + n)) × (part t (i + (headerSize lay + n) - length name) (i + (headerSize lay + n)) ≡ name)
 unfolding nameOf
-name-part t i n name h e =
-    let l : length name ≡ n = sym (ap length e) ∙ length-take-le n (drop 6 (drop i t)) (omega (arith, length-drop 6 (drop i t))) in
-    let a : i + (6 + n) - length name ≡ i + 6 = omega arith in
-    let b : i + (6 + n) - (i + 6) ≡ n = omega arith in
-    (omega arith, rw (a, b, ← (drop-drop 6 i t)) e)
+name-part lay t i n name h e =
+    let m = headerSize lay in
+    let l : length name ≡ n = sym (ap length e) ∙ length-take-le n (drop m (drop i t)) (omega (arith, length-drop m (drop i t))) in
+    let a : i + (m + n) - length name ≡ i + m = omega arith in
+    let b : i + (m + n) - (i + m) ≡ n = omega arith in
+    (omega arith, rw (a, b, ← (drop-drop m i t)) e)
 
-module _ (t : List ℕ) (kind : ℕ) (name : List ℕ) where
-  named-from : (f i : ℕ) → Named t name (findFrom f t kind name i)
+module _ (lay : Layout) (t : List ℕ) (kind : ℕ) (name : List ℕ) where
+  named-from : (f i : ℕ) → Named t name (findFrom lay f t kind name i)
   unfolding findFrom findAfter
   named-from zero i = tt
-  named-from (suc f) i = go (λ j. named-from f j) (headerOf (drop i t)) refl
+  named-from (suc f) i = go (λ j. named-from f j) (headerOf lay (drop i t)) refl
     where
-      by : (status n size : ℕ) → 6 + n ≤ length (drop i t) → Named t name (findFrom f t kind name (i + size)) → (k b : Bool)
-          → (k && same (nameOf (drop i t) n) name) ≡ b → Named t name (cond b (Found.Entry status (i + (6 + n)) (i + size)) (findFrom f t kind name (i + size)))
-      by status n size l r k true e = name-part t i n name l (same-true _ _ (and-right k _ e))
+      by : (status n size : ℕ) → headerSize lay + n ≤ length (drop i t) → Named t name (findFrom lay f t kind name (i + size)) → (k b : Bool)
+          → (k && same (nameOf lay (drop i t) n) name) ≡ b
+          → Named t name (cond b (Found.Entry status (lifetimeAt lay (drop i t)) (i + (headerSize lay + n)) (i + size)) (findFrom lay f t kind name (i + size)))
+      by status n size l r k true e = name-part lay t i n name l (same-true _ _ (and-right k _ e))
       by status n size l r k false e = r
 
-      go : ((j : ℕ) → Named t name (findFrom f t kind name j)) → (x : Header) → headerOf (drop i t) ≡ x
-          → Named t name (findAfter t kind name i x (findFrom f t kind name))
+      go : ((j : ℕ) → Named t name (findFrom lay f t kind name j)) → (x : Header) → headerOf lay (drop i t) ≡ x
+          → Named t name (findAfter lay t kind name i x (findFrom lay f t kind name))
       go ih Broken e = tt
       go ih (Whole k status n size) e =
-          let l = header-facts (drop i t) k status n size e in
-          by status n size (omega (arith, l .0, l .1)) (ih (i + size)) (eqb k kind) (eqb k kind && same (nameOf (drop i t) n) name) refl
+          let l = header-facts lay (drop i t) k status n size e in
+          by status n size (omega (arith, l .0, l .1)) (ih (i + size)) (eqb k kind) (eqb k kind && same (nameOf lay (drop i t) n) name) refl
 
 -- the name that was looked up stands just before the items of the entry that was found
-pub found-name : (t : List ℕ) (kind : ℕ) (name : List ℕ) (status start end : ℕ) → findAt t kind name ≡ Found.Entry status start end
-    → (length name ≤ start) × (part t (start - length name) start ≡ name)
-unfolding findAt
-found-name t kind name status start end e = subst (Named t name) e (named-from t kind name (length t) 0)
+pub found-name : (lay : Layout) (t : List ℕ) (kind : ℕ) (name : List ℕ) (status life start end : ℕ)
+    → findIn lay t kind name ≡ Found.Entry status life start end → (length name ≤ start) × (part t (start - length name) start ≡ name)
+unfolding findIn
+found-name lay t kind name status life start end e = subst (Named t name) e (named-from lay t kind name (length t) 0)
 
 -- the rest of a front
 drop-take : (n m : ℕ) (s : List ℕ) → drop n (take m s) ≡ take (m - n) (drop n s)

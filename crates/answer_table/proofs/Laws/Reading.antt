@@ -1,6 +1,6 @@
 -- The reader's steps as the code makes them: one rule for each way out of a function of src/items.rt and src/entries.rt. A part `&s[i..]`
 -- stands as `take (length s - i) (drop i s)`.
-use Prim.Native.Nat.{ℕ, _+_, _-_, _≤_, _<_}
+use Prim.Native.Nat.{ℕ, _+_, _-_, _*_, _≤_, _<_}
 use mathlib.Core.Path.{_≡_, sym, ap, _∙_}
 use mathlib.Core.List.{List}
 use mathlib.Core.Bool.{Bool, true, false, _&&_}
@@ -14,9 +14,10 @@ use Rattle.text.specs.Bytes.{at, part}
 use Rattle.text.specs.Lists.{same}
 use Rattle.text.proofs.Laws.Spans.{rest-part}
 use Rattle.domain.specs.Names.{isTableName}
-use Rattle.answer_table.specs.Layout.{isKind, isStatus, isMailExchange, isItem}
-use Rattle.answer_table.specs.Reader.{number, firstItem, otherItems, nextItem, itemsFit, headerOf, nameOf, itemBytes, isEntry, isWell}
-use Rattle.answer_table.specs.declared.entries.Header.{Header}
+use Rattle.answer_table.specs.Layout.{isKind, isStatus, isMailExchange, isItem, lifetimeBytes, headerSize}
+use Rattle.answer_table.specs.Reader.{number, firstItem, otherItems, nextItem, itemsFit, headerOf, lifetimeAt, isEntry}
+use Rattle.answer_table.specs.declared.Layout.{Layout}
+use Rattle.answer_table.specs.declared.Layout.the-variants.{New}
 use Rattle.answer_table.specs.declared.entries.Header.the-variants.{Whole, Broken}
 use Rattle.answer_table.proofs.Laws.Items.{fit-of, fit-empty}
 
@@ -57,7 +58,8 @@ module _ (kind : ℕ) (s : List ℕ) (i : ℕ) (inv : itemsFit kind (drop i s) �
         let l : length (drop i s) < 2 + number (drop i s) = rw (rest-part, f) at k in
         sym (fit-of kind (drop i s) (simp length-drop (omega arith)) ∙ simp (lt-ltb (length (drop i s)) (2 + number (drop i s)) l)) ∙ inv
 
-    module _ (k : 2 + m ≤ length (take (length s - i) (drop i s))) (t : Bool) (g : t ≡ isItem kind (take (2 + m - 2) (drop 2 (take (length s - i) (drop i s))))) where
+    module _ (k : 2 + m ≤ length (take (length s - i) (drop i s))) (t : Bool)
+        (g : t ≡ isItem kind (take (2 + m - 2) (drop 2 (take (length s - i) (drop i s))))) where
       item-test : t ≡ isItem kind (firstItem (drop i s))
       item-test = g ∙ ap (isItem kind) (item-whole s i m e)
 
@@ -78,34 +80,45 @@ module _ (kind : ℕ) (s : List ℕ) (i : ℕ) (inv : itemsFit kind (drop i s) �
       fit-other q = sym (fit-of kind (drop i s) (simp length-drop (omega arith)) ∙ simp (within-test, sym item-test ∙ q)) ∙ inv
 
 -- `read_header`
-module _ (s : List ℕ) (h : 6 ≤ length s) (m : ℕ) (e : m ≡ number s) where
-  pub header-short : length s < 2 + m → Broken ≡ headerOf s
+module _ (lay : Layout) (s : List ℕ) (life : ℕ) (g : life ≡ lifetimeBytes lay) where
+  pub header-cut : length s < 6 + life → Broken ≡ headerOf lay s
   unfolding headerOf
-  header-short k = simp (le-ltb (length s) 6 h, lt-ltb (length s) (2 + number s) (rw e at k))
+  header-cut h = simp (lt-ltb (length s) (headerSize lay) (rw g at h))
 
-  module _ (k : 2 + m ≤ length s) where
-    pub header-name : 2 + m < 6 + at s 5 → Broken ≡ headerOf s
+  module _ (h : 6 + life ≤ length s) (m : ℕ) (e : m ≡ number s) where
+    headed : ltb (length s) (headerSize lay) ≡ false
+    headed = le-ltb (length s) (headerSize lay) (rw g at h)
+
+    pub header-short : length s < 2 + m → Broken ≡ headerOf lay s
     unfolding headerOf
-    header-name l =
-        simp (le-ltb (length s) 6 h, le-ltb (length s) (2 + number s) (rw e at k), lt-ltb (2 + number s) (6 + at s 5) (rw e at l))
+    header-short k = simp (headed, lt-ltb (length s) (2 + number s) (rw e at k))
 
-    pub header-whole : 6 + at s 5 ≤ 2 + m → (kind : ℕ) → kind ≡ number (take (length s - 2) (drop 2 s))
-        → Whole kind (at s 4) (at s 5) (2 + m) ≡ headerOf s
-    unfolding headerOf
-    header-whole l kind f =
-        simp (le-ltb (length s) 6 h, le-ltb (length s) (2 + number s) (rw e at k), le-ltb (2 + number s) (6 + at s 5) (rw e at l), e, f, rest-part)
+    module _ (k : 2 + m ≤ length s) where
+      within : ltb (length s) (2 + number s) ≡ false
+      within = le-ltb (length s) (2 + number s) (rw e at k)
 
--- `name_of`
-pub name-read : (s : List ℕ) (n : ℕ) (r : List ℕ) → r ≡ part s 6 (6 + n) → r ≡ nameOf s n
-unfolding nameOf
-name-read s n r e = e ∙ simp add-sub-cancel-left
+      pub header-name : 2 + m < 6 + life + at s (5 + life) → Broken ≡ headerOf lay s
+      unfolding headerOf
+      header-name l = simp (headed, within, lt-ltb (2 + number s) (headerSize lay + at s (5 + lifetimeBytes lay)) (rw (e, g) at l))
+
+      pub header-whole : 6 + life + at s (5 + life) ≤ 2 + m → (kind : ℕ) → kind ≡ number (take (length s - 2) (drop 2 s))
+          → Whole kind (at s 4) (at s (5 + life)) (2 + m) ≡ headerOf lay s
+      unfolding headerOf
+      header-whole l kind f =
+          simp (headed, within, le-ltb (2 + number s) (headerSize lay + at s (5 + lifetimeBytes lay)) (rw (e, g) at l), e, f, g, rest-part)
+
+-- `lifetime`
+pub life-seconds : (lay : Layout) (s : List ℕ) → lay ≡ New → (u v : List ℕ) → u ≡ part s 5 (length s) → v ≡ part s 7 (length s) → (a b : ℕ)
+    → a ≡ number u → b ≡ number v → a + 65536 * b ≡ lifetimeAt lay s
+unfolding lifetimeAt
+life-seconds lay s e u v p q a b f g = rw (e, f, g, p, q, rest-part s 5, rest-part s 7)
 
 -- `is_pair`
-module _ (s : List ℕ) (n k kind : ℕ) (name : List ℕ) where
-  pub pair-same : k ≡ kind → (w : List ℕ) → w ≡ nameOf s n → (r : Bool) → r ≡ same w name → r ≡ (eqb k kind && same (nameOf s n) name)
-  pair-same h w e r f = f ∙ simp (eq-eqb k kind h, e)
+module _ (own : List ℕ) (k kind : ℕ) (name : List ℕ) where
+  pub pair-same : k ≡ kind → (r : Bool) → r ≡ same own name → r ≡ (eqb k kind && same own name)
+  pair-same h r f = f ∙ simp (eq-eqb k kind h)
 
-  pub pair-other : (k ≡ kind → ⊥) → false ≡ (eqb k kind && same (nameOf s n) name)
+  pub pair-other : (k ≡ kind → ⊥) → false ≡ (eqb k kind && same own name)
   pair-other h = simp (ne-eqb k kind h)
 
 -- `is_entry`
@@ -132,14 +145,3 @@ module _ (kind status : ℕ) (name items : List ℕ) (k : Bool) (ek : k ≡ isKi
         pub entry-void : (status ≡ 0 → ⊥) → eqb (length items) 0 ≡ isEntry kind status name items
         unfolding isEntry
         entry-void z = simp (sym ek ∙ qk, sym et ∙ qt, sym ed ∙ qd, ne-eqb status 0 z)
-
--- `is_well`
-module _ (s : List ℕ) (h : Header) where
-  pub well-broken : h ≡ Broken → false ≡ isWell s h
-  unfolding isWell
-  well-broken e = simp e
-
-  pub well-whole : (kind status n size : ℕ) → h ≡ Whole kind status n size → (w i : List ℕ) → w ≡ nameOf s n → i ≡ itemBytes s n size
-      → (r : Bool) → r ≡ isEntry kind status w i → r ≡ isWell s h
-  unfolding isWell
-  well-whole kind status n size e w i ew ei r er = er ∙ simp (e, ew, ei)

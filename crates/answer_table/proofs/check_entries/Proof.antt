@@ -11,10 +11,10 @@ use Rattle.answer_table.proofs.check_entries.Statement.{statement}
 use Rattle.answer_table.proofs.check_entries.Tie as tie
 
 abbrev Inv-loop : tie.InvT-loop
-Inv-loop table marks₀ at₀ count₀ marks at count = Checking table at count × Covered table at marks × (length marks ≡ length marks₀)
+Inv-loop layout table marks₀ at₀ count₀ marks at count = Checking layout table at count × Covered layout table at marks × (length marks ≡ length marks₀)
 
 abbrev μ-loop : tie.MeasureT-loop
-μ-loop table marks₀ at₀ count₀ marks at count = length table - at
+μ-loop layout table marks₀ at₀ count₀ marks at count = length table - at
 
 loop-holds : tie.Need-loop-holds Inv-loop μ-loop
 loop-holds c = (search check-start, search covered-start, refl)

@@ -2,7 +2,7 @@
 use native.Mathlib.Omega.{arith}
 use lib.ListN.{length-take}
 use Rattle.answer_table.proofs.Laws.Covering.{covered-words}
-use Rattle.answer_table.proofs.Laws.Rules.{step-broken, step-fits, step-ill, step-repeated, step-fresh, step-new, step-covered}
+use Rattle.answer_table.proofs.Laws.Rules.{name-before, name-within, size-within, size-fits, step-broken, step-ill, step-repeated, step-fresh, step-new, step-covered}
 use borrow.Author.Needs.{needs}
 use Rattle.answer_table.proofs.step_at.Statement.{statement}
 use Rattle.answer_table.proofs.step_at.Tie as tie
@@ -19,8 +19,8 @@ part-rest-end c = search needs
 read-header-requires : tie.Need-read-header-requires
 read-header-requires c κs = search needs
 
-enum-known-h : tie.Need-enum-known-h
-enum-known-h c = search needs
+enum-known-kind : tie.Need-enum-known-kind
+enum-known-kind c = search needs
 
 enum-told : tie.Need-enum-told
 enum-told c = search needs
@@ -28,17 +28,41 @@ enum-told c = search needs
 returns : tie.Need-returns
 returns c = search step-broken
 
-is-well-requires : tie.Need-is-well-requires
-is-well-requires c κs = search needs
+header-size-requires : tie.Need-header-size-requires
+header-size-requires c κs = search needs
 
-name-of-requires : tie.Need-name-of-requires
-name-of-requires c κs = search needs
+cast-named : tie.Need-cast-named
+cast-named c = search needs
+
+add-named : tie.Need-add-named
+add-named c = search needs
+
+sub-name : tie.Need-sub-name
+sub-name c = search needs
+
+part-name-start : tie.Need-part-name-start
+part-name-start c = search needs
+
+part-name-end : tie.Need-part-name-end
+part-name-end c = search name-within
+
+sub-is-entry : tie.Need-sub-is-entry
+sub-is-entry c = search name-before
+
+part-is-entry-start : tie.Need-part-is-entry-start
+part-is-entry-start c = search name-before
+
+part-is-entry-end : tie.Need-part-is-entry-end
+part-is-entry-end c = search size-within
+
+is-entry-requires : tie.Need-is-entry-requires
+is-entry-requires c κs = search needs
 
 is-new-requires : tie.Need-is-new-requires
 is-new-requires c κs = search covered-words
 
-add-t19 : tie.Need-add-t19
-add-t19 c = search step-fits
+add-t28 : tie.Need-add-t28
+add-t28 c = search size-fits
 
 same-length : tie.Need-same-length
 same-length c = search needs
@@ -46,17 +70,11 @@ same-length c = search needs
 returns-2 : tie.Need-returns-2
 returns-2 c = (search step-new, search step-covered)
 
-slice-aggregate-find : tie.Need-slice-aggregate-find
-slice-aggregate-find c = simp length-take (omega arith)
+slice-aggregate-stands-in : tie.Need-slice-aggregate-stands-in
+slice-aggregate-stands-in c = simp length-take (omega arith)
 
-find-requires : tie.Need-find-requires
-find-requires c κs = search needs
-
-enum-told-2 : tie.Need-enum-told-2
-enum-told-2 c = search needs
-
-enum-told-3 : tie.Need-enum-told-3
-enum-told-3 c = search needs
+stands-in-requires : tie.Need-stands-in-requires
+stands-in-requires c κs = search needs
 
 same-length-2 : tie.Need-same-length-2
 same-length-2 c = search needs
@@ -64,8 +82,8 @@ same-length-2 c = search needs
 returns-3 : tie.Need-returns-3
 returns-3 c = search step-repeated
 
-add-t15 : tie.Need-add-t15
-add-t15 c = search step-fits
+add-t24 : tie.Need-add-t24
+add-t24 c = search size-fits
 
 same-length-3 : tie.Need-same-length-3
 same-length-3 c = search needs
@@ -84,22 +102,28 @@ step-at-spec =
     part-rest-start
     part-rest-end
     read-header-requires
-    enum-known-h
+    enum-known-kind
     enum-told
     returns
-    is-well-requires
-    name-of-requires
+    header-size-requires
+    cast-named
+    add-named
+    sub-name
+    part-name-start
+    part-name-end
+    sub-is-entry
+    part-is-entry-start
+    part-is-entry-end
+    is-entry-requires
     is-new-requires
-    add-t19
+    add-t28
     same-length
     returns-2
-    slice-aggregate-find
-    find-requires
-    enum-told-2
-    enum-told-3
+    slice-aggregate-stands-in
+    stands-in-requires
     same-length-2
     returns-3
-    add-t15
+    add-t24
     same-length-3
     returns-4
     returns-5)

@@ -1,4 +1,4 @@
--- The lines that are written are those of what the input comes to, and they fit 600 bytes: a wanted name has at most 253 bytes and a text at most
+-- The lines that are written are those of what the input comes to, and they fit 640 bytes: a wanted name has at most 253 bytes and a text at most
 -- 500. From the definitions of Lines and the facts of `evaluation`.
 use Prim.Native.Nat.{ℕ, _+_, _≤_}
 use mathlib.Core.Path.{_≡_, refl}
@@ -30,14 +30,14 @@ use Rattle.evaluation.specs.Evaluating.{evaluated}
 use Rattle.evaluation.proofs.Laws.Facts.{facts, wanted-name}
 use Rattle.text.specs.Fields.{afterFields, field}
 use Rattle.check_input.specs.Input.{InputOutcome, unreadable, evaluates, onClientAndTime, checkedLines, checkedInput}
-use Rattle.check_input.specs.Lines.{line, orDot, countsText, reportText, reportLine, secondLine, givenLines, linesOf, answered, Stands}
+use Rattle.check_input.specs.Lines.{line, orDot, spaced, countsText, reportText, reportLine, secondLine, givenLines, linesOf, answered, Stands}
 
 -- name and text fit their buffers
 unfoldable Fits : Outcome → Type 0
 Fits (refused number) = Unit {0}
 Fits (refused-at number place) = Unit {0}
-Fits (settles (settled v)) = length (v .text) ≤ 500
-Fits (settles (wanting kind n c)) = length n ≤ 253
+Fits (settles (settled v l) life) = length (v .text) ≤ 500
+Fits (settles (wanting kind n c l) life) = length n ≤ 253
 
 name-length : (n : List ℕ) → isTableName n ≡ true → length n ≤ 253
 unfolding isTableName isName
@@ -50,8 +50,8 @@ module _ (client : Address) (domain sender helo receiver : List ℕ) (seconds : 
   unfolding Fits Holds
   outcome-fits (refused number) e = tt
   outcome-fits (refused-at number place) e = tt
-  outcome-fits (settles (settled v)) e = facts client domain sender helo receiver seconds table name text (settled v) e .short
-  outcome-fits (settles (wanting kind n c)) e = name-length n (wanted-name client domain sender helo receiver seconds table name text kind n c e)
+  outcome-fits (settles (settled v l) life) e = facts client domain sender helo receiver seconds table name text (settled v l) life e .short
+  outcome-fits (settles (wanting kind n c l) life) e = name-length n (wanted-name client domain sender helo receiver seconds table name text kind n c l life e)
 
   evaluated-fits : Fits (evaluated client domain sender helo receiver seconds table name text)
   evaluated-fits = outcome-fits (evaluated client domain sender helo receiver seconds table name text) refl
@@ -83,33 +83,33 @@ unfolding orDot
 place-length absent = omega arith
 place-length (present n) = length-decimal n
 
-report-length : (r : Report) → length (reportLine r) ≤ 84
-unfolding reportLine reportText countsText
+report-length : (r : Report) → length (reportLine r) ≤ 105
+unfolding reportLine reportText countsText spaced
 report-length r =
-    simp length-append (omega (arith, length-decimal (r .number), place-length (r .kind-or-place), length-decimal (r .lookups), length-decimal (r .voids)))
+    simp length-append (omega (arith, length-decimal (r .number), place-length (r .kind-or-place), length-decimal (r .lookups), length-decimal (r .voids), length-decimal (r .lifetime)))
 
 second-length : (o : Outcome) → Fits o → length (secondLine (bytesOf o)) ≤ 501
 unfolding Fits secondLine bytesOf
 second-length (refused number) f = omega arith
 second-length (refused-at number place) f = omega arith
-second-length (settles (settled v)) f =
+second-length (settles (settled v l) life) f =
     cond-elim (λ (s : Optional (List ℕ)). length (secondLine s) ≤ 501) (eqb (v .value) 3) (λ _. omega (arith, line-length (v .text))) (λ _. omega arith)
-second-length (settles (wanting kind n c)) f = omega (arith, line-length n)
+second-length (settles (wanting kind n c l) life) f = omega (arith, line-length n)
 
-lines-length : (o : InputOutcome) → InputFits o → length (linesOf o) ≤ 600
+lines-length : (o : InputOutcome) → InputFits o → length (linesOf o) ≤ 640
 unfolding InputFits linesOf givenLines line
 lines-length unreadable f = omega arith
 lines-length (evaluates o) f = rw length-append (omega (arith, report-length (reportOf o), second-length o f))
 
--- what the program prints has at most 600 bytes
-pub answer-length : (input : List ℕ) → length (linesOf (answered input)) ≤ 600
+-- what the program prints has at most 640 bytes
+pub answer-length : (input : List ℕ) → length (linesOf (answered input)) ≤ 640
 unfolding answered
 answer-length input = lines-length (checkedInput input (replicate 253 0) (replicate 500 0)) (input-fits input (replicate 253 0) (replicate 500 0))
 
 -- `answer_input`: the lines and the table of an input
 pub input-answered : (input client domain sender helo receiver seconds table : List ℕ)
     → client ≡ field 10 0 input → domain ≡ field 10 1 input → sender ≡ field 10 2 input → helo ≡ field 10 3 input → receiver ≡ field 10 4 input
-    → seconds ≡ field 10 5 input → table ≡ afterFields 10 6 input → (out out′ : List ℕ) (n : ℕ) → 600 ≤ length out
+    → seconds ≡ field 10 5 input → table ≡ afterFields 10 6 input → (out out′ : List ℕ) (n : ℕ) → 640 ≤ length out
     → Wrote (linesOf (checkedLines client domain sender helo receiver seconds table (replicate 253 0) (replicate 500 0))) out 0 out′ n
     → Stands (linesOf (answered input)) out out′ n
 unfolding answered checkedInput

@@ -32,29 +32,29 @@ use Rattle.check_input.specs.Lines.{line, reportText, givenLines, linesO
 use Rattle.check_input.proofs.Laws.Lines.{number-given, placed-given, named-given, fail-given}
 
 -- `answer_fail`
-module _ (a : second.Lent) (r : Explanation) (name text : List ℕ) (x : second.Explains a (second.handed r name text)) (c : Counts) (out o : List ℕ) (n : ℕ) where
-  writes : (y : Explanation) → r ≡ y → Wrote (givenLines (afterFail c (second.handed r name text) y)) out 0 o n → WritesAfterFail a c out o n
+module _ (a : second.Lent) (r : Explanation) (name text : List ℕ) (x : second.Explains a (second.handed r name text)) (c : Counts) (life : ℕ) (out o : List ℕ) (n : ℕ) where
+  writes : (y : Explanation) → r ≡ y → Wrote (givenLines (afterFail c life (second.handed r name text) y)) out 0 o n → WritesAfterFail a c life out o n
   writes y e w = record {
     second = second.handed r name text;
     explains = x;
-    wrote = subst (λ (z : Explanation). Wrote (givenLines (afterFail c (second.handed r name text) z)) out 0 o n) (sym e) w;
+    wrote = subst (λ (z : Explanation). Wrote (givenLines (afterFail c life (second.handed r name text) z)) out 0 o n) (sym e) w;
   }
 
   pub fail-text : (m : ℕ) → r ≡ Explanation.Text m → (s : List ℕ) → s ≡ part text 0 m → (o₁ : List ℕ) (n₁ : ℕ)
-      → Wrote (reportText 3 (bytes ".") (c .lookups) (c .voids)) out 0 o₁ n₁ → Wrote (line s) o₁ n₁ o n → WritesAfterFail a c out o n
+      → Wrote (reportText 3 (bytes ".") (c .lookups) (c .voids) life) out 0 o₁ n₁ → Wrote (line s) o₁ n₁ o n → WritesAfterFail a c life out o n
   fail-text m e s i o₁ n₁ v w =
-      writes (Explanation.Text m) e (subst (λ (y : List ℕ). Wrote (givenLines (given 3 absent c (present y))) out 0 o n) (i ∙ front-part text m) (fail-given c out 0 o n s o₁ n₁ v w))
+      writes (Explanation.Text m) e (subst (λ (y : List ℕ). Wrote (givenLines (given 3 absent c life (present y))) out 0 o n) (i ∙ front-part text m) (fail-given c life out 0 o n s o₁ n₁ v w))
 
   pub fail-wanting : (kind m : ℕ) → r ≡ Explanation.Wanting kind m → (s : List ℕ) → s ≡ part name 0 m
-      → Wrote (reportText 7 (inDecimal kind) (c .lookups) (c .voids) ++ line s) out 0 o n → WritesAfterFail a c out o n
+      → Wrote (reportText 7 (inDecimal kind) (c .lookups) (c .voids) life ++ line s) out 0 o n → WritesAfterFail a c life out o n
   fail-wanting kind m e s i w =
-      writes (Explanation.Wanting kind m) e (subst (λ (y : List ℕ). Wrote (givenLines (given 7 (present kind) c (present y))) out 0 o n) (i ∙ front-part name m) (named-given c out 0 o n kind s w))
+      writes (Explanation.Wanting kind m) e (subst (λ (y : List ℕ). Wrote (givenLines (given 7 (present kind) c life (present y))) out 0 o n) (i ∙ front-part name m) (named-given c life out 0 o n kind s w))
 
-  pub fail-refused : (number : ℕ) → r ≡ Explanation.Refused number → Wrote (reportText number (bytes ".") 0 0) out 0 o n → WritesAfterFail a c out o n
-  fail-refused number e w = writes (Explanation.Refused number) e (number-given noCounts out 0 o n number w)
+  pub fail-refused : (number : ℕ) → r ≡ Explanation.Refused number → Wrote (reportText number (bytes ".") 0 0 0) out 0 o n → WritesAfterFail a c life out o n
+  fail-refused number e w = writes (Explanation.Refused number) e (number-given noCounts 0 out 0 o n number w)
 
-  pub fail-placed : (number place : ℕ) → r ≡ Explanation.RefusedAt number place → Wrote (reportText number (inDecimal place) 0 0) out 0 o n → WritesAfterFail a c out o n
-  fail-placed number place e w = writes (Explanation.RefusedAt number place) e (placed-given noCounts out 0 o n number place w)
+  pub fail-placed : (number place : ℕ) → r ≡ Explanation.RefusedAt number place → Wrote (reportText number (inDecimal place) 0 0 0) out 0 o n → WritesAfterFail a c life out o n
+  fail-placed number place e w = writes (Explanation.RefusedAt number place) e (placed-given noCounts 0 out 0 o n number place w)
 
 -- `answer_calls`
 enough : hasRoom (replicate 253 0) (replicate 500 0) ≡ true
@@ -67,30 +67,30 @@ module _ (client : Address) (domain sender helo receiver : List ℕ) (seconds : 
       → Wrote (givenLines g) out 0 o n → Wrote (givenLines (oneGave (evaluated client domain sender helo receiver seconds table (replicate 253 0) (replicate 500 0)))) out 0 o n
   gives g b w = subst (λ (y : Given). Wrote (givenLines y) out 0 o n) (together _ (first.handed r name) x (replicate 253 0) (replicate 500 0) enough g b) w
 
-  pub calls-decided : (value : ℕ) (c : Counts) → r ≡ Answer.Decided value c → Wrote (reportText value (bytes ".") (c .lookups) (c .voids)) out 0 o n
+  pub calls-decided : (value : ℕ) (c : Counts) (life : ℕ) → r ≡ Answer.Decided value c life → Wrote (reportText value (bytes ".") (c .lookups) (c .voids) life) out 0 o n
       → Wrote (givenLines (oneGave (evaluated client domain sender helo receiver seconds table (replicate 253 0) (replicate 500 0)))) out 0 o n
-  calls-decided value c e w = gives (given value absent c absent) (BothGive.decided e) (number-given c out 0 o n value w)
+  calls-decided value c life e w = gives (given value absent c life absent) (BothGive.decided e) (number-given c life out 0 o n value w)
 
-  pub calls-wanting : (kind m : ℕ) (c : Counts) → r ≡ Answer.Wanting kind m c → (s : List ℕ) → s ≡ part name 0 m
-      → Wrote (reportText 7 (inDecimal kind) (c .lookups) (c .voids) ++ line s) out 0 o n
+  pub calls-wanting : (kind m : ℕ) (c : Counts) (life : ℕ) → r ≡ Answer.Wanting kind m c life → (s : List ℕ) → s ≡ part name 0 m
+      → Wrote (reportText 7 (inDecimal kind) (c .lookups) (c .voids) life ++ line s) out 0 o n
       → Wrote (givenLines (oneGave (evaluated client domain sender helo receiver seconds table (replicate 253 0) (replicate 500 0)))) out 0 o n
-  calls-wanting kind m c e s i w =
-      gives (given 7 (present kind) c (present (take m name))) (BothGive.wanting e)
-      (subst (λ (y : List ℕ). Wrote (givenLines (given 7 (present kind) c (present y))) out 0 o n) (i ∙ front-part name m) (named-given c out 0 o n kind s w))
+  calls-wanting kind m c life e s i w =
+      gives (given 7 (present kind) c life (present (take m name))) (BothGive.wanting e)
+      (subst (λ (y : List ℕ). Wrote (givenLines (given 7 (present kind) c life (present y))) out 0 o n) (i ∙ front-part name m) (named-given c life out 0 o n kind s w))
 
-  pub calls-refused : (number : ℕ) → r ≡ Answer.Refused number → Wrote (reportText number (bytes ".") 0 0) out 0 o n
+  pub calls-refused : (number : ℕ) → r ≡ Answer.Refused number → Wrote (reportText number (bytes ".") 0 0 0) out 0 o n
       → Wrote (givenLines (oneGave (evaluated client domain sender helo receiver seconds table (replicate 253 0) (replicate 500 0)))) out 0 o n
-  calls-refused number e w = gives (given number absent noCounts absent) (BothGive.refused e) (number-given noCounts out 0 o n number w)
+  calls-refused number e w = gives (given number absent noCounts 0 absent) (BothGive.refused e) (number-given noCounts 0 out 0 o n number w)
 
-  pub calls-placed : (number place : ℕ) → r ≡ Answer.RefusedAt number place → Wrote (reportText number (inDecimal place) 0 0) out 0 o n
+  pub calls-placed : (number place : ℕ) → r ≡ Answer.RefusedAt number place → Wrote (reportText number (inDecimal place) 0 0 0) out 0 o n
       → Wrote (givenLines (oneGave (evaluated client domain sender helo receiver seconds table (replicate 253 0) (replicate 500 0)))) out 0 o n
-  calls-placed number place e w = gives (given number (present place) noCounts absent) (BothGive.refused-at e) (placed-given noCounts out 0 o n number place w)
+  calls-placed number place e w = gives (given number (present place) noCounts 0 absent) (BothGive.refused-at e) (placed-given noCounts 0 out 0 o n number place w)
 
-  pub calls-fail : (c : Counts) (m place size : ℕ) → r ≡ Answer.Fail c m place size → (d : List ℕ) → d ≡ part name 0 m
-      → WritesAfterFail (second.lent client d sender helo receiver seconds table place size (replicate 253 0) (replicate 500 0)) c out o n
+  pub calls-fail : (c : Counts) (life m place size : ℕ) → r ≡ Answer.Fail c life m place size → (d : List ℕ) → d ≡ part name 0 m
+      → WritesAfterFail (second.lent client d sender helo receiver seconds table place size (replicate 253 0) (replicate 500 0)) c life out o n
       → Wrote (givenLines (oneGave (evaluated client domain sender helo receiver seconds table (replicate 253 0) (replicate 500 0)))) out 0 o n
-  calls-fail c m place size e d i w =
-      gives (afterFail c (w .second) (w .second .answer))
+  calls-fail c life m place size e d i w =
+      gives (afterFail c life (w .second) (w .second .answer))
       (BothGive.failed e (subst (λ (y : List ℕ). second.Explains (second.lent client y sender helo receiver seconds table place size (replicate 253 0) (replicate 500 0)) (w .second)) (i ∙ front-part name m) (w .explains)))
       (w .wrote)
 

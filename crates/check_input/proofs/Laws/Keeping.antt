@@ -29,7 +29,7 @@ use Rattle.networks.specs.Reader6.{readAddress}
 use Rattle.networks.specs.declared.Network.{Network}
 use Rattle.networks.specs.declared.Network.the-variants.{Is, NoNetwork}
 use Rattle.answer_table.specs.declared.TableAnswer.the-variants.{TooLong}
-use Rattle.answer_table.specs.Reader.{checkTable}
+use Rattle.answer_table.specs.Reader.{checkIn, checkTable}
 use Rattle.macros.specs.Expansion.{isSender, isHost, isShort}
 use Rattle.evaluation.specs.Numbers.{Outcome}
 use Rattle.evaluation.specs.Evaluating.{afterTable, evaluated}
@@ -230,7 +230,7 @@ unfolding isShort
 short-bound s h = omega (arith, leb-true (length s) 255 h)
 
 long-table : (t : List ℕ) → 65536 ≤ length t → checkTable t ≡ TooLong
-unfolding checkTable
+unfolding checkIn
 long-table t h = rw (lt-ltb 65535 (length t) (omega arith))
 
 client-same : (a b : List ℕ) → Fronted (take 46) a b → readAddress a ≡ readAddress b

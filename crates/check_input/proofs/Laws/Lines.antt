@@ -9,7 +9,7 @@ use Rattle.address_text.specs.Digits.{inDecimal}
 use Rattle.records.specs.Readings.{absent, present}
 use Rattle.rules.specs.declared.Counts.{Counts}
 use Rattle.evaluation.specs.Together.{given}
-use Rattle.check_input.specs.Lines.{line, orDot, countsText, reportText, reportLine, secondLine, givenLines}
+use Rattle.check_input.specs.Lines.{line, orDot, spaced, countsText, reportText, reportLine, secondLine, givenLines}
 
 module _ (out : List ℕ) (at : ℕ) (o₁ : List ℕ) (n₁ : ℕ) where
   module _ (o₂ : List ℕ) (n₂ : ℕ) where
@@ -17,49 +17,50 @@ module _ (out : List ℕ) (at : ℕ) (o₁ : List ℕ) (n₁ : ℕ) where
     unfolding line
     line-written s v w = wrote-then out at s (10 ∷ []) o₁ o₂ n₁ n₂ v w
 
-    module _ (o₃ : List ℕ) (n₃ : ℕ) (o₄ : List ℕ) (n₄ : ℕ) where
-      pub counts-written : (lookups voids : ℕ) (o₅ : List ℕ) (n₅ : ℕ) → Wrote (32 ∷ []) out at o₁ n₁ → Wrote (inDecimal lookups) o₁ n₁ o₂ n₂
-          → Wrote (32 ∷ []) o₂ n₂ o₃ n₃ → Wrote (inDecimal voids) o₃ n₃ o₄ n₄ → Wrote (10 ∷ []) o₄ n₄ o₅ n₅
-          → Wrote (countsText lookups voids) out at o₅ n₅
-      unfolding countsText
-      counts-written lookups voids o₅ n₅ u v w x y =
-          let a = bytes " " ++ inDecimal lookups in
-          let b = a ++ bytes " " in
-          wrote-then out at (b ++ inDecimal voids) (10 ∷ []) o₄ o₅ n₄ n₅
-          (wrote-then out at b (inDecimal voids) o₃ o₄ n₃ n₄
-          (wrote-then out at a (32 ∷ []) o₂ o₃ n₂ n₃ (wrote-then out at (32 ∷ []) (inDecimal lookups) o₁ o₂ n₁ n₂ u v) w) x) y
+    pub spaced-written : (n : ℕ) → Wrote (32 ∷ []) out at o₁ n₁ → Wrote (inDecimal n) o₁ n₁ o₂ n₂ → Wrote (spaced n) out at o₂ n₂
+    unfolding spaced
+    spaced-written n v w = wrote-then out at (32 ∷ []) (inDecimal n) o₁ o₂ n₁ n₂ v w
 
-      pub report-written : (number : ℕ) (place : List ℕ) (lookups voids : ℕ) → Wrote (inDecimal number) out at o₁ n₁ → Wrote (32 ∷ []) o₁ n₁ o₂ n₂
-          → Wrote place o₂ n₂ o₃ n₃ → Wrote (countsText lookups voids) o₃ n₃ o₄ n₄ → Wrote (reportText number place lookups voids) out at o₄ n₄
+    module _ (o₃ : List ℕ) (n₃ : ℕ) (o₄ : List ℕ) (n₄ : ℕ) where
+      pub counts-written : (lookups voids life : ℕ) → Wrote (spaced lookups) out at o₁ n₁ → Wrote (spaced voids) o₁ n₁ o₂ n₂
+          → Wrote (spaced life) o₂ n₂ o₃ n₃ → Wrote (10 ∷ []) o₃ n₃ o₄ n₄ → Wrote (countsText lookups voids life) out at o₄ n₄
+      unfolding countsText
+      counts-written lookups voids life u v w x =
+          let a = spaced lookups ++ spaced voids in
+          wrote-then out at (a ++ spaced life) (10 ∷ []) o₃ o₄ n₃ n₄
+          (wrote-then out at a (spaced life) o₂ o₃ n₂ n₃ (wrote-then out at (spaced lookups) (spaced voids) o₁ o₂ n₁ n₂ u v) w) x
+
+      pub report-written : (number : ℕ) (place : List ℕ) (lookups voids life : ℕ) → Wrote (inDecimal number) out at o₁ n₁ → Wrote (32 ∷ []) o₁ n₁ o₂ n₂
+          → Wrote place o₂ n₂ o₃ n₃ → Wrote (countsText lookups voids life) o₃ n₃ o₄ n₄ → Wrote (reportText number place lookups voids life) out at o₄ n₄
       unfolding reportText
-      report-written number place lookups voids u v w x =
+      report-written number place lookups voids life u v w x =
           let a = inDecimal number ++ bytes " " in
-          wrote-then out at (a ++ place) (countsText lookups voids) o₃ o₄ n₃ n₄
+          wrote-then out at (a ++ place) (countsText lookups voids life) o₃ o₄ n₃ n₄
           (wrote-then out at a place o₂ o₃ n₂ n₃ (wrote-then out at (inDecimal number) (32 ∷ []) o₁ o₂ n₁ n₂ u v) w) x
 
 -- a number with its kind and a name after it
-pub named-written : (kind lookups voids : ℕ) (s out : List ℕ) (at : ℕ) (o₁ : List ℕ) (n₁ : ℕ) (o₂ : List ℕ) (n₂ : ℕ)
-    → Wrote (reportText 7 (inDecimal kind) lookups voids) out at o₁ n₁ → Wrote (line s) o₁ n₁ o₂ n₂
-    → Wrote (reportText 7 (inDecimal kind) lookups voids ++ line s) out at o₂ n₂
-named-written kind lookups voids s out at o₁ n₁ o₂ n₂ v w = wrote-then out at (reportText 7 (inDecimal kind) lookups voids) (line s) o₁ o₂ n₁ n₂ v w
+pub named-written : (kind lookups voids life : ℕ) (s out : List ℕ) (at : ℕ) (o₁ : List ℕ) (n₁ : ℕ) (o₂ : List ℕ) (n₂ : ℕ)
+    → Wrote (reportText 7 (inDecimal kind) lookups voids life) out at o₁ n₁ → Wrote (line s) o₁ n₁ o₂ n₂
+    → Wrote (reportText 7 (inDecimal kind) lookups voids life ++ line s) out at o₂ n₂
+named-written kind lookups voids life s out at o₁ n₁ o₂ n₂ v w = wrote-then out at (reportText 7 (inDecimal kind) lookups voids life) (line s) o₁ o₂ n₁ n₂ v w
 
 -- what both calls give, by its report and what comes with it
-module _ (c : Counts) (out : List ℕ) (at : ℕ) (o : List ℕ) (r : ℕ) where
-  pub number-given : (number : ℕ) → Wrote (reportText number (bytes ".") (c .lookups) (c .voids)) out at o r → Wrote (givenLines (given number absent c absent)) out at o r
+module _ (c : Counts) (life : ℕ) (out : List ℕ) (at : ℕ) (o : List ℕ) (r : ℕ) where
+  pub number-given : (number : ℕ) → Wrote (reportText number (bytes ".") (c .lookups) (c .voids) life) out at o r → Wrote (givenLines (given number absent c life absent)) out at o r
   unfolding givenLines reportLine orDot secondLine
   number-given number w = rw append-nil w
 
-  pub placed-given : (number place : ℕ) → Wrote (reportText number (inDecimal place) (c .lookups) (c .voids)) out at o r
-      → Wrote (givenLines (given number (present place) c absent)) out at o r
+  pub placed-given : (number place : ℕ) → Wrote (reportText number (inDecimal place) (c .lookups) (c .voids) life) out at o r
+      → Wrote (givenLines (given number (present place) c life absent)) out at o r
   unfolding givenLines reportLine orDot secondLine
   placed-given number place w = rw append-nil w
 
-  pub named-given : (kind : ℕ) (s : List ℕ) → Wrote (reportText 7 (inDecimal kind) (c .lookups) (c .voids) ++ line s) out at o r
-      → Wrote (givenLines (given 7 (present kind) c (present s))) out at o r
+  pub named-given : (kind : ℕ) (s : List ℕ) → Wrote (reportText 7 (inDecimal kind) (c .lookups) (c .voids) life ++ line s) out at o r
+      → Wrote (givenLines (given 7 (present kind) c life (present s))) out at o r
   unfolding givenLines reportLine orDot secondLine
   named-given kind s w = w
 
-  pub fail-given : (s o₁ : List ℕ) (n₁ : ℕ) → Wrote (reportText 3 (bytes ".") (c .lookups) (c .voids)) out at o₁ n₁ → Wrote (line s) o₁ n₁ o r
-      → Wrote (givenLines (given 3 absent c (present s))) out at o r
+  pub fail-given : (s o₁ : List ℕ) (n₁ : ℕ) → Wrote (reportText 3 (bytes ".") (c .lookups) (c .voids) life) out at o₁ n₁ → Wrote (line s) o₁ n₁ o r
+      → Wrote (givenLines (given 3 absent c life (present s))) out at o r
   unfolding givenLines reportLine orDot secondLine
-  fail-given s o₁ n₁ v w = wrote-then out at (reportText 3 (bytes ".") (c .lookups) (c .voids)) (line s) o₁ o n₁ r v w
+  fail-given s o₁ n₁ v w = wrote-then out at (reportText 3 (bytes ".") (c .lookups) (c .voids) life) (line s) o₁ o n₁ r v w

@@ -3,14 +3,6 @@ use Rattle.check_input.proofs.Laws.Inputs.{calls-decided, calls-fail, c
 use borrow.Author.Needs.{needs}
 use Rattle.check_input.proofs.answer_calls.Statement.{statement}
 use Rattle.check_input.proofs.answer_calls.Tie as tie
-use Rattle.check_input.proofs.answer_calls.Reads as reads
-use Rattle.check_input.proofs.answer_calls.Lts as lts
-use Rattle.check_input.proofs.answer_fail.Reads as answer-fail-reads
-use Rattle.check_input.proofs.lines.put_named.Reads as put-named-reads
-use Rattle.check_input.proofs.lines.put_number.Reads as put-number-reads
-use Rattle.check_input.proofs.lines.put_placed.Reads as put-placed-reads
-use Rattle.evaluation.proofs.evaluate.Reads as evaluate-reads
-use Rattle.text.proofs.bytes.part.Reads as part-reads
 
 slice-aggregate-evaluate : tie.Need-slice-aggregate-evaluate
 slice-aggregate-evaluate c = search needs

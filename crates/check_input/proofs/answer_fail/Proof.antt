@@ -3,14 +3,6 @@ use Rattle.check_input.proofs.Laws.Inputs.{fail-text, fail-wanting, fai
 use borrow.Author.Needs.{needs}
 use Rattle.check_input.proofs.answer_fail.Statement.{statement}
 use Rattle.check_input.proofs.answer_fail.Tie as tie
-use Rattle.check_input.proofs.answer_fail.Reads as reads
-use Rattle.check_input.proofs.answer_fail.Lts as lts
-use Rattle.check_input.proofs.lines.put_line.Reads as put-line-reads
-use Rattle.check_input.proofs.lines.put_named.Reads as put-named-reads
-use Rattle.check_input.proofs.lines.put_number.Reads as put-number-reads
-use Rattle.check_input.proofs.lines.put_placed.Reads as put-placed-reads
-use Rattle.evaluation.proofs.explaining.explain.Reads as explain-reads
-use Rattle.text.proofs.bytes.part.Reads as part-reads
 
 slice-aggregate-explain : tie.Need-slice-aggregate-explain
 slice-aggregate-explain c = search needs

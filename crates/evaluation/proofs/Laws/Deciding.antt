@@ -26,11 +26,13 @@ use Rattle.records.specs.Readings.{present}
 use Rattle.records.specs.Opening.{argumentIn}
 use Rattle.records.specs.declared.opening.Modifier.{Modifier}
 use Rattle.rules.specs.declared.Counts.{Counts}
+use Rattle.rules.specs.declared.Life.{Life}
 use Rattle.rules.specs.declared.Ending.{Ending}
 use Rattle.rules.specs.declared.Checked.{Checked}
 use Rattle.rules.specs.declared.FailingPlace.{FailingPlace}
 use Rattle.rules.specs.declared.Span.{Span}
 use Rattle.rules.specs.Tree.{Settled, settled, run}
+use Rattle.rules.specs.Lifetimes.{seconds}
 use Rattle.rules.specs.Tables.{tableIn, tableOf}
 use Rattle.rules.specs.Mechanisms.{Mail}
 use Rattle.rules.specs.Evaluation.{Failing, Result, checkName, check, whole, noCounts, evaluation}
@@ -76,20 +78,30 @@ module _ (domain : List ℕ) (r : Name) (p : r ≡ nameAnswer (normal domain)) w
     given-small d i = let k = written .1 in rw (i, front-part to n) (simp length-take (omega arith))
 
     pub given-checked : (t : List ℕ) (mail : Mail) (b : List ℕ) (o : Checked) (d a : List ℕ) → d ≡ part to 0 n
-        → SaysCheck t (run (tableIn t) (whole mail (name d) noCounts)) o b a
-        → SaysCheck t (run (tableIn t) (evaluation mail domain)) o b a
+        → SaysCheck t (run (tableIn t) Life.Unmet (whole mail (name d) noCounts)) o b a
+        → SaysCheck t (run (tableIn t) Life.Unmet (evaluation mail domain)) o b a
     unfolding evaluation
     given-checked t mail b o d a i f =
         let j : d ≡ take n to = i ∙ front-part to n in
         rw (written .0, ← j) f
 
-  pub given-malformed : (t : List ℕ) (mail : Mail) (b : List ℕ) (o : Checked) → r ≡ Name.Malformed → o ≡ endedOf 0 noCounts → SaysCheck t (run (tableIn t) (evaluation mail domain)) o b b
+  pub given-malformed : (t : List ℕ) (mail : Mail) (b : List ℕ) (o : Checked) → r ≡ Name.Malformed → o ≡ endedOf 0 noCounts Life.Unmet → SaysCheck t (run (tableIn t) Life.Unmet (evaluation mail domain)) o b b
   unfolding evaluation check checkName failingOf FailingAt
-  given-malformed t mail b o e h = rw (malformed-is (normal domain) p e, h) (checked-give t (tableIn t) _ (endedOf 0 noCounts) b (refl, refl, refl) tt)
+  given-malformed t mail b o e h = rw (malformed-is (normal domain) p e, h) (checked-give t (tableIn t) _ (endedOf 0 noCounts Life.Unmet) b (refl, refl, refl) tt)
+
+-- seconds_of
+module _ (l : Life) where
+  pub seconds-none : l ≡ Life.Unmet → 0 ≡ seconds l
+  unfolding seconds
+  seconds-none e = rw e
+
+  pub seconds-least : (n : ℕ) → l ≡ Life.Least n → n ≡ seconds l
+  unfolding seconds
+  seconds-least n e = rw e
 
 -- finish
-module _ (t : List ℕ) (v : ℕ) (c : Counts) (f : FailingPlace) (b : List ℕ) where
-  pub finish-nowhere : f ≡ FailingPlace.Nowhere → Says (finished t v c f) (Answer.Decided v c) b b
+module _ (t : List ℕ) (v : ℕ) (c : Counts) (life : ℕ) (f : FailingPlace) (b : List ℕ) where
+  pub finish-nowhere : f ≡ FailingPlace.Nowhere → Says (finished t v c life f) (Answer.Decided v c life) b b
   unfolding finished answerOf nameAfter
   finish-nowhere e = rw e (record { answer = refl; name-buffer = refl })
 
@@ -101,21 +113,21 @@ module _ (t : List ℕ) (v : ℕ) (c : Counts) (f : FailingPlace) (b : List ℕ)
         omega (arith, p .1)
 
     module _ (d : List ℕ) (i : d ≡ spanOf t domain) (a : List ℕ) (w : a ≡ overwritten d b) where
-      pub finish-absent : exp ≡ Modifier.Absent → Says (finished t v c f) (Answer.Fail c (length d) 0 0) b a
+      pub finish-absent : exp ≡ Modifier.Absent → Says (finished t v c life f) (Answer.Fail c life (length d) 0 0) b a
       unfolding finished answerOf nameAfter placeOf sizeOf
       finish-absent q = rw (e, q, ← i) (record { answer = refl; name-buffer = w })
 
-      pub finish-part : (from to : ℕ) → exp ≡ Modifier.Part from to → Says (finished t v c f) (Answer.Fail c (length d) from (to - from)) b a
+      pub finish-part : (from to : ℕ) → exp ≡ Modifier.Part from to → Says (finished t v c life f) (Answer.Fail c life (length d) from (to - from)) b a
       unfolding finished answerOf nameAfter placeOf sizeOf
       finish-part from to q = rw (e, q, ← i) (record { answer = refl; name-buffer = w })
 
 -- a result with the record that failed, as what the table settles comes to
-finished-comes : (t : List ℕ) (v : ℕ) (c : Counts) (f : FailingPlace) → FailingAt t f → (es : List Entry) → Encoded t es
-    → Comes t (settled (record { value = v; counts = c; failing = failingOf t f })) (finished t v c f)
+finished-comes : (t : List ℕ) (v : ℕ) (c : Counts) (l : Life) (f : FailingPlace) → FailingAt t f → (es : List Entry) → Encoded t es
+    → Comes t (settled (record { value = v; counts = c; failing = failingOf t f }) l) (finished t v c (seconds l) f)
 unfolding finished failingOf FailingAt ExpStands argumentIn placeOf sizeOf
-finished-comes t v c FailingPlace.Nowhere h es e = decides refl
-finished-comes t v c (FailingPlace.In domain Modifier.Absent) h es e = fails refl without
-finished-comes t v c (FailingPlace.In domain (Modifier.Part from to)) h es e =
+finished-comes t v c l FailingPlace.Nowhere h es e = decides refl
+finished-comes t v c l (FailingPlace.In domain Modifier.Absent) h es e = fails refl without
+finished-comes t v c l (FailingPlace.In domain (Modifier.Part from to)) h es e =
     let p = h .stands in
     let n : length (part t from to) ≡ to - from = omega (arith, p .1) in
     fails refl (subst (ExpOf t (spanOf t domain) (present (part t from to)) from) n (with-exp (p .2 es e)))
@@ -125,23 +137,25 @@ module _ (t : List ℕ) (x : Settled Result) (b a : List ℕ) (o : Checked) (s :
   pub decide-placed : FailingAt t (o .failing)
   decide-placed = s .placed
 
-  pub decide-wants : (kind n : ℕ) → o .ending ≡ Ending.Wanting kind n → Decides t x (Answer.Wanting kind n (o .counts)) b a
+  pub decide-wants : (kind n : ℕ) → o .ending ≡ Ending.Wanting kind n → (life : ℕ) → life ≡ seconds (o .life) → Decides t x (Answer.Wanting kind n (o .counts) life) b a
   unfolding answerOf nameAfter
-  decide-wants kind n e =
+  decide-wants kind n e life i =
       let w = checked-wants t x o b a s kind n e in
       record {
-        outcome = wants kind (w .asked) (o .counts);
-        comes = λ es c. subst (λ (y : Settled Result). Comes t y (wants kind (w .asked) (o .counts))) (sym (w .is)) lacks;
-        says = record { answer = ap (λ (m : ℕ). Answer.Wanting kind m (o .counts)) (w .size-is); name-buffer = w .buffer };
+        outcome = wants kind (w .asked) (o .counts) life;
+        comes = λ es c. subst (λ (y : Settled Result). Comes t y (wants kind (w .asked) (o .counts) life)) (sym (w .is)) (rw i lacks);
+        says = record { answer = ap (λ (m : ℕ). Answer.Wanting kind m (o .counts) life) (w .size-is); name-buffer = w .buffer };
       }
 
-  pub decide-result : (v : ℕ) → o .ending ≡ Ending.Result v → (r : Answer) (z : List ℕ) → Says (finished t v (o .counts) (o .failing)) r a z → Decides t x r b z
-  decide-result v e r z h =
+  pub decide-result : (v : ℕ) → o .ending ≡ Ending.Result v → (life : ℕ) → life ≡ seconds (o .life) → (r : Answer) (z : List ℕ)
+      → Says (finished t v (o .counts) life (o .failing)) r a z → Decides t x r b z
+  decide-result v e life i r z h =
       let g = checked-result t x o b a s v e in
       record {
-        outcome = finished t v (o .counts) (o .failing);
-        comes = λ es c. subst (λ (y : Settled Result). Comes t y (finished t v (o .counts) (o .failing))) (sym (g .is)) (finished-comes t v (o .counts) (o .failing) (s .placed) es c);
-        says = subst (λ (y : List ℕ). Says (finished t v (o .counts) (o .failing)) r y z) (g .kept) h;
+        outcome = finished t v (o .counts) life (o .failing);
+        comes = λ es c. subst (λ (y : Settled Result). Comes t y (finished t v (o .counts) life (o .failing))) (sym (g .is))
+            (rw i (finished-comes t v (o .counts) (o .life) (o .failing) (s .placed) es c));
+        says = subst (λ (y : List ℕ). Says (finished t v (o .counts) life (o .failing)) r y z) (g .kept) h;
       }
 
 -- evaluate
@@ -177,7 +191,7 @@ module _ (client : Address) (domain sender helo receiver : List ℕ) (seconds : 
       evaluated-repeated p k = record { outcome = refused-at 26 p; answers = bad-table fit (table-said q (Repeated p) k); says = record { answer = refl; name-buffer = refl } }
 
       pub evaluated-decided : (m : ℕ) → a ≡ Accepted m → (c : Address) → c ≡ asClient client → (r : Answer) (name′ : List ℕ)
-          → Decides table (run (tableIn table) (evaluation (mailOf c sender helo receiver seconds) domain)) r name name′
+          → Decides table (run (tableIn table) Life.Unmet (evaluation (mailOf c sender helo receiver seconds) domain)) r name name′
           → Evaluates (lent client domain sender helo receiver seconds table name) (handed r name′)
       evaluated-decided m k c i r name′ s = by (table-said q (Accepted m) k)
         where
@@ -193,11 +207,11 @@ comes-one : {t : List ℕ} {x : Settled Result} {o u : Outcome} → Comes t x o 
 comes-one (decides h) (decides g) = refl
 comes-one (decides h) (fails g e) = let i = sym h ∙ g in let z : _≡_ {A = ℕ} 0 1 = cc in absurd (omega arith)
 comes-one (fails h e) (decides g) = let i = sym h ∙ g in let z : _≡_ {A = ℕ} 0 1 = cc in absurd (omega arith)
-comes-one {t} (fails {r = r} {f = f} {place = p} {size = n} h e) (fails {f = g} {place = q} {size = m} k d) =
+comes-one {t} (fails {r = r} {f = f} {l = life} {place = p} {size = n} h e) (fails {f = g} {place = q} {size = m} k d) =
     let i : g ≡ f = cc in
-    let l = exp-of-one e (subst (λ (y : Failing). ExpOf t (y .domain) (y .exp) q m) i d) in
-    ap (λ (y : List ℕ). failed (r .counts) y p n) (ap (λ (y : Failing). y .domain) (sym i))
-    ∙ ap (λ (y : ℕ). failed (r .counts) (g .domain) y n) (l .0) ∙ ap (failed (r .counts) (g .domain) q) (l .1)
+    let k′ = exp-of-one e (subst (λ (y : Failing). ExpOf t (y .domain) (y .exp) q m) i d) in
+    ap (λ (y : List ℕ). failed (r .counts) (seconds life) y p n) (ap (λ (y : Failing). y .domain) (sym i))
+    ∙ ap (λ (y : ℕ). failed (r .counts) (seconds life) (g .domain) y n) (k′ .0) ∙ ap (failed (r .counts) (seconds life) (g .domain) q) (k′ .1)
 comes-one lacks lacks = refl
 
 pub answers-one : (a : Lent) {o u : Outcome} → Answers a o → Answers a u → o ≡ u

@@ -12,6 +12,8 @@ use Rattle.records.specs.Claim.{Calls}
 use Rattle.records.specs.declared.RecordAnswer.{RecordAnswer}
 use Rattle.records.proofs.Laws.Claim.{claim}
 use Rattle.rules.specs.declared.Counts.{Counts}
+use Rattle.rules.specs.declared.Life.{Life}
+use Rattle.rules.specs.Lifetimes.{seconds}
 use Rattle.rules.specs.Tree.{Settled}
 use Rattle.rules.specs.Evaluation.{Result}
 use Rattle.rules.specs.Reached.{Outside, too-long, unproduced}
@@ -34,17 +36,19 @@ refused-outside s calls number place e = ⊎-elim
     (le-or-lt (length s) most-bytes)
 
 -- what a permerror hands back
-permerror-handed : (a : Lent) (h : Handed) (o : Outcome) (k : Counts) → Says o (h .answer) (a .name) (h .name) → o ≡ decided 6 k → h ≡ handed (Answer.Decided 6 k) (a .name)
+permerror-handed : (a : Lent) (h : Handed) (o : Outcome) (k : Counts) (life : ℕ) → Says o (h .answer) (a .name) (h .name) → o ≡ decided 6 k life
+    → h ≡ handed (Answer.Decided 6 k life) (a .name)
 unfolding answerOf nameAfter
-permerror-handed a h o k s e = said-one h (handed (Answer.Decided 6 k) (a .name)) s (rw e (record { answer = refl; name-buffer = refl }))
+permerror-handed a h o k life s e = said-one h (handed (Answer.Decided 6 k life) (a .name)) s (rw e (record { answer = refl; name-buffer = refl }))
 
 pub demand3 : (s : List ℕ) (calls : Calls s) → Demand3 s calls
 demand3 s calls = record {
   reads = claim s calls;
   never = λ number place refused a h evaluates-a fit es small encoded e k reached selects.
-      permerror-handed a h (evaluates-a .outcome) k (evaluates-a .says)
-      (answers-one a (evaluates-a .answers)
-      (evaluates fit small encoded
-      (subst (λ (x : Settled Result). Comes (a .table) x (decided 6 k))
-      (sym (evaluation-never-evaluated (tableOf es) (mailIn a) (a .domain) s reached selects (refused-outside s calls number place refused))) (decides refl))));
+      let p = evaluation-never-evaluated (tableOf es) (mailIn a) (a .domain) s reached selects (refused-outside s calls number place refused) Life.Unmet in (
+        seconds (p .0),
+        permerror-handed a h (evaluates-a .outcome) k (seconds (p .0)) (evaluates-a .says)
+            (answers-one a (evaluates-a .answers)
+            (evaluates fit small encoded (subst (λ (x : Settled Result). Comes (a .table) x (decided 6 k (seconds (p .0)))) (sym (p .1)) (decides refl)))),
+      );
 }

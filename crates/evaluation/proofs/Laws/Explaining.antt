@@ -25,6 +25,7 @@ use Rattle.answer_table.specs.Reader.{checkTable}
 use Rattle.answer_table.proofs.Laws.Entries.{entries-one}
 use Rattle.records.specs.Readings.{present}
 use Rattle.records.specs.declared.opening.Modifier.{Modifier}
+use Rattle.rules.specs.declared.Life.{Life}
 use Rattle.rules.specs.declared.Explained.{Explained}
 use Rattle.rules.specs.Tree.{Settled, settled, wanting, run}
 use Rattle.rules.specs.Tables.{tableIn, tableOf}
@@ -65,8 +66,8 @@ refused-says n b u = record { answer = refl; name-buffer = refl; text-buffer = r
 comes-says : (x : Settled (List ℕ)) (r : Explained) (u u′ b b′ : List ℕ) → SaysText noCounts x r u u′ b b′ → (q : Explanation) → q ≡ answerFor r
     → Says (comesTo x) q b b′ u u′
 unfolding comesTo answerFor ExplainedIs textBuffer wantedBuffer answerOf nameAfter textAfter
-comes-says (settled s) r u u′ b b′ w q e = record { answer = e ∙ rw (w .explained); name-buffer = w .buffer; text-buffer = w .text-buffer }
-comes-says (wanting kind n c) r u u′ b b′ w q e = record { answer = e ∙ rw (w .explained .0); name-buffer = w .buffer; text-buffer = w .text-buffer }
+comes-says (settled s l) r u u′ b b′ w q e = record { answer = e ∙ rw (w .explained); name-buffer = w .buffer; text-buffer = w .text-buffer }
+comes-says (wanting kind n c l) r u u′ b b′ w q e = record { answer = e ∙ rw (w .explained .0); name-buffer = w .buffer; text-buffer = w .text-buffer }
 
 -- `explain_name`
 pub part-order : (t d : List ℕ) (m : Modifier) → FindsExp t d m → (from to : ℕ) → m ≡ Modifier.Part from to → from ≤ to
@@ -106,12 +107,12 @@ module _ (t : List ℕ) (mail : Mail) (d : List ℕ) (place size : ℕ) (some : 
     name-longer i h = other (λ es c x a l. h (omega (arith, at-part .1, ap length (exp-one (at-part .2 es c) a .1), l)))
 
     pub name-made : from ≡ place → to - from ≡ size → (spec : List ℕ) → spec ≡ part t from to → (r : Explained) (u′ b′ : List ℕ)
-        → SaysText noCounts (run (tableIn t) (explanation mail d (present spec) noCounts)) r u u′ b b′ → (q : Explanation) → q ≡ answerFor r
+        → SaysText noCounts (run (tableIn t) Life.Unmet (explanation mail d (present spec) noCounts)) r u u′ b b′ → (q : Explanation) → q ≡ answerFor r
         → Makes t mail (Naming.name d) place size q b b′ u u′
     name-made i j spec k r u′ b′ w q e′ = record {
-      outcome = comesTo (run (tableIn t) (explanation mail d (present spec) noCounts));
+      outcome = comesTo (run (tableIn t) Life.Unmet (explanation mail d (present spec) noCounts));
       judges = λ es c. rw (table-is (c .entries)) (argument {x = spec} refl (rw (← i, k) (at-part .2 es c)) (omega (arith, at-part .1, ap length k, j)));
-      says = comes-says (run (tableIn t) (explanation mail d (present spec) noCounts)) r u u′ b b′ w q e′;
+      says = comes-says (run (tableIn t) Life.Unmet (explanation mail d (present spec) noCounts)) r u u′ b b′ w q e′;
     }
 
 -- `explain_given`
@@ -234,8 +235,8 @@ judges-one (argument e a l) (none p s) = absurd (omega (arith, p, exp-beyond a))
 judges-one {t} {es} {mail} {domain} {place} (argument {d = d} {x = x} e a l) (argument {d = c} {x = y} i b k) =
     let j : d ≡ c = name-is d c (sym e ∙ i) in
     let m : x ≡ y = exp-one (subst (λ (z : List ℕ). ExpAt t z place x) j a) b .1 in
-    ap (λ (z : List ℕ). comesTo (run (tableOf es) (explanation mail z (present x) noCounts))) j
-    ∙ ap (λ (z : List ℕ). comesTo (run (tableOf es) (explanation mail c (present z) noCounts))) m
+    ap (λ (z : List ℕ). comesTo (run (tableOf es) Life.Unmet (explanation mail z (present x) noCounts))) j
+    ∙ ap (λ (z : List ℕ). comesTo (run (tableOf es) Life.Unmet (explanation mail c (present z) noCounts))) m
   where
     name-is : (a z : List ℕ) → Naming.name a ≡ Naming.name z → a ≡ z
     name-is a z e = cc

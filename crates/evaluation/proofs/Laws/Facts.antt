@@ -16,6 +16,7 @@ use Rattle.answer_table.specs.Reader.{checkTable}
 use Rattle.answer_table.proofs.Laws.Checks.{table-answers}
 use Rattle.macros.specs.Expansion.{isSender, isHost, isShort}
 use Rattle.rules.specs.declared.Counts.{Counts}
+use Rattle.rules.specs.declared.Life.{Life}
 use Rattle.rules.specs.Tree.{Settled, settled, wanting, run}
 use Rattle.rules.specs.Tables.{tableIn}
 use Rattle.rules.proofs.Laws.Alike.{Holds}
@@ -31,17 +32,17 @@ module _ (client : Address) (domain sender helo receiver : List ℕ) (seconds : 
   unfoldable Sound : Outcome → Type 0
   Sound (refused number) = Unit {0}
   Sound (refused-at number place) = Unit {0}
-  Sound (settles x) = Holds (AskedFacts (tableIn table)) VerdictFacts x × Fitting (tableIn table)
+  Sound (settles x life) = Holds (AskedFacts (tableIn table)) VerdictFacts x × Fitting (tableIn table)
 
   table-fits : {n : ℕ} → TableAnswers table (accepted n) → Fitting (tableIn table)
   table-fits (whole h e) = entries-fit (e .entries)
 
-  table-sound : (a : TableAnswer) → TableAnswers table (reported a) → Sound (afterTable a (run (tableIn table) (verdict (mailFor client sender helo receiver seconds) domain)))
+  table-sound : (a : TableAnswer) → TableAnswers table (reported a) → (life : ℕ) → Sound (afterTable a (run (tableIn table) Life.Unmet (verdict (mailFor client sender helo receiver seconds) domain)) life)
   unfolding Sound afterTable
-  table-sound TooLong c = tt
-  table-sound (Malformed p) c = tt
-  table-sound (Repeated p) c = tt
-  table-sound (Accepted n) c = (verdict-facts (tableIn table) (mailFor client sender helo receiver seconds) domain, table-fits c)
+  table-sound TooLong c life = tt
+  table-sound (Malformed p) c life = tt
+  table-sound (Repeated p) c life = tt
+  table-sound (Accepted n) c life = (verdict-facts (tableIn table) (mailFor client sender helo receiver seconds) domain Life.Unmet, table-fits c)
 
   evaluated-sound : Sound (evaluated client domain sender helo receiver seconds table name text)
   unfolding evaluated Sound
@@ -49,13 +50,13 @@ module _ (client : Address) (domain sender helo receiver : List ℕ) (seconds : 
       cond-elim Sound (isSender sender)
       (λ _. cond-elim Sound (isHost helo && isHost receiver)
       (λ _. cond-elim Sound (isShort domain)
-      (λ _. cond-elim Sound (hasRoom name text) (λ _. table-sound (checkTable table) (table-answers table)) (λ _. tt))
+      (λ _. cond-elim Sound (hasRoom name text) (λ _. table-sound (checkTable table) (table-answers table) _) (λ _. tt))
       (λ _. tt))
       (λ _. tt))
       (λ _. tt)
 
-  module _ (x : Settled Verdict) (e : evaluated client domain sender helo receiver seconds table name text ≡ settles x) where
-    sound : Sound (settles x)
+  module _ (x : Settled Verdict) (life : ℕ) (e : evaluated client domain sender helo receiver seconds table name text ≡ settles x life) where
+    sound : Sound (settles x life)
     sound = subst Sound e evaluated-sound
 
     -- the counts at a wanted question and with a result, and the two facts below
@@ -68,18 +69,20 @@ module _ (client : Address) (domain sender helo receiver : List ℕ) (seconds : 
     fitting = sound .1
 
   -- a wanted name
-  pub wanted-name : (kind : ℕ) (n : List ℕ) (c : Counts) → evaluated client domain sender helo receiver seconds table name text ≡ settles (wanting kind n c)
+  pub wanted-name : (kind : ℕ) (n : List ℕ) (c : Counts) (l : Life) (life : ℕ)
+      → evaluated client domain sender helo receiver seconds table name text ≡ settles (wanting kind n c l) life
       → isTableName n ≡ true
   unfolding Holds
-  wanted-name kind n c e = facts (wanting kind n c) e .table-name (fitting (wanting kind n c) e)
+  wanted-name kind n c l life e = facts (wanting kind n c l) life e .table-name (fitting (wanting kind n c l) life e)
 
   -- a wanted kind: A, PTR, MX, TXT or AAAA
-  pub wanted-kind : (kind : ℕ) (n : List ℕ) (c : Counts) → evaluated client domain sender helo receiver seconds table name text ≡ settles (wanting kind n c)
+  pub wanted-kind : (kind : ℕ) (n : List ℕ) (c : Counts) (l : Life) (life : ℕ)
+      → evaluated client domain sender helo receiver seconds table name text ≡ settles (wanting kind n c l) life
       → AskedKind kind
   unfolding Holds
-  wanted-kind kind n c e = facts (wanting kind n c) e .asked-kind
+  wanted-kind kind n c l life e = facts (wanting kind n c l) life e .asked-kind
 
   -- "text written only for 3"
-  pub only-for-fail : (v : Verdict) → evaluated client domain sender helo receiver seconds table name text ≡ settles (settled v) → (v .value ≡ 3 → ⊥) → v .text ≡ []
+  pub only-for-fail : (v : Verdict) (l : Life) (life : ℕ) → evaluated client domain sender helo receiver seconds table name text ≡ settles (settled v l) life → (v .value ≡ 3 → ⊥) → v .text ≡ []
   unfolding Holds
-  only-for-fail v e n = facts (settled v) e .text n
+  only-for-fail v l life e n = facts (settled v l) life e .text n

@@ -23,6 +23,7 @@ use Rattle.records.specs.declared.opening.Reading.{Reading}
 use Rattle.records.specs.Opening.{unaided, Passing, Leads, Accepts, OpeningOf, answerOf}
 use Rattle.records.proofs.Laws.Terms.{read-long, read-past}
 use Rattle.rules.specs.declared.Counts.{Counts}
+use Rattle.rules.specs.declared.Life.{Life}
 use Rattle.rules.specs.declared.Matched.{Matched}
 use Rattle.rules.specs.declared.Stepped.{Stepped}
 use Rattle.rules.specs.declared.Span.{Span}
@@ -56,26 +57,26 @@ asks-matches k e = let z : _≡_ {A = ℕ} 0 1 = cc in omega arith
 passes-matches : (k : ℕ) → Unaided.Passes ≡ Unaided.Matches k → ⊥
 passes-matches k e = let z : _≡_ {A = ℕ} 0 1 = cc in omega arith
 
-module _ (t : Table) (mail : Mail) (d w : List ℕ) (c : Counts) (b : List ℕ) where
+module _ (t : Table) (mail : Mail) (d w : List ℕ) (c : Counts) (l : Life) (b : List ℕ) where
   -- what a term's step says
   abbrev Steps : Term → Stepped → Type 0
-  Steps x o = (sub : Sub) → SaysStep (run t (termStep mail sub d (saidOf w x) (saidOf w x .sign) c)) o b b
+  Steps x o = (sub : Sub) → SaysStep (run t l (termStep mail sub d (saidOf w x) (saidOf w x .sign) c)) o b b
 
-  network-step : (sign from to n : ℕ) (a : Address) (m : Bool) → matchesAt (mail .client) a n ≡ m → Steps (Term.Network sign from to a n) (matchAnswer m c)
+  network-step : (sign from to n : ℕ) (a : Address) (m : Bool) → matchesAt (mail .client) a n ≡ m → Steps (Term.Network sign from to a n) (matchAnswer m c l)
   unfolding TriedIs
-  network-step sign from to n a m e = tried-network t mail d w (Term.Network sign from to a n) c b (matchAnswer m c) sign from to n a refl m (sym e) refl
+  network-step sign from to n a m e = tried-network t mail d w (Term.Network sign from to a n) c l b (matchAnswer m c l) sign from to n a refl m (sym e) refl
 
   -- a term that passes
-  passing-step : (x : Term) → unaided (mail .client) x ≡ Unaided.Passes → Steps x (matchAnswer false c)
+  passing-step : (x : Term) → unaided (mail .client) x ≡ Unaided.Passes → Steps x (matchAnswer false c l)
   unfolding unaided TriedIs
   passing-step (Term.Network sign from to a n) e = by (matchesAt (mail .client) a n) refl e
     where
-      by : (m : Bool) → matchesAt (mail .client) a n ≡ m → cond m (Unaided.Matches sign) Unaided.Passes ≡ Unaided.Passes → Steps (Term.Network sign from to a n) (matchAnswer false c)
+      by : (m : Bool) → matchesAt (mail .client) a n ≡ m → cond m (Unaided.Matches sign) Unaided.Passes ≡ Unaided.Passes → Steps (Term.Network sign from to a n) (matchAnswer false c l)
       by true h g = absurd (passes-matches sign (sym g))
       by false h g = network-step sign from to n a false h
-  passing-step (Term.Redirect from to) e = tried-redirect t mail d w (Term.Redirect from to) c b (matchAnswer false c) from to refl refl
-  passing-step (Term.Explanation from to) e = tried-explanation t mail d w (Term.Explanation from to) c b (matchAnswer false c) from to refl refl
-  passing-step (Term.Unknown n to) e = tried-unknown t mail d w (Term.Unknown n to) c b (matchAnswer false c) n to refl refl
+  passing-step (Term.Redirect from to) e = tried-redirect t mail d w (Term.Redirect from to) c l b (matchAnswer false c l) from to refl refl
+  passing-step (Term.Explanation from to) e = tried-explanation t mail d w (Term.Explanation from to) c l b (matchAnswer false c l) from to refl refl
+  passing-step (Term.Unknown n to) e = tried-unknown t mail d w (Term.Unknown n to) c l b (matchAnswer false c l) n to refl refl
   passing-step (Term.All sign) e = absurd (passes-matches sign (sym e))
   passing-step (Term.Include sign from to) e = absurd (asks-passes e)
   passing-step (Term.A sign from to four six) e = absurd (asks-passes e)
@@ -84,12 +85,12 @@ module _ (t : Table) (mail : Mail) (d w : List ℕ) (c : Counts) (b : List ℕ) 
   passing-step (Term.Exists sign from to) e = absurd (asks-passes e)
 
   -- a term that matches
-  matching-step : (x : Term) (k : ℕ) → unaided (mail .client) x ≡ Unaided.Matches k → Steps x (matchAnswer true c) × (signOf x ≡ k)
+  matching-step : (x : Term) (k : ℕ) → unaided (mail .client) x ≡ Unaided.Matches k → Steps x (matchAnswer true c l) × (signOf x ≡ k)
   unfolding unaided TriedIs signOf
-  matching-step (Term.All sign) k e = (tried-all t mail d w (Term.All sign) c b (matchAnswer true c) sign refl refl, cc)
+  matching-step (Term.All sign) k e = (tried-all t mail d w (Term.All sign) c l b (matchAnswer true c l) sign refl refl, cc)
   matching-step (Term.Network sign from to a n) k e = by (matchesAt (mail .client) a n) refl e
     where
-      by : (m : Bool) → matchesAt (mail .client) a n ≡ m → cond m (Unaided.Matches sign) Unaided.Passes ≡ Unaided.Matches k → Steps (Term.Network sign from to a n) (matchAnswer true c) × (sign ≡ k)
+      by : (m : Bool) → matchesAt (mail .client) a n ≡ m → cond m (Unaided.Matches sign) Unaided.Passes ≡ Unaided.Matches k → Steps (Term.Network sign from to a n) (matchAnswer true c l) × (sign ≡ k)
       by true h g = (network-step sign from to n a true h, cc)
       by false h g = absurd (passes-matches k g)
   matching-step (Term.Redirect from to) k e = absurd (passes-matches k e)
@@ -102,12 +103,12 @@ module _ (t : Table) (mail : Mail) (d w : List ℕ) (c : Counts) (b : List ℕ) 
   matching-step (Term.Exists sign from to) k e = absurd (asks-matches k e)
 
 -- the walk past the terms that pass
-module _ (t : List ℕ) (mail : Mail) (d s : List ℕ) (first : ℕ) (b : List ℕ) (c : Counts) (small : c .lookups ≤ 10) (few : c .voids ≤ 2) where
-  walk-led : (j : ℕ) → Passing (mail .client) s first j → Walk t mail d s first b c b j c
-  walk-led j Passing.none = walk-start t mail d s first b c small few
+module _ (t : List ℕ) (mail : Mail) (d s : List ℕ) (first : ℕ) (b : List ℕ) (c : Counts) (l : Life) (small : c .lookups ≤ 10) (few : c .voids ≤ 2) where
+  walk-led : (j : ℕ) → Passing (mail .client) s first j → Walk t mail d s first b c l b j c l
+  walk-led j Passing.none = walk-start t mail d s first b c l small few
   walk-led j (Passing.onward {j = i} {at = at} {next = next} {x = x} p q e) =
-      walk-no t mail d s first b c b i c (walk-led i p) (readTerm s i) refl at next x q (read-inside s i at next x q) (part s at next) refl (matchAnswer false c) b
-      (passing-step (tableIn t) mail d (part s at next) c b x e (whole mail)) refl
+      walk-no t mail d s first b c l b i c l (walk-led i p) (readTerm s i) refl at next x q (read-inside s i at next x q) (part s at next) refl (matchAnswer false c l) b
+      (passing-step (tableIn t) mail d (part s at next) c l b x e (whole mail)) refl
 
 -- `evaluate_record`
 module _ (client : Address) (t : List ℕ) (domain text : Span) (k : SelectedAt t domain text) (u : List ℕ) (f : u ≡ spanOf t text) (r : Reading) (g : OpeningOf client u r) where
@@ -155,37 +156,37 @@ module _ (client : Address) (t : List ℕ) (domain text : Span) (k : SelectedAt 
       }
 
 -- what is tried of the record, by how it opened
-module _ (t : List ℕ) (mail : Mail) (domain text : Span) (c : Counts) (o : Checked) (b : List ℕ) (u : List ℕ) (f : u ≡ spanOf t text) (r : Reading)
+module _ (t : List ℕ) (mail : Mail) (domain text : Span) (c : Counts) (l : Life) (o : Checked) (b : List ℕ) (u : List ℕ) (f : u ≡ spanOf t text) (r : Reading)
     (g : OpeningOf (mail .client) u r) where
   answered : readRecord (spanOf t text) ≡ answerOf (r .opening)
   answered = ap readRecord (sym f) ∙ sym (g .answer)
 
-  pub record-refused : (number at : ℕ) → r .opening ≡ Opening.Refused number at → o ≡ endedOf 6 c
-      → SaysCheck t (run (tableIn t) (readOutcome mail (whole mail) (spanOf t domain) (spanOf t text) (readRecord (spanOf t text)) c)) o b b
+  pub record-refused : (number at : ℕ) → r .opening ≡ Opening.Refused number at → o ≡ endedOf 6 c l
+      → SaysCheck t (run (tableIn t) l (readOutcome mail (whole mail) (spanOf t domain) (spanOf t text) (readRecord (spanOf t text)) c)) o b b
   unfolding readOutcome answerOf
-  record-refused number at q e = rw (answered, q) (says-ended t (tableIn t) 6 c o b e)
+  record-refused number at q e = rw (answered, q) (says-ended t (tableIn t) 6 c l o b e)
 
   pub record-tried : (j : ℕ) → r .opening ≡ Opening.Open j → (z : List ℕ)
-      → SaysCheck t (run (tableIn t) (tryTerms mail (whole mail) (spanOf t domain) (termsOf (spanOf t text) 6) (termsOf (spanOf t text) 6) c)) o b z
-      → SaysCheck t (run (tableIn t) (readOutcome mail (whole mail) (spanOf t domain) (spanOf t text) (readRecord (spanOf t text)) c)) o b z
+      → SaysCheck t (run (tableIn t) l (tryTerms mail (whole mail) (spanOf t domain) (termsOf (spanOf t text) 6) (termsOf (spanOf t text) 6) c)) o b z
+      → SaysCheck t (run (tableIn t) l (readOutcome mail (whole mail) (spanOf t domain) (spanOf t text) (readRecord (spanOf t text)) c)) o b z
   unfolding readOutcome answerOf
   record-tried j q z h = rw (answered, q) h
 
   -- a term that matches without a lookup, and all before it pass
   module _ (k : SelectedAt t domain text) (small : c .lookups ≤ 10) (few : c .voids ≤ 2) (sign : ℕ) (q : r .opening ≡ Opening.Matched sign) (m : Modifiers) (n : m ≡ r .modifiers)
-      (exp : Modifier) (x : exp ≡ inTable (m .exp) (text .from)) (e : o ≡ signedOf sign domain exp c) where
+      (exp : Modifier) (x : exp ≡ inTable (m .exp) (text .from)) (e : o ≡ signedOf sign domain exp c l) where
     matched-says : Leads (mail .client) (spanOf t text) 6 (Opening.Matched sign)
-        → SaysCheck t (run (tableIn t) (tryTerms mail (whole mail) (spanOf t domain) (termsOf (spanOf t text) 6) (termsOf (spanOf t text) 6) c)) o b b
-    matched-says (Leads.matched {j = i} {at = at} {next = next} {x = y} p l h) =
+        → SaysCheck t (run (tableIn t) l (tryTerms mail (whole mail) (spanOf t domain) (termsOf (spanOf t text) 6) (termsOf (spanOf t text) 6) c)) o b b
+    matched-says (Leads.matched {j = i} {at = at} {next = next} {x = y} p n′ h) =
         let s = spanOf t text in
         let d = spanOf t domain in
-        let w = matching-step (tableIn t) mail d (part s at next) c b y sign h in
-        walk-yes t mail d s 6 b c o b y domain exp (matchAnswer true c) (e ∙ ap (λ (v : ℕ). signedOf v domain exp c) (sym (w .1))) refl
-        (failable (mail .client) t domain text k u f r g (accepts-matched (mail .client) t domain text k u f r g sign q) m n exp x) s b i c
-        (walk-led t mail d s 6 b c small few i p) refl (readTerm s i) refl at next l (read-inside s i at next y l) (part s at next) refl
+        let w = matching-step (tableIn t) mail d (part s at next) c l b y sign h in
+        walk-yes t mail d s 6 b c l o b y domain exp (matchAnswer true c l) (e ∙ ap (λ (v : ℕ). signedOf v domain exp c l) (sym (w .1))) refl
+        (failable (mail .client) t domain text k u f r g (accepts-matched (mail .client) t domain text k u f r g sign q) m n exp x) s b i c l
+        (walk-led t mail d s 6 b c l small few i p) refl (readTerm s i) refl at next n′ (read-inside s i at next y n′) (part s at next) refl
         (w .0 (whole mail)) refl
 
-    pub record-matched : SaysCheck t (run (tableIn t) (readOutcome mail (whole mail) (spanOf t domain) (spanOf t text) (readRecord (spanOf t text)) c)) o b b
+    pub record-matched : SaysCheck t (run (tableIn t) l (readOutcome mail (whole mail) (spanOf t domain) (spanOf t text) (readRecord (spanOf t text)) c)) o b b
     unfolding readOutcome answerOf
     record-matched =
         rw (answered, q) (matched-says (subst (λ (z : List ℕ). Leads (mail .client) z 6 (Opening.Matched sign)) f (subst (Leads (mail .client) u 6) q (g .leads))))
@@ -195,7 +196,7 @@ module _ {client : Address} {t : List ℕ} {domain text : Span} {redirect exp : 
   pub underway-failable : Failable t domain exp (termsOf (spanOf t text) 6)
   underway-failable = record { explains = k .explains; failing = k .failing }
 
-pub walk-opened : (t : List ℕ) (mail : Mail) (b : List ℕ) (c : Counts) → c .lookups ≤ 10 → c .voids ≤ 2 → (domain text : Span) (redirect exp : Modifier) (j : ℕ)
-    → Underway (mail .client) t domain text redirect exp j → (s : List ℕ) → s ≡ spanOf t text → Walk t mail (spanOf t domain) s 6 b c b j c
-walk-opened t mail b c small few domain text redirect exp j k s f =
-    walk-led t mail (spanOf t domain) s 6 b c small few j (subst (λ (z : List ℕ). Passing (mail .client) z 6 j) (sym f) (k .passing))
+pub walk-opened : (t : List ℕ) (mail : Mail) (b : List ℕ) (c : Counts) (l : Life) → c .lookups ≤ 10 → c .voids ≤ 2 → (domain text : Span) (redirect exp : Modifier) (j : ℕ)
+    → Underway (mail .client) t domain text redirect exp j → (s : List ℕ) → s ≡ spanOf t text → Walk t mail (spanOf t domain) s 6 b c l b j c l
+walk-opened t mail b c l small few domain text redirect exp j k s f =
+    walk-led t mail (spanOf t domain) s 6 b c l small few j (subst (λ (z : List ℕ). Passing (mail .client) z 6 j) (sym f) (k .passing))

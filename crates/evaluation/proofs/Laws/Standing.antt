@@ -29,13 +29,16 @@ use Rattle.records.specs.declared.opening.Reading.{Reading}
 use Rattle.records.proofs.Laws.Records.{record-complete}
 use Rattle.records.proofs.Laws.Standing.{modifier-absent, modifier-part}
 use Rattle.rules.specs.declared.Span.{Span}
+use Rattle.rules.specs.declared.Life.{Life}
 use Rattle.rules.specs.declared.Selected.{Selected}
+use Rattle.rules.specs.declared.LookedUp.{LookedUp}
 use Rattle.rules.proofs.Selected as selected-type
-use Rattle.rules.specs.Tree.{settled, wanting, run}
+use Rattle.rules.specs.Tree.{Table, settled, wanting, SettlesTo}
 use Rattle.rules.specs.Tables.{tableIn}
 use Rattle.rules.specs.Evaluation.{ends, one, modifierOf, termsOf, recordLookup, noCounts}
 use Rattle.rules.specs.Exp.{ExpAt}
-use Rattle.rules.specs.Outcomes.{Settles, spanOf, SaysSelection, ExpStands}
+use Rattle.rules.specs.Outcomes.{spanOf, SaysSelection, ExpStands}
+use Rattle.rules.proofs.Laws.Runs.{settles-to}
 use Rattle.rules.proofs.Laws.Inversions.{lookup-ends, lookup-one, lookup-missing}
 use Rattle.rules.proofs.Laws.Produced.{accepted-reading}
 use Rattle.rules.proofs.Laws.Exp.{exp-text, exp-labels, exp-reads, exp-made}
@@ -73,8 +76,12 @@ module _ (m : Modifier) (start : ℕ) where
     to-fits h = let (a, b) = subst (λ (y : Modifier). FitsTable y start) e h in record { fits = omega (arith, a, b) }
 
 -- one text is selected
-one-text : {a b : List ℕ} → settled (one a) ≡ settled (one b) → a ≡ b
-one-text e = cc
+one-text : (t : Table) (d : List ℕ) {a b : List ℕ} → SettlesTo t (recordLookup d noCounts) (one a) → SettlesTo t (recordLookup d noCounts) (one b) → a ≡ b
+one-text t d {a = a} {b = b} p q =
+    let x = p Life.Unmet in
+    let y = q Life.Unmet in
+    let e : settled (one a) (x .0) ≡ settled (one b) (y .0) = sym (x .1) ∙ y .1 in
+    cc
 
 -- a record that stands in the table and is accepted
 module _ (client : Address) (t : List ℕ) (text : Span) (u : List ℕ) (f : u ≡ spanOf t text) (r : Reading) (g : OpeningOf client u r) (a : Accepts (r .opening)) where
@@ -116,7 +123,7 @@ module _ (client : Address) (t : List ℕ) (text : Span) (u : List ℕ) (f : u �
   pub exp-is : argumentIn t (inTable (r .modifiers .exp) (text .from)) ≡ modifierOf (bytes "exp") (termsOf (spanOf t text) after-version)
   exp-is = moved (r .modifiers .exp) exp-at ∙ argument-is exp-at
 
-  module _ (d : List ℕ) (labels : 1 < labelCount d) (selected : Settles (run (tableIn t) (recordLookup d noCounts)) (one (spanOf t text)))
+  module _ (d : List ℕ) (labels : 1 < labelCount d) (selected : SettlesTo (tableIn t) (recordLookup d noCounts) (one (spanOf t text)))
       (stands : (es : List Entry) → Encoded t es → ItemAt t kind-txt d (spanOf t text) (text .from)) where
     stands-by : (m : Modifier) → ModifierAt (spanOf t text) (bytes "exp") (termsOf (spanOf t text) after-version) m → ExpStands t d (inTable m (text .from))
     unfolding ExpStands inTable
@@ -138,7 +145,7 @@ module _ (client : Address) (t : List ℕ) (text : Span) (u : List ℕ) (f : u �
     -- no exp
     no-exp : r .modifiers .exp ≡ Modifier.Absent → (p : ℕ) (x : List ℕ) → ExpAt t d p x → ⊥
     no-exp m p x e =
-        let i : e .text ≡ spanOf t text = one-text (sym (exp-text e noCounts) ∙ selected) in
+        let i : e .text ≡ spanOf t text = one-text (tableIn t) d (exp-text e noCounts) selected in
         let n : Reads (spanOf t text) after-version (e .exp .before ++ (e .exp .term ∷ e .exp .after)) =
         subst (λ (s : List ℕ). Reads s after-version (e .exp .before ++ (e .exp .term ∷ e .exp .after))) i (record-complete (e .exp .reading) (e .short) .walk) in
         modifier-absent
@@ -156,29 +163,31 @@ module _ (t d : List ℕ) where
   unfolding FindsExp
   find-single k l h p x e = omega (arith, l, exp-labels e)
 
-  module _ (r : Selected) (s : SaysSelection d t r) where
-    other-selection : (x : Selected) → r ≡ x → OneOf (0 ∷ 2 ∷ []) (tagOf (declared selected-type.enum) x) → (p : ℕ) (y : List ℕ) → ExpAt t d p y → ⊥
+  module _ (l : Life) (r : LookedUp) (s : SaysSelection d t l r) where
+    other-selection : (x : Selected) → r .selected ≡ x → OneOf (0 ∷ 2 ∷ []) (tagOf (declared selected-type.enum) x) → (p : ℕ) (y : List ℕ) → ExpAt t d p y → ⊥
     other-selection (Selected.Ends v) q h p y e =
-        let i : settled (ends v) ≡ settled (one (e .text)) = sym (lookup-ends noCounts d t _ r (s noCounts) v q) ∙ exp-text e noCounts in
+        let g = exp-text e noCounts l in
+        let i : settled (ends v) (r .life) ≡ settled (one (e .text)) (g .0) = sym (lookup-ends noCounts d t _ r (s noCounts) v q) ∙ g .1 in
         let z : _≡_ {A = ℕ} 0 1 = cc in omega arith
     other-selection (Selected.One place text) q h p y e = miss (0 ∷ 2 ∷ []) 1 tt h
     other-selection Selected.Missing q h p y e =
-        let i : wanting kind-txt d noCounts ≡ settled (one (e .text)) = sym (lookup-missing noCounts d t _ r (s noCounts) q) ∙ exp-text e noCounts in
+        let g = exp-text e noCounts l in
+        let i : wanting kind-txt d noCounts (r .life) ≡ settled (one (e .text)) (g .0) = sym (lookup-missing noCounts d t _ r (s noCounts) q) ∙ g .1 in
         let z : _≡_ {A = ℕ} 0 1 = cc in omega arith
 
-    pub find-other : OneOf (0 ∷ 2 ∷ []) (tagOf (declared selected-type.enum) r) → FindsExp t d Modifier.Absent
+    pub find-other : OneOf (0 ∷ 2 ∷ []) (tagOf (declared selected-type.enum) (r .selected)) → FindsExp t d Modifier.Absent
     unfolding FindsExp
-    find-other h p x e = other-selection r refl h p x e
+    find-other h p x e = other-selection (r .selected) refl h p x e
 
-    module _ (k : ℕ) (l : k ≡ labelCount d) (h : 1 < k) (place text : Span) (q : r ≡ Selected.One place text) (client : Address) (u : List ℕ) (f : u ≡ spanOf t text)
+    module _ (k : ℕ) (is : k ≡ labelCount d) (h : 1 < k) (place text : Span) (q : r .selected ≡ Selected.One place text) (client : Address) (u : List ℕ) (f : u ≡ spanOf t text)
         (y : Reading) (g : OpeningOf client u y) where
-      selected : Settles (run (tableIn t) (recordLookup d noCounts)) (one (spanOf t text))
-      selected = lookup-one noCounts d t _ r (s noCounts) place text q .0
+      selected : SettlesTo (tableIn t) (recordLookup d noCounts) (one (spanOf t text))
+      selected = settles-to (tableIn t) (recordLookup d noCounts) (one (spanOf t text)) l (r .life) (lookup-one noCounts d t _ r (s noCounts) place text q .0)
 
       pub find-refused : (number at : ℕ) → y .opening ≡ Opening.Refused number at → FindsExp t d Modifier.Absent
       unfolding FindsExp answerOf
       find-refused number at o p x e =
-          let i : e .text ≡ spanOf t text = one-text (sym (exp-text e noCounts) ∙ selected) in
+          let i : e .text ≡ spanOf t text = one-text (tableIn t) d (exp-text e noCounts) selected in
           let j : RecordAnswer.Refused number at ≡ RecordAnswer.Accepted after-version =
           ap answerOf (sym o) ∙ g .answer ∙ ap readRecord (f ∙ sym i) ∙ exp-reads e in
           let z : _≡_ {A = ℕ} 0 1 = cc in
@@ -188,7 +197,7 @@ module _ (t d : List ℕ) where
         find-accepted : Accepts (y .opening) → (x : Modifier) → x ≡ inTable (m .exp) (text .from) → FindsExp t d x
         find-accepted a x e =
             subst (FindsExp t d) (sym (e ∙ ap (λ (w : Modifiers). inTable (w .exp) (text .from)) n))
-            (exp-found client t text u f y g a d (subst (λ (j : ℕ). 1 < j) l h) selected (lookup-one noCounts d t _ r (s noCounts) place text q .1 .stands) (y .modifiers .exp) refl)
+            (exp-found client t text u f y g a d (subst (λ (j : ℕ). 1 < j) is h) selected (lookup-one noCounts d t _ r (s noCounts) place text q .1 .stands) (y .modifiers .exp) refl)
 
         pub find-matched : (sign : ℕ) → y .opening ≡ Opening.Matched sign → (x : Modifier) → x ≡ inTable (m .exp) (text .from) → FindsExp t d x
         unfolding answerOf

@@ -10,7 +10,9 @@ use Rattle.answer_table.specs.Answers.{Encoded, most-bytes}
 use Rattle.answer_table.proofs.Laws.Entries.{entries-one}
 use Rattle.records.specs.Readings.{Optional}
 use Rattle.rules.specs.declared.Counts.{Counts}
+use Rattle.rules.specs.declared.Life.{Life}
 use Rattle.rules.specs.Tree.{Settled, run}
+use Rattle.rules.specs.Lifetimes.{seconds}
 use Rattle.rules.specs.Tables.{tableOf}
 use Rattle.rules.specs.Evaluation.{Failing, Result, evaluation}
 use Rattle.rules.specs.Exp.{ExpAt, ExpOf, without, with-exp}
@@ -24,10 +26,12 @@ use Rattle.evaluation.proofs.Laws.Deciding.{said-one}
 -- two outcomes are the same, but for where the exp argument of a fail stands
 data Alike (t u : List ℕ) : Outcome → Outcome → Type 0 where
   same-outcome : {o : Outcome} → Alike t u o o
-  moved-exp : {c : Counts} {d x : List ℕ} {p q : ℕ} → ExpAt t d p x → ExpAt u d q x → Alike t u (failed c d p (length x)) (failed c d q (length x))
+  moved-exp : {c : Counts} {life : ℕ} {d x : List ℕ} {p q : ℕ} → ExpAt t d p x → ExpAt u d q x
+      → Alike t u (failed c life d p (length x)) (failed c life d q (length x))
 
 module _ (t u : List ℕ) where
-  exps-alike : {c : Counts} {d : List ℕ} {exp : Optional (List ℕ)} {p q n m : ℕ} → ExpOf t d exp p n → ExpOf u d exp q m → Alike t u (failed c d p n) (failed c d q m)
+  exps-alike : {c : Counts} {life : ℕ} {d : List ℕ} {exp : Optional (List ℕ)} {p q n m : ℕ} → ExpOf t d exp p n → ExpOf u d exp q m
+      → Alike t u (failed c life d p n) (failed c life d q m)
   exps-alike without without = same-outcome
   exps-alike (with-exp e) (with-exp f) = moved-exp e f
 
@@ -35,9 +39,9 @@ module _ (t u : List ℕ) where
   comes-alike (decides h) (decides g) = same-outcome
   comes-alike (decides h) (fails g e) = let i = sym h ∙ g in let z : _≡_ {A = ℕ} 0 1 = cc in absurd (omega arith)
   comes-alike (fails h e) (decides g) = let i = sym h ∙ g in let z : _≡_ {A = ℕ} 0 1 = cc in absurd (omega arith)
-  comes-alike (fails {r = r} {f = f} {place = p} {size = n} h e) (fails {f = g} {place = q} {size = m} k d) =
+  comes-alike (fails {r = r} {f = f} {l = l} {place = p} {size = n} h e) (fails {f = g} {place = q} {size = m} k d) =
       let i : g ≡ f = cc in
-      subst (λ (y : Failing). Alike t u (failed (r .counts) (f .domain) p n) (failed (r .counts) (y .domain) q m)) (sym i)
+      subst (λ (y : Failing). Alike t u (failed (r .counts) (seconds l) (f .domain) p n) (failed (r .counts) (seconds l) (y .domain) q m)) (sym i)
       (exps-alike e (subst (λ (y : Failing). ExpOf u (y .domain) (y .exp) q m) i d))
   comes-alike lacks lacks = same-outcome
 
@@ -50,12 +54,12 @@ module _ (t u : List ℕ) where
   -- entries appended: the exp argument stands where it stood
   alike-grown : {o v : Outcome} {fs : List Entry} → Alike t u o v → (w : List ℕ) → u ≡ t ++ w → Encoded u fs → o ≡ v
   alike-grown same-outcome w e c = refl
-  alike-grown {fs = fs} (moved-exp {c = k} {d = d} {x = x} {p = p} {q = q} i j) w e c =
+  alike-grown {fs = fs} (moved-exp {c = k} {life = life} {d = d} {x = x} {p = p} {q = q} i j) w e c =
       let y : ExpAt u d p x = subst (λ (z : List ℕ). ExpAt z d p x) (sym e) (exp-grown i w (subst (λ (z : List ℕ). Encoded z fs) e c)) in
-      ap (λ (n : ℕ). failed k d n (length x)) (exp-one y j .0)
+      ap (λ (n : ℕ). failed k life d n (length x)) (exp-one y j .0)
 
 module _ (a : Lent) {t u : List ℕ} {es fs : List Entry} (l : length t ≤ most-bytes) (p : Encoded t es) (m : length u ≤ most-bytes) (q : Encoded u fs)
-    (e : run (tableOf fs) (evaluation (mailIn a) (a .domain)) ≡ run (tableOf es) (evaluation (mailIn a) (a .domain))) where
+    (e : run (tableOf fs) Life.Unmet (evaluation (mailIn a) (a .domain)) ≡ run (tableOf es) Life.Unmet (evaluation (mailIn a) (a .domain))) where
   -- over two accepted tables that settle the same
   answers-alike : {o v : Outcome} → Answers (withTable a t) o → Answers (withTable a u) v → Alike t u o v
   answers-alike (refuses {number = n} r) (refuses {number = k} s) =
@@ -67,8 +71,8 @@ module _ (a : Lent) {t u : List ℕ} {es fs : List Entry} (l : length t ≤ most
   answers-alike (evaluates f h d c) (bad-table g k) = absurd (table-accepted m q k)
   answers-alike (evaluates {o = o} f h d c) (evaluates {o = v} g k b j) =
       comes-alike t u c
-      (subst (λ (x : Settled Result). Comes u x v) (e ∙ ap (λ (ds : List Entry). run (tableOf ds) (evaluation (mailIn a) (a .domain))) (entries-one (p .entries) (d .entries)))
-      (subst (λ (ds : List Entry). Comes u (run (tableOf ds) (evaluation (mailIn a) (a .domain))) v) (entries-one (b .entries) (q .entries)) j))
+      (subst (λ (x : Settled Result). Comes u x v) (e ∙ ap (λ (ds : List Entry). run (tableOf ds) Life.Unmet (evaluation (mailIn a) (a .domain))) (entries-one (p .entries) (d .entries)))
+      (subst (λ (ds : List Entry). Comes u (run (tableOf ds) Life.Unmet (evaluation (mailIn a) (a .domain))) v) (entries-one (b .entries) (q .entries)) j))
 
   module _ (h g : Handed) (x : Evaluates (withTable a t) h) (y : Evaluates (withTable a u) g) where
     pub same-but-place : SameButPlace t u h g
@@ -81,5 +85,5 @@ module _ (a : Lent) {t u : List ℕ} {es fs : List Entry} (l : length t ≤ most
 
 pub unasked : Unasked
 unasked a t u es fs l p m q s h g x y =
-    let e = agrees (tableOf es) (tableOf fs) (evaluation (mailIn a) (a .domain)) s in
+    let e = agrees (tableOf es) (tableOf fs) Life.Unmet (evaluation (mailIn a) (a .domain)) s in
     (same-but-place a l p m q e h g x y, grown-same a l p m q e h g x y)

@@ -1,15 +1,14 @@
 -- `evaluation::decide` meets its contract. From the rules of Laws.Deciding.
-use Rattle.evaluation.proofs.Laws.Deciding.{decide-placed, decide-wants, decide-result}
+use Rattle.evaluation.proofs.Laws.Deciding.{decide-wants, decide-result}
 use borrow.Author.Needs.{needs}
 use Rattle.evaluation.proofs.decide.Statement.{statement}
 use Rattle.evaluation.proofs.decide.Tie as tie
-use Rattle.evaluation.proofs.decide.Reads as reads
-use Rattle.evaluation.proofs.decide.Lts as lts
-use Rattle.evaluation.proofs.check_given.Reads as check-given-reads
-use Rattle.evaluation.proofs.finish.Reads as finish-reads
 
 check-given-requires : tie.Need-check-given-requires
 check-given-requires c κs = search needs
+
+seconds-of-requires : tie.Need-seconds-of-requires
+seconds-of-requires c κs = search needs
 
 enum-known-ending : tie.Need-enum-known-ending
 enum-known-ending c = search needs
@@ -18,7 +17,7 @@ enum-known-ending-2 : tie.Need-enum-known-ending-2
 enum-known-ending-2 c = search needs
 
 finish-requires : tie.Need-finish-requires
-finish-requires c κs = search (decide-placed, needs)
+finish-requires c κs = search needs
 
 same-length : tie.Need-same-length
 same-length c = search needs
@@ -37,6 +36,7 @@ decide-spec =
     tie.close
     (tie.spec
     check-given-requires
+    seconds-of-requires
     enum-known-ending
     enum-known-ending-2
     finish-requires

@@ -1,12 +1,8 @@
 -- `evaluation::finish` meets its contract. From the rules of Laws.Deciding.
-use Rattle.evaluation.proofs.Laws.Deciding.{finish-nowhere, finish-order, finish-absent, finish-part}
+use Rattle.evaluation.proofs.Laws.Deciding.{finish-order, finish-nowhere, finish-absent, finish-part}
 use borrow.Author.Needs.{needs}
 use Rattle.evaluation.proofs.finish.Statement.{statement}
 use Rattle.evaluation.proofs.finish.Tie as tie
-use Rattle.evaluation.proofs.finish.Reads as reads
-use Rattle.evaluation.proofs.finish.Lts as lts
-use Rattle.client_match.proofs.want.Reads as want-reads
-use Rattle.text.proofs.bytes.part.Reads as part-reads
 
 enum-known-failing : tie.Need-enum-known-failing
 enum-known-failing c = search needs
@@ -29,8 +25,8 @@ enum-told-2 c = search needs
 enum-known-exp : tie.Need-enum-known-exp
 enum-known-exp c = search needs
 
-sub-t17 : tie.Need-sub-t17
-sub-t17 c = search finish-order
+sub-t18 : tie.Need-sub-t18
+sub-t18 c = search finish-order
 
 same-length : tie.Need-same-length
 same-length c = search needs
@@ -55,7 +51,7 @@ finish-spec =
     want-requires
     enum-told-2
     enum-known-exp
-    sub-t17
+    sub-t18
     same-length
     returns-2
     same-length-2

@@ -22,7 +22,9 @@ use Rattle.macros.specs.Reader.{pieces, isMacroString, usesP}
 use Rattle.macros.specs.Expansion.{given, lettersOf, textOf}
 use Rattle.macros.specs.Numbers.{fitted, Says}
 use Rattle.rules.specs.declared.Counts.{Counts}
+use Rattle.rules.specs.declared.Life.{Life}
 use Rattle.rules.specs.declared.PValue.{PValue}
+use Rattle.rules.specs.declared.PFound.{PFound}
 use Rattle.rules.specs.declared.Explained.{Explained}
 use Rattle.rules.specs.Tree.{bind, Settled, run}
 use Rattle.rules.specs.Tables.{tableIn}
@@ -34,15 +36,15 @@ use Rattle.target_name.proofs.Laws.Expansions.{text-taken, text-fits, text-over
 use Rattle.explanation.specs.Stages.{Shows, printed, withP}
 
 -- an explanation that shows a text, and one that is empty
-pub text-shows : (c : Counts) (x : Settled (List ℕ)) (s : List ℕ) (n : ℕ) (u v b a : List ℕ) → Gives x s b a → Shows s n u v
+pub text-shows : (c : Counts) (x : Settled (List ℕ)) (s : List ℕ) (l : Life) (n : ℕ) (u v b a : List ℕ) → Gives x s l b a → Shows s n u v
     → SaysText c x (Explained.Text n) u v b a
-text-shows c x s n u v b a g w = text-gives c x s n u v b a g (w .size) (w .buffer)
+text-shows c x s l n u v b a g w = text-gives c x s l n u v b a g (w .size) (w .buffer)
 
 shows-none : (s u : List ℕ) → s ≡ [] → Shows s 0 u u
 shows-none s u e = rw e (record { size = refl; buffer = sym (over-fits [] u (omega arith)) })
 
-pub text-empty : (c : Counts) (x : Settled (List ℕ)) (u b a : List ℕ) → Gives x [] b a → SaysText c x (Explained.Text 0) u u b a
-text-empty c x u b a g = text-shows c x [] 0 u u b a g (shows-none [] u refl)
+pub text-empty : (c : Counts) (x : Settled (List ℕ)) (l : Life) (u b a : List ℕ) → Gives x [] l b a → SaysText c x (Explained.Text 0) u u b a
+text-empty c x l u b a g = text-shows c x [] l 0 u u b a g (shows-none [] u refl)
 
 -- what is shown of a text
 shown-short : (s : List ℕ) → length s ≤ most-text → shown s ≡ printed s
@@ -84,54 +86,54 @@ module _ (client : Address) (sender helo receiver : List ℕ) (seconds : ℕ) (d
   shown-refused room k e u = let l = text-over text z v x says k e in let m : most-text < length text = omega arith in shows-none _ u (shown-over text m)
 
 -- `explain_with_p`
-module _ (client : Address) (sender helo receiver : List ℕ) (seconds : ℕ) (c : Counts) (t d s b a : List ℕ) (v : PValue)
-    (says : SaysP c d t (run (tableIn t) (pValue client d c)) v b a) where
-  with-given : (p : List ℕ) → Gives (run (tableIn t) (pValue client d c)) p b a → (n : ℕ) (u u′ : List ℕ)
+module _ (client : Address) (sender helo receiver : List ℕ) (seconds : ℕ) (c : Counts) (l : Life) (t d s b a : List ℕ) (v : PFound)
+    (says : SaysP c d t (run (tableIn t) l (pValue client d c)) v b a) where
+  with-given : (p : List ℕ) → Gives (run (tableIn t) l (pValue client d c)) p (v .life) b a → (n : ℕ) (u u′ : List ℕ)
       → Shows (shown (expansion (mailOf client sender helo receiver seconds) d Explanation s p)) n u u′
-      → SaysText c (run (tableIn t) (withP (mailOf client sender helo receiver seconds) d s c)) (Explained.Text n) u u′ b a
+      → SaysText c (run (tableIn t) l (withP (mailOf client sender helo receiver seconds) d s c)) (Explained.Text n) u u′ b a
   unfolding withP givesShown
   with-given p g n u u′ w =
-      text-shows c _ _ n u u′ b a (expansion-given givesShown shown (λ _. refl) (mailOf client sender helo receiver seconds) Explanation c t d s b a p g) w
+      text-shows c _ _ (v .life) n u u′ b a (expansion-given givesShown shown (λ _. refl) (mailOf client sender helo receiver seconds) Explanation c l (v .life) t d s b a p g) w
 
-  pub with-current : v ≡ PValue.Current → (n : ℕ) (u u′ : List ℕ)
+  pub with-current : v .value ≡ PValue.Current → (n : ℕ) (u u′ : List ℕ)
       → Shows (shown (expansion (mailOf client sender helo receiver seconds) d Explanation s d)) n u u′
-      → SaysText c (run (tableIn t) (withP (mailOf client sender helo receiver seconds) d s c)) (Explained.Text n) u u′ b a
+      → SaysText c (run (tableIn t) l (withP (mailOf client sender helo receiver seconds) d s c)) (Explained.Text n) u u′ b a
   with-current e n u u′ w = with-given d (p-current c d t _ v b a says e) n u u′ w
 
-  pub with-listed : (from to : ℕ) → v ≡ PValue.Listed from to → (p : List ℕ) → p ≡ part t from to → (n : ℕ) (u u′ : List ℕ)
+  pub with-listed : (from to : ℕ) → v .value ≡ PValue.Listed from to → (p : List ℕ) → p ≡ part t from to → (n : ℕ) (u u′ : List ℕ)
       → Shows (shown (expansion (mailOf client sender helo receiver seconds) d Explanation s p)) n u u′
-      → SaysText c (run (tableIn t) (withP (mailOf client sender helo receiver seconds) d s c)) (Explained.Text n) u u′ b a
+      → SaysText c (run (tableIn t) l (withP (mailOf client sender helo receiver seconds) d s c)) (Explained.Text n) u u′ b a
   with-listed from to e p h n u u′ w =
-      with-given p (subst (λ (y : List ℕ). Gives (run (tableIn t) (pValue client d c)) y b a) (sym h) (p-listed c d t _ v b a says from to e)) n u u′ w
+      with-given p (subst (λ (y : List ℕ). Gives (run (tableIn t) l (pValue client d c)) y (v .life) b a) (sym h) (p-listed c d t _ v b a says from to e)) n u u′ w
 
-  pub with-unknown : v ≡ PValue.Unknown → (n : ℕ) (u u′ : List ℕ)
+  pub with-unknown : v .value ≡ PValue.Unknown → (n : ℕ) (u u′ : List ℕ)
       → Shows (shown (expansion (mailOf client sender helo receiver seconds) d Explanation s (bytes "unknown"))) n u u′
-      → SaysText c (run (tableIn t) (withP (mailOf client sender helo receiver seconds) d s c)) (Explained.Text n) u u′ b a
+      → SaysText c (run (tableIn t) l (withP (mailOf client sender helo receiver seconds) d s c)) (Explained.Text n) u u′ b a
   with-unknown e n u u′ w = with-given (bytes "unknown") (p-unknown c d t _ v b a says e) n u u′ w
 
-  pub with-wanted : (kind size : ℕ) → v ≡ PValue.Wanting kind size → (u : List ℕ)
-      → SaysText c (run (tableIn t) (withP (mailOf client sender helo receiver seconds) d s c)) (Explained.Wanting kind size) u u b a
+  pub with-wanted : (kind size : ℕ) → v .value ≡ PValue.Wanting kind size → (u : List ℕ)
+      → SaysText c (run (tableIn t) l (withP (mailOf client sender helo receiver seconds) d s c)) (Explained.Wanting kind size) u u b a
   unfolding withP givesShown
   with-wanted kind size e u =
-      text-wanted c _ kind size u b a
-      (expansion-wanted givesShown shown (λ _. refl) (mailOf client sender helo receiver seconds) Explanation c t d s b a kind size
+      text-wanted c _ kind size (v .life) u b a
+      (expansion-wanted givesShown shown (λ _. refl) (mailOf client sender helo receiver seconds) Explanation c l (v .life) t d s b a kind size
       (p-wants c d t _ v b a says kind size e))
 
 -- `explain_text`
-module _ (client : Address) (sender helo receiver : List ℕ) (seconds : ℕ) (c : Counts) (t d s : List ℕ) (g : Bool) (e : g ≡ isMacroString Explanation s) where
-  pub text-outside : g ≡ false → (u b : List ℕ) → SaysText c (run (tableIn t) (explained (mailOf client sender helo receiver seconds) d c (s ∷ []))) (Explained.Text 0) u u b b
+module _ (client : Address) (sender helo receiver : List ℕ) (seconds : ℕ) (c : Counts) (l : Life) (t d s : List ℕ) (g : Bool) (e : g ≡ isMacroString Explanation s) where
+  pub text-outside : g ≡ false → (u b : List ℕ) → SaysText c (run (tableIn t) l (explained (mailOf client sender helo receiver seconds) d c (s ∷ []))) (Explained.Text 0) u u b b
   unfolding explained
-  text-outside h u b = text-empty c _ u b b (rw (← e, h) (gives-give (tableIn t) [] b))
+  text-outside h u b = text-empty c _ l u b b (rw (← e, h) (gives-give (tableIn t) l [] b))
 
   module _ (h : g ≡ true) (w : Bool) (i : w ≡ usesP Explanation s) where
-    pub text-uses-p : w ≡ true → (r : Explained) (u u′ b a : List ℕ) → SaysText c (run (tableIn t) (withP (mailOf client sender helo receiver seconds) d s c)) r u u′ b a
-        → SaysText c (run (tableIn t) (explained (mailOf client sender helo receiver seconds) d c (s ∷ []))) r u u′ b a
+    pub text-uses-p : w ≡ true → (r : Explained) (u u′ b a : List ℕ) → SaysText c (run (tableIn t) l (withP (mailOf client sender helo receiver seconds) d s c)) r u u′ b a
+        → SaysText c (run (tableIn t) l (explained (mailOf client sender helo receiver seconds) d c (s ∷ []))) r u u′ b a
     unfolding withP explained expanded
     text-uses-p k r u u′ b a y = rw (← e, h, ← i, k) y
 
     pub text-without-p : w ≡ false → (n : ℕ) (u u′ b : List ℕ) → Shows (shown (expansion (mailOf client sender helo receiver seconds) d Explanation s [])) n u u′
-        → SaysText c (run (tableIn t) (explained (mailOf client sender helo receiver seconds) d c (s ∷ []))) (Explained.Text n) u u′ b b
+        → SaysText c (run (tableIn t) l (explained (mailOf client sender helo receiver seconds) d c (s ∷ []))) (Explained.Text n) u u′ b b
     unfolding explained expanded givesExpansion givesShown bind
     text-without-p k n u u′ b y =
-        text-shows c (run (tableIn t) (explained (mailOf client sender helo receiver seconds) d c (s ∷ []))) _ n u u′ b b
-        (rw (← e, h, ← i, k) (gives-give (tableIn t) (shown (expansion (mailOf client sender helo receiver seconds) d Explanation s [])) b)) y
+        text-shows c (run (tableIn t) l (explained (mailOf client sender helo receiver seconds) d c (s ∷ []))) _ l n u u′ b b
+        (rw (← e, h, ← i, k) (gives-give (tableIn t) l (shown (expansion (mailOf client sender helo receiver seconds) d Explanation s [])) b)) y

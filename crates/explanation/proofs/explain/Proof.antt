@@ -14,8 +14,8 @@ slice-aggregate-make-target c = search needs
 make-target-requires : tie.Need-make-target-requires
 make-target-requires c κs = search needs
 
-enum-known-n : tie.Need-enum-known-n
-enum-known-n c = search needs
+enum-known-named : tie.Need-enum-known-named
+enum-known-named c = search needs
 
 array-share-prefix-target : tie.Need-array-share-prefix-target
 array-share-prefix-target c = search name-inside
@@ -29,8 +29,8 @@ explain-name-requires c κs = search needs
 enum-told : tie.Need-enum-told
 enum-told c = search needs
 
-enum-known-kind : tie.Need-enum-known-kind
-enum-known-kind c = search needs
+enum-known-named-2 : tie.Need-enum-known-named-2
+enum-known-named-2 c = search needs
 
 same-length : tie.Need-same-length
 same-length c = search needs
@@ -59,12 +59,12 @@ explain-spec =
     (tie.spec
     slice-aggregate-make-target
     make-target-requires
-    enum-known-n
+    enum-known-named
     array-share-prefix-target
     slice-aggregate-explain-name
     explain-name-requires
     enum-told
-    enum-known-kind
+    enum-known-named-2
     same-length
     same-length-2
     returns

@@ -18,8 +18,8 @@ enum-told c = search needs
 write-shown-requires : tie.Need-write-shown-requires
 write-shown-requires c κs = search needs
 
-enum-known-from : tie.Need-enum-known-from
-enum-known-from c = search needs
+enum-known-value : tie.Need-enum-known-value
+enum-known-value c = search needs
 
 part-requires : tie.Need-part-requires
 part-requires c κs = search needs
@@ -36,8 +36,8 @@ slice-aggregate-write-shown c = search needs
 write-shown-requires-3 : tie.Need-write-shown-requires-3
 write-shown-requires-3 c κs = search needs
 
-enum-known-kind : tie.Need-enum-known-kind
-enum-known-kind c = search needs
+enum-known-value-2 : tie.Need-enum-known-value-2
+enum-known-value-2 c = search needs
 
 same-length : tie.Need-same-length
 same-length c = search needs
@@ -79,13 +79,13 @@ explain-with-p-spec =
     find-p-requires
     enum-told
     write-shown-requires
-    enum-known-from
+    enum-known-value
     part-requires
     write-shown-requires-2
     enum-told-2
     slice-aggregate-write-shown
     write-shown-requires-3
-    enum-known-kind
+    enum-known-value-2
     same-length
     same-length-2
     returns

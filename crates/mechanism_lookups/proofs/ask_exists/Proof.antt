@@ -10,11 +10,11 @@ ask-requires c κs = search needs
 enum-known-stepped : tie.Need-enum-known-stepped
 enum-known-stepped c = search needs
 
-enum-told : tie.Need-enum-told
-enum-told c = search needs
+enum-known-met : tie.Need-enum-known-met
+enum-known-met c = search needs
 
-enum-told-2 : tie.Need-enum-told-2
-enum-told-2 c = search needs
+enum-known-met-2 : tie.Need-enum-known-met-2
+enum-known-met-2 c = search needs
 
 same-length : tie.Need-same-length
 same-length c = search needs
@@ -40,8 +40,8 @@ ask-exists-spec =
     (tie.spec
     ask-requires
     enum-known-stepped
-    enum-told
-    enum-told-2
+    enum-known-met
+    enum-known-met-2
     same-length
     returns
     same-length-2

@@ -7,8 +7,8 @@ use Rattle.mechanisms.proofs.counted_step.Tie as tie
 returns : tie.Need-returns
 returns c = search counted-eleventh
 
-add-t23 : tie.Need-add-t23
-add-t23 c = search needs
+add-t27 : tie.Need-add-t27
+add-t27 c = search needs
 
 slice-aggregate-make-target-or : tie.Need-slice-aggregate-make-target-or
 slice-aggregate-make-target-or c = search needs
@@ -19,11 +19,11 @@ make-target-or-requires c κs = search needs
 enum-told : tie.Need-enum-told
 enum-told c = search needs
 
-enum-known-kind : tie.Need-enum-known-kind
-enum-known-kind c = search needs
+enum-known-target : tie.Need-enum-known-target
+enum-known-target c = search needs
 
-enum-known-n : tie.Need-enum-known-n
-enum-known-n c = search needs
+enum-known-target-2 : tie.Need-enum-known-target-2
+enum-known-target-2 c = search needs
 
 slice-aggregate-part : tie.Need-slice-aggregate-part
 slice-aggregate-part c = search needs
@@ -57,12 +57,12 @@ counted-step-spec =
     tie.close
     (tie.spec
     returns
-    add-t23
+    add-t27
     slice-aggregate-make-target-or
     make-target-or-requires
     enum-told
-    enum-known-kind
-    enum-known-n
+    enum-known-target
+    enum-known-target-2
     slice-aggregate-part
     part-requires
     ask-requires

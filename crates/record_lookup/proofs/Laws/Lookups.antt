@@ -6,14 +6,16 @@ use mathlib.Core.List.{List, [], _∷_}
 use native.Mathlib.Omega.{arith}
 use lib.ListN.{length, drop}
 use Rattle.text.specs.Bytes.{part}
+use Rattle.answer_table.specs.declared.Layout.{Layout}
 use Rattle.answer_table.specs.declared.Found.{Found}
 use Rattle.answer_table.specs.Reader.{firstItem, itemsOf, nextItem, Starts, findAt}
 use Rattle.answer_table.proofs.Laws.Places.{found-name, item-part}
 use Rattle.answer_table.proofs.Laws.Standing.{found-item}
 use Rattle.client_match.proofs.Laws.Asked.{run-lacks, run-failed, run-items}
 use Rattle.rules.specs.declared.Counts.{Counts}
+use Rattle.rules.specs.declared.Life.{Life}
 use Rattle.rules.specs.declared.Selected.{Selected}
-use Rattle.rules.specs.Tree.{run}
+use Rattle.rules.specs.Tree.{sooner, run}
 use Rattle.rules.specs.Tables.{tableIn}
 use Rattle.rules.specs.Evaluation.{Selection, ends, one, versioned, selection, textReply, recordLookup}
 use Rattle.rules.specs.Outcomes.{Settles, SelectionIs, SelectedIs, SaysSelection}
@@ -53,55 +55,57 @@ module _ (start : ℕ) (w : List ℕ) where
       record { at = h .0; starts = h .1; inside = h .2; from-is = cc; to-is = cc; selected = rw (h .4) }
   selected-one (s ∷ u ∷ ss) r h from to e = let z : _≡_ {A = ℕ} 0 1 = cc in absurd (omega arith)
 
+-- where the domain's name stands, if an entry was found
+module _ (t d : List ℕ) (f : Found) (p : f ≡ findAt t 16 d) (status n start end : ℕ) (e : f ≡ Found.Entry status n start end) where
+  named : (length d ≤ start) × (part t (start - length d) start ≡ d)
+  named = found-name Layout.New t 16 d status n start end (sym p ∙ e)
+
+  pub name-before : length d ≤ start
+  name-before = named .0
+
 -- `select_record`, by what was found for the TXT question
-module _ (t d : List ℕ) (f : Found) (p : f ≡ findAt t 16 d) where
-  pub select-missing : f ≡ Found.Missing → SaysSelection d t Selected.Missing
+module _ (t d : List ℕ) (l : Life) (f : Found) (p : f ≡ findAt t 16 d) where
+  pub select-missing : f ≡ Found.Missing → SaysSelection d t l (record { selected = Selected.Missing; life = l })
   unfolding recordLookup
-  select-missing e c = lookup-lacks c d t _ (run-lacks t 16 d f p c textReply e)
+  select-missing e c = lookup-lacks c d t _ l (run-lacks t 16 d f p l c textReply e)
 
-  module _ (status start end : ℕ) (e : f ≡ Found.Entry status start end) where
-    -- where the domain's name stands
-    named : (length d ≤ start) × (part t (start - length d) start ≡ d)
-    named = found-name t 16 d status start end (sym p ∙ e)
-
-    pub name-before : length d ≤ start
-    name-before = named .0
-
-    pub select-failed : status ≡ 2 → SaysSelection d t (Selected.Ends 5)
+  module _ (status n start end : ℕ) (e : f ≡ Found.Entry status n start end) where
+    pub select-failed : (j : Life) → j ≡ sooner l n → status ≡ 2 → SaysSelection d t l (record { selected = Selected.Ends 5; life = j })
     unfolding SelectionIs recordLookup textReply
-    select-failed h c =
-        lookup-gives c d t _ (ends 5) (Selected.Ends 5) (rw (run-failed t 16 d f p c textReply status start end e h) (give-settles (tableIn t) _)) refl
+    select-failed j k h c =
+        lookup-gives c d t _ (ends 5) j (Selected.Ends 5) (rw (run-failed t 16 d f p l status n start end e j k c textReply h) (give-settles (tableIn t) j _)) refl
 
-    module _ (h : status ≡ 2 → ⊥) (r : Picked) (q : PickedIs start (part t start end) (versioned (itemsOf (part t start end))) r) where
-      picked : (c : Counts) (s : Selection) → selection (versioned (itemsOf (part t start end))) ≡ s → Settles (run (tableIn t) (recordLookup d c)) s
+    module _ (j : Life) (g : j ≡ sooner l n) (h : status ≡ 2 → ⊥) (r : Picked) (q : PickedIs start (part t start end) (versioned (itemsOf (part t start end))) r) where
+      picked : (c : Counts) (s : Selection) → selection (versioned (itemsOf (part t start end))) ≡ s → Settles (run (tableIn t) l (recordLookup d c)) s j
       unfolding recordLookup textReply
-      picked c s k = rw (← k, run-items t 16 d f p c textReply status start end e h) (give-settles (tableIn t) _)
+      picked c s k = rw (← k, run-items t 16 d f p l status n start end e j g c textReply h) (give-settles (tableIn t) j _)
 
-      pub select-none : r ≡ Picked.Nothing → SaysSelection d t (Selected.Ends 0)
+      pub select-none : r ≡ Picked.Nothing → SaysSelection d t l (record { selected = Selected.Ends 0; life = j })
       unfolding SelectionIs
-      select-none k c = lookup-gives c d t _ (ends 0) (Selected.Ends 0) (picked c (ends 0) (selected-none start _ _ r q k)) refl
+      select-none k c = lookup-gives c d t _ (ends 0) j (Selected.Ends 0) (picked c (ends 0) (selected-none start _ _ r q k)) refl
 
-      pub select-several : r ≡ Picked.Several → SaysSelection d t (Selected.Ends 6)
+      pub select-several : r ≡ Picked.Several → SaysSelection d t l (record { selected = Selected.Ends 6; life = j })
       unfolding SelectionIs
-      select-several k c = lookup-gives c d t _ (ends 6) (Selected.Ends 6) (picked c (ends 6) (selected-several start _ _ r q k)) refl
+      select-several k c = lookup-gives c d t _ (ends 6) j (Selected.Ends 6) (picked c (ends 6) (selected-several start _ _ r q k)) refl
 
       pub select-one : (from to : ℕ) → r ≡ Picked.One from to
-          → SaysSelection d t (Selected.One (record { from = start - length d; to = start }) (record { from = from; to = to }))
+          → SaysSelection d t l (record { selected = Selected.One (record { from = start - length d; to = start }) (record { from = from; to = to }); life = j })
       unfolding SelectionIs
       select-one from to k c = by (selected-one start (part t start end) _ r q from to k)
         where
           by : Only start (part t start end) (versioned (itemsOf (part t start end))) from to
-              → SelectedIs c d t (run (tableIn t) (recordLookup d c)) (Selected.One (record { from = start - length d; to = start }) (record { from = from; to = to }))
+              → SelectedIs c d t (run (tableIn t) l (recordLookup d c))
+              (record { selected = Selected.One (record { from = start - length d; to = start }) (record { from = from; to = to }); life = j })
           by o =
               let s = firstItem (drop (o .at) (part t start end)) in
               let i : s ≡ part t from to = item-part t start end (o .at) ∙ rw (o .from-is, o .to-is) in
-              lookup-gives c d t _ (one s) _ (picked c (one s) (o .selected)) (
+              lookup-gives c d t _ (one s) j _ (picked c (one s) (o .selected)) (
                 record { from = start - length d; to = start },
                 record { from = from; to = to },
                 refl,
                 record {
-                  named = named .1;
+                  named = named t d f p status n start end e .1;
                   bytes-are = sym i;
-                  stands = λ es x. rw (o .from-is) (found-item (x .entries) 16 d status start end (sym p ∙ e) (o .at) (o .starts) (o .inside));
+                  stands = λ es x. rw (o .from-is) (found-item (x .entries) 16 d status n start end (sym p ∙ e) (o .at) (o .starts) (o .inside));
                 },
               )

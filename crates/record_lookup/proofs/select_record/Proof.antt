@@ -3,10 +3,6 @@ use Rattle.record_lookup.proofs.Laws.Lookups.{name-before, select-missi
 use borrow.Author.Needs.{needs}
 use Rattle.record_lookup.proofs.select_record.Statement.{statement}
 use Rattle.record_lookup.proofs.select_record.Tie as tie
-use Rattle.record_lookup.proofs.select_record.Reads as reads
-use Rattle.record_lookup.proofs.select_record.Lts as lts
-use Rattle.answer_table.proofs.find.Reads as find-reads
-use Rattle.record_lookup.proofs.pick.Reads as pick-reads
 
 find-requires : tie.Need-find-requires
 find-requires c κs = search needs
@@ -19,6 +15,9 @@ enum-told c = search needs
 
 returns : tie.Need-returns
 returns c = search select-missing
+
+sooner-requires : tie.Need-sooner-requires
+sooner-requires c κs = search needs
 
 returns-2 : tie.Need-returns-2
 returns-2 c = search select-failed
@@ -35,8 +34,8 @@ enum-told-3 c = search needs
 enum-known-from : tie.Need-enum-known-from
 enum-known-from c = search needs
 
-sub-t13 : tie.Need-sub-t13
-sub-t13 c = search name-before
+sub-t20 : tie.Need-sub-t20
+sub-t20 c = search name-before
 
 returns-3 : tie.Need-returns-3
 returns-3 c = search select-none
@@ -55,12 +54,13 @@ select-record-spec =
     enum-known-status
     enum-told
     returns
+    sooner-requires
     returns-2
     pick-requires
     enum-told-2
     enum-told-3
     enum-known-from
-    sub-t13
+    sub-t20
     returns-3
     returns-4
     returns-5)

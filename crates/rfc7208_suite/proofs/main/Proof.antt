@@ -6,7 +6,7 @@ use Rattle.rfc7208_suite.proofs.main.Statement.{statement}
 use Rattle.rfc7208_suite.proofs.main.Tie as tie
 
 abbrev Inv-loop : tie.InvT-loop
-Inv-loop line₀ zone₀ size₀ budget₀ line zone size budget = (length line ≡ 1024) × (length zone ≡ 8192)
+Inv-loop line₀ zone₀ size₀ budget₀ line zone size budget = (length line ≡ 1024) × (length zone ≡ 12288)
 
 abbrev μ-loop : tie.MeasureT-loop
 μ-loop line₀ zone₀ size₀ budget₀ line zone size budget = budget

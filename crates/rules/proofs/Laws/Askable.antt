@@ -23,8 +23,8 @@ use Rattle.answer_table.proofs.Laws.Items.{items-each}
 use Rattle.answer_table.proofs.Laws.Entries.{entries-complete}
 use Rattle.macros.specs.Question.{questionName}
 use Rattle.records.specs.Readings.{Optional, absent, present}
-use Rattle.rules.specs.Tree.{Reply, failed, items, Table}
-use Rattle.rules.specs.Tables.{replyBy, replyOf, tableIn}
+use Rattle.rules.specs.Tree.{Reply, failed, items, Answer, Table, Has}
+use Rattle.rules.specs.Tables.{replyBy, answerOf, tableIn}
 use Rattle.rules.specs.Mechanisms.{most-names, namesOf, insertHost, byPreference}
 
 -- a name, if it is one, is a name as the table has it
@@ -61,7 +61,7 @@ ReplyFits kind failed = Unit {0}
 ReplyFits kind (items ds) = all (isItem kind) ds ≡ true
 
 abbrev pub Fitting : Table → Type 0
-Fitting t = (kind : ℕ) (d : List ℕ) (r : Reply) → t kind d ≡ present r → ReplyFits kind r
+Fitting t = (kind : ℕ) (d : List ℕ) (r : Reply) → Has t kind d r → ReplyFits kind r
 
 -- PTR items are names
 all-take : (p : List ℕ → Bool) (n : ℕ) (ds : List (List ℕ)) → all p ds ≡ true → all p (take n ds) ≡ true
@@ -102,22 +102,22 @@ unfolding replyBy ReplyFits
 reply-fits kind status ds h = cond-elim (ReplyFits kind) (eqb status 2) (λ _. tt) (λ _. h)
 
 encoded-items : {w : List ℕ} {e : Entry} → Encodes w e → all (isItem (e .kind)) (e .items) ≡ true
-encoded-items (entry l k kd st nm is hold) = items-each is
+encoded-items (entry l k life kd st nm is hold) = items-each is
 
 -- what a reply is, if there is one
-unfoldable OptionalFits : ℕ → Optional Reply → Type 0
+unfoldable OptionalFits : ℕ → Optional Answer → Type 0
 OptionalFits kind absent = Unit {0}
-OptionalFits kind (present r) = ReplyFits kind r
+OptionalFits kind (present x) = ReplyFits kind (x .reply)
 
-lookup-fits : {t : List ℕ} {es : List Entry} → Entries t es → (kind : ℕ) (d : List ℕ) → OptionalFits kind (replyOf (lookup kind d es))
-unfolding lookup replyOf OptionalFits isPair
+lookup-fits : {t : List ℕ} {es : List Entry} → Entries t es → (kind : ℕ) (d : List ℕ) → OptionalFits kind (answerOf (lookup kind d es))
+unfolding lookup answerOf OptionalFits isPair
 lookup-fits none kind d = tt
 lookup-fits (more {e = e} {es = es} w p) kind d =
-    cond-elim (λ (l : Lookup). OptionalFits kind (replyOf l)) (eqb (e .kind) kind && same (e .name) d)
+    cond-elim (λ (l : Lookup). OptionalFits kind (answerOf l)) (eqb (e .kind) kind && same (e .name) d)
     (λ h. let i : e .kind ≡ kind = eqb-true (e .kind) kind (and-left (eqb (e .kind) kind) (same (e .name) d) h) in
     subst (λ (k : ℕ). ReplyFits k (replyBy (e .status) (e .items))) i (reply-fits (e .kind) (e .status) (e .items) (encoded-items w)))
     (λ _. lookup-fits p kind d)
 
 pub entries-fit : {t : List ℕ} {es : List Entry} → Entries t es → Fitting (tableIn t)
 unfolding tableIn OptionalFits
-entries-fit p kind d r e = subst (OptionalFits kind) (rw (entries-complete p) at e) (lookup-fits p kind d)
+entries-fit p kind d r e = subst (OptionalFits kind) (rw (entries-complete p) at (e .1)) (lookup-fits p kind d)

@@ -34,8 +34,9 @@ use Rattle.records.specs.declared.RecordAnswer.{RecordAnswer}
 use Rattle.records.proofs.Laws.Versions.{has-version}
 use Rattle.records.proofs.Laws.Records.{record-complete, one-reading}
 use Rattle.rules.specs.declared.Counts.{Counts}
-use Rattle.rules.specs.Tree.{Reply, items, Table, settled, run}
-use Rattle.rules.specs.Tables.{replyBy, replyOf, tableOf, tableIn}
+use Rattle.rules.specs.declared.Life.{Life}
+use Rattle.rules.specs.Tree.{Reply, items, Answer, Table, settled, SettlesTo}
+use Rattle.rules.specs.Tables.{replyBy, answerOf, tableOf, tableIn}
 use Rattle.rules.specs.Evaluation.{termsOf, versioned, one, recordLookup, noCounts}
 use Rattle.rules.specs.Reached.{Single, first, later, Selects, only}
 use Rattle.rules.specs.Exp.{ExpIn, ExpAt, ExpOf, without, with-exp}
@@ -64,7 +65,7 @@ module _ {t d : List ℕ} {p : ℕ} {x : List ℕ} (e : ExpAt t d p x) where
   exp-labels = selects-labels (e .selected)
 
   -- its record is what record lookup comes to
-  pub exp-text : (c : Counts) → run (tableIn t) (recordLookup d c) ≡ settled (one (e .text))
+  pub exp-text : (c : Counts) → SettlesTo (tableIn t) (recordLookup d c) (one (e .text))
   exp-text c = rw (table-in (e .encoded .entries)) (selects-is (tableOf (e .entries)) d (e .text) c exp-labels .0 (e .selected))
 
 -- the texts with a version section, as a test picks them
@@ -83,10 +84,12 @@ reply-items status ds ss =
 -- of the items of the entry of a domain that selects a text, that one alone has a version section
 one-versioned : (es : List Entry) {d s : List ℕ} → Selects (tableOf es) d s → (it : Entry) → lookup kind-txt d es ≡ Lookup.present it
     → length (picked hasVersion (it .items)) ≤ 1
-unfolding tableOf replyOf
+unfolding tableOf answerOf
 one-versioned es {s = s} (only {ss = ss} h x v) it q =
-    let a : present (replyBy (it .status) (it .items)) ≡ present (items ss) = rw q at x in
-    let b : replyBy (it .status) (it .items) ≡ items ss = cc in
+    let r : Answer = record { reply = replyBy (it .status) (it .items); lifetime = it .lifetime } in
+    let o : Answer = record { reply = items ss; lifetime = x .0 } in
+    let a : present r ≡ present o = rw q at (x .1) in
+    let b : replyBy (it .status) (it .items) ≡ items ss = ap (λ (y : Answer). y .reply) (let g : r ≡ o = cc in g) in
     let i = reply-items (it .status) (it .items) ss b in
     let k : picked hasVersion (it .items) ≡ s ∷ [] = ap (picked hasVersion) i ∙ picked-versioned ss ∙ single-is ss s .1 v in
     omega (arith, ap length k)
@@ -130,7 +133,7 @@ exp-in-one {x = x} {x′ = x′} h a b =
 module _ {t d : List ℕ} {p p′ : ℕ} {x x′ : List ℕ} (e : ExpAt t d p x) (f : ExpAt t d p′ x′) where
   -- the text is the one that is selected, and of those with a version section it stands alone
   same-text : e .text ≡ f .text
-  same-text = let q : settled (one (e .text)) ≡ settled (one (f .text)) = sym (exp-text e noCounts) ∙ exp-text f noCounts in cc
+  same-text = let a = exp-text e noCounts Life.Unmet in let b = exp-text f noCounts Life.Unmet in let q : settled (one (e .text)) (a .0) ≡ settled (one (f .text)) (b .0) = sym (a .1) ∙ b .1 in cc
 
   same-place : e .text-place ≡ f .text-place
   same-place =
@@ -153,7 +156,7 @@ pub exp-beyond : {t d : List ℕ} {p : ℕ} {x : List ℕ} → ExpAt t d p x →
 exp-beyond e = omega (arith, item-stands (e .stands) .0, e .place)
 
 -- where the reader finds an exp in the selected record, its argument stands in the table, as far into the record as it is found
-pub exp-made : {t d s : List ℕ} {es : List Entry} → Encoded t es → 1 < labelCount d → run (tableIn t) (recordLookup d noCounts) ≡ settled (one s)
+pub exp-made : {t d s : List ℕ} {es : List Entry} → Encoded t es → 1 < labelCount d → SettlesTo (tableIn t) (recordLookup d noCounts) (one s)
     → (q : ℕ) → ItemAt t kind-txt d s q → (n : ℕ) → readRecord s ≡ RecordAnswer.Accepted n
     → (us vs : List Placed) (u : Placed) {x : List ℕ} → termsOf s after-version ≡ us ++ (u ∷ vs)
     → u .said .name ≡ bytes "exp" → u .said .argument ≡ present x → ExpAt t d (q + (u .place + length (bytes "exp="))) x
@@ -177,7 +180,7 @@ exp-made {d = d} {s = s} {es = es} c h r q i n a us vs u e m g =
 
 -- the name of an entry is a name as the table has it
 entry-name : {w : List ℕ} {e : Entry} → Encodes w e → isTableName (e .name) ≡ true
-entry-name (entry l k kd st nm is hold) = nm
+entry-name (entry l k life kd st nm is hold) = nm
 
 -- without A to Z, lowering changes nothing
 lower-same : (b : ℕ) → isNotUpper b ≡ true → lower b ≡ b
@@ -210,17 +213,17 @@ table-normal d h =
 
 -- what entries have for a question, they have with more entries after them, so that the same text is selected
 table-front : (es fs : List Entry) → Within (tableOf es) (tableOf (es ++ fs))
-unfolding tableOf lookup replyOf
+unfolding tableOf lookup answerOf
 table-front [] fs k n r q = let z : _≡_ {A = ℕ} 0 1 = cc in absurd (omega arith)
 table-front (e ∷ es) fs k n r q = by (isPair k n e) (table-front es fs k n r) q
   where
-    by : (b : Bool) → (replyOf (lookup k n es) ≡ present r → replyOf (lookup k n (es ++ fs)) ≡ present r)
-        → replyOf (cond b (Lookup.present e) (lookup k n es)) ≡ present r → replyOf (cond b (Lookup.present e) (lookup k n (es ++ fs))) ≡ present r
+    by : (b : Bool) → (answerOf (lookup k n es) ≡ present r → answerOf (lookup k n (es ++ fs)) ≡ present r)
+        → answerOf (cond b (Lookup.present e) (lookup k n es)) ≡ present r → answerOf (cond b (Lookup.present e) (lookup k n (es ++ fs))) ≡ present r
     by true ih q = q
     by false ih q = ih q
 
 selects-within : {t u : Table} {d s : List ℕ} → Within t u → Selects t d s → Selects u d s
-selects-within {d = d} w (only {ss = ss} h x v) = only h (w kind-txt d (items ss) x) v
+selects-within {d = d} w (only {ss = ss} h x v) = only h (x .0, w kind-txt d _ (x .1)) v
 
 module _ {t d : List ℕ} {p : ℕ} {x : List ℕ} (e : ExpAt t d p x) where
   -- its domain is a name as it is asked: nothing of it is lowered or dropped

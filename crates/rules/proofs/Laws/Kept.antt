@@ -28,7 +28,7 @@ use Rattle.records.specs.Readings.{Optional, absent, present, Said, Placed}
 use Rattle.records.specs.Reader.{readRecord}
 use Rattle.records.specs.declared.RecordAnswer.{RecordAnswer}
 use Rattle.rules.specs.declared.Counts.{Counts}
-use Rattle.rules.specs.Tree.{Reply, failed, items, Table, Check}
+use Rattle.rules.specs.Tree.{Reply, failed, items, Table, Has, Check}
 use Rattle.rules.proofs.Laws.Alike.{Alike, alike-give, alike-ask, alike-cond, alike-bind, alike-weaken}
 use Rattle.rules.proofs.Laws.Reversed.{reversed-ok}
 use Rattle.rules.proofs.Laws.Askable.{NamingOk, question-ok, Fitting, names-ok, host-ok, hosts-ok}
@@ -249,11 +249,11 @@ module _ (t : Table) (Sound : Type 0) (fits : Sound → Fitting t) (c : Counts) 
     void-fine = alike-cond (ltb (k .voids) most-voids) (λ e. alike-give (bounded-voided b (ltb-true (k .voids) most-voids e))) (λ _. alike-give (third b, λ z. omega (arith, z)))
 
     own-fine : {kind : ℕ} {n : List ℕ} → AskedKind kind → Askable n → (m : Match) → StopsWithout m → {rest : List (List ℕ) → Check Step}
-        → ((ds : List (List ℕ)) → t kind n ≡ present (items ds) → Fine (StepKept c) (rest ds)) → Fine (StepKept c) (ownQuestion m k kind n rest)
+        → ((ds : List (List ℕ)) → Has t kind n (items ds) → Fine (StepKept c) (rest ds)) → Fine (StepKept c) (ownQuestion m k kind n rest)
     unfolding ownReply
     own-fine {kind} {n} q h m w {rest} f = alike-ask (asked q h) reply
       where
-        reply : (r : Reply) → t kind n ≡ present r → Fine (StepKept c) (ownReply m k rest r)
+        reply : (r : Reply) → Has t kind n r → Fine (StepKept c) (ownReply m k rest r)
         reply failed e = step-fine m w
         reply (items []) e = void-fine
         reply (items (d ∷ ds)) e = f (d ∷ ds) e

@@ -25,7 +25,8 @@ use Rattle.records.specs.declared.RecordAnswer.{RecordAnswer}
 use Rattle.records.proofs.Laws.Records.{record-complete, record-sound}
 use Rattle.records.proofs.Laws.Versions.{has-version, version-of}
 use Rattle.rules.specs.declared.Counts.{Counts}
-use Rattle.rules.specs.Tree.{Reply, failed, items, Table, settled, wanting, answered, run}
+use Rattle.rules.specs.declared.Life.{Life}
+use Rattle.rules.specs.Tree.{Reply, failed, items, Answer, Table, settled, wanting, answered, sooner, run, SettlesTo}
 use Rattle.rules.proofs.Laws.Runs.{bind-is}
 use Rattle.rules.proofs.Laws.Alike.{Holds}
 use Rattle.rules.specs.Mechanisms.{Mail, expansion}
@@ -74,38 +75,42 @@ single-is ss s = (kept-single ss s, single-kept)
 
 -- what record lookup comes to, by the texts of a domain
 module _ (t : Table) (d : List ℕ) (c : Counts) where
-  texts-are : (ss : List (List ℕ)) → Texts t d ss → run t (recordLookup d c) ≡ settled (selection (versioned ss))
+  texts-are : (ss : List (List ℕ)) → Texts t d ss → SettlesTo t (recordLookup d c) (selection (versioned ss))
   unfolding recordLookup textReply answered run
-  texts-are ss e = rw e
+  texts-are ss e l = (sooner l (e .0), rw (e .1))
 
-  selects-one : (s : List ℕ) → Selects t d s → run t (recordLookup d c) ≡ settled (one s)
+  selects-one : (s : List ℕ) → Selects t d s → SettlesTo t (recordLookup d c) (one s)
   unfolding selection
-  selects-one s (only h x v) = texts-are _ x ∙ rw (single-kept v)
+  selects-one s (only h x v) l = let p = texts-are _ x l in (p .0, p .1 ∙ rw (single-kept v))
 
-  one-selects : (s : List ℕ) → 1 < labelCount d → run t (recordLookup d c) ≡ settled (one s) → Selects t d s
+  one-selects : (s : List ℕ) → 1 < labelCount d → (l j : Life) → run t l (recordLookup d c) ≡ settled (one s) j → Selects t d s
   unfolding recordLookup textReply selection answered run
-  one-selects s h e = by (t 16 d) refl e
+  one-selects s h l j e = by (t 16 d) refl e
     where
-      single : (ss : List (List ℕ)) → settled (selection ss) ≡ settled (one s) → ss ≡ s ∷ []
+      single : (ss : List (List ℕ)) {i : Life} → settled (selection ss) i ≡ settled (one s) j → ss ≡ s ∷ []
       single [] q = let z : _≡_ {A = ℕ} 0 1 = cc in absurd (omega arith)
       single (u ∷ []) q = let z : u ≡ s = cc in rw z
       single (u ∷ v ∷ r) q = let z : _≡_ {A = ℕ} 0 1 = cc in absurd (omega arith)
 
-      by : (x : Optional Reply) → t 16 d ≡ x → answered x (wanting 16 d c) (λ y. run t (textReply y)) ≡ settled (one s) → Selects t d s
+      of : (r : Reply) (n : ℕ) → t 16 d ≡ present (record { reply = r; lifetime = n }) → run t (sooner l n) (textReply r) ≡ settled (one s) j → Selects t d s
+      of failed n g q = let z : _≡_ {A = ℕ} 0 1 = cc in absurd (omega arith)
+      of (items ss) n g q = only h (n, g) (kept-single ss s (single (versioned ss) q))
+
+      by : (x : Optional Answer) → t 16 d ≡ x → answered x (wanting 16 d c l) (λ y. run t (sooner l (y .lifetime)) (textReply (y .reply))) ≡ settled (one s) j → Selects t d s
       by absent g q = let z : _≡_ {A = ℕ} 0 1 = cc in absurd (omega arith)
-      by (present failed) g q = let z : _≡_ {A = ℕ} 0 1 = cc in absurd (omega arith)
-      by (present (items ss)) g q = only h g (kept-single ss s (single (versioned ss) q))
+      by (present y) g q = of (y .reply) (y .lifetime) g q
 
 -- `Selects` is what record lookup does: a domain of more than one label selects a text exactly if record lookup comes to it
-pub selects-is : (t : Table) (d s : List ℕ) (c : Counts) → 1 < labelCount d → Selects t d s ↔ (run t (recordLookup d c) ≡ settled (one s))
-selects-is t d s c h = (selects-one t d c s, one-selects t d c s h)
+pub selects-is : (t : Table) (d s : List ℕ) (c : Counts) → 1 < labelCount d → Selects t d s ↔ SettlesTo t (recordLookup d c) (one s)
+selects-is t d s c h = (selects-one t d c s, λ p. one-selects t d c s h Life.Unmet (p Life.Unmet .0) (p Life.Unmet .1))
 
 -- a check by the record that it selects
-select-is : (t : Table) (mail : Mail) (sub : Sub) (d s : List ℕ) (c : Counts) → Selects t d s
-    → run t (checkName mail sub (name d) c) ≡ run t (readOutcome mail sub d s (readRecord s) c)
+select-is : (t : Table) (l : Life) (mail : Mail) (sub : Sub) (d s : List ℕ) (c : Counts) → Selects t d s
+    → (j : Life) × (run t l (checkName mail sub (name d) c) ≡ run t j (readOutcome mail sub d s (readRecord s) c))
 unfolding checkName afterLookup
-select-is t mail sub d s c (only h x v) =
-    rw (lt-leb _ _ h) (bind-is t (recordLookup d c) (afterLookup mail sub d c) (one s) (selects-one t d c s (only h x v)))
+select-is t l mail sub d s c (only h x v) =
+    let p = selects-one t d c s (only h x v) l in
+    (p .0, rw (lt-leb _ _ h) (bind-is t l (recordLookup d c) (afterLookup mail sub d c) (one s) (p .0) (p .1)))
 
 -- the terms that are tried are those of the reading that the productions make
 terms-length : {p : ℕ} {w : List ℕ} {ts : List Placed} → Terms p w ts → length ts ≤ length w
@@ -121,10 +126,10 @@ reads-terms f h (reads-stop p) = rw p
 reads-terms zero h (reads-step p r) = absurd (omega arith)
 reads-terms (suc f) h (reads-step {t = t} p r) = rw p (ap (λ (us : List Placed). t ∷ us) (reads-terms f (omega arith) r))
 
-read-is : (t : Table) (mail : Mail) (sub : Sub) (d s : List ℕ) (c : Counts) {ts : List Placed} → length s ≤ most-bytes → Record s ts
-    → run t (readOutcome mail sub d s (readRecord s) c) ≡ run t (tryTerms mail sub d ts ts c)
+read-is : (t : Table) (j : Life) (mail : Mail) (sub : Sub) (d s : List ℕ) (c : Counts) {ts : List Placed} → length s ≤ most-bytes → Record s ts
+    → run t j (readOutcome mail sub d s (readRecord s) c) ≡ run t j (tryTerms mail sub d ts ts c)
 unfolding readOutcome termsOf
-read-is t mail sub d s c {ts} h r =
+read-is t j mail sub d s c {ts} h r =
     let a = record-complete r h in
     rw (a .accepted, reads-terms (length s) (record-length r) (a .walk))
 
@@ -153,17 +158,22 @@ accepted-reading s n e = ⊎-elim
         let i : n ≡ 6 = cc in
         rw (i, reads-terms (length s) (record-length (d .1)) (a .walk)) (d .1)
 
--- A check that selects a text that the productions make tries the terms of its one reading, with the check itself for include and redirect.
-pub produced-runs : (t : Table) (mail : Mail) (d s : List ℕ) (ts : List Placed) (c : Counts)
+-- A check that selects a text that the productions make tries the terms of its one reading, with the check itself for include and redirect, from the
+-- lifetime that record lookup leaves.
+pub produced-runs : (t : Table) (l : Life) (mail : Mail) (d s : List ℕ) (ts : List Placed) (c : Counts)
     → c .lookups ≤ 10 → Selects t d s → length s ≤ most-bytes → Record s ts
-    → run t (whole mail (name d) c) ≡ run t (tryTerms mail (whole mail) d ts ts c)
-produced-runs t mail d s ts c l p h r = whole-unfolds t mail (name d) c l ∙ select-is t mail (whole mail) d s c p ∙ read-is t mail (whole mail) d s c h r
+    → (j : Life) × (run t l (whole mail (name d) c) ≡ run t j (tryTerms mail (whole mail) d ts ts c))
+produced-runs t l mail d s ts c k p h r =
+    let i = select-is t l mail (whole mail) d s c p in
+    (i .0, whole-unfolds t l mail (name d) c k ∙ i .1 ∙ read-is t (i .0) mail (whole mail) d s c h r)
 
 -- A check that selects a text outside the grammar is permerror with the counts it had.
 pub outside-permerror : (t : Table) (mail : Mail) (d s : List ℕ) (c : Counts) → c .lookups ≤ 10 → Selects t d s → Outside s
-    → run t (whole mail (name d) c) ≡ settled (record { value = 6; counts = c; failing = absent })
+    → SettlesTo t (whole mail (name d) c) (record { value = 6; counts = c; failing = absent })
 unfolding readOutcome run
-outside-permerror t mail d s c l p o = whole-unfolds t mail (name d) c l ∙ select-is t mail (whole mail) d s c p ∙ rw (outside-refused s o .1 .1)
+outside-permerror t mail d s c k p o l =
+    let i = select-is t l mail (whole mail) d s c p in
+    (i .0, whole-unfolds t l mail (name d) c k ∙ i .1 ∙ rw (outside-refused s o .1 .1))
 
 -- The expansion of a macro string is the text of the pieces that the productions make, and p is asked for exactly if one of them is a p macro.
 pub produced-expands : (mail : Mail) (d : List ℕ) (form : Form) (text : List ℕ) (ps : List Piece) → Produces form text ps
@@ -173,6 +183,6 @@ unfolding expansion usesP
 produced-expands mail d form text ps r = let e = complete form text ps r .1 in ((λ p. rw e), rw e)
 
 -- "over 500 bytes: empty text"
-pub text-short : (t : Table) (mail : Mail) (domain : List ℕ) (v : Verdict) → run t (verdict mail domain) ≡ settled v → length (v .text) ≤ most-text
+pub text-short : (t : Table) (l j : Life) (mail : Mail) (domain : List ℕ) (v : Verdict) → run t l (verdict mail domain) ≡ settled v j → length (v .text) ≤ most-text
 unfolding Holds
-text-short t mail domain v e = subst (Holds (AskedFacts t) VerdictFacts) e (verdict-facts t mail domain) .short
+text-short t l j mail domain v e = subst (Holds (AskedFacts t) VerdictFacts) e (verdict-facts t mail domain l) .short

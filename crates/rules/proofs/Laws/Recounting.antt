@@ -10,26 +10,30 @@ use Rattle.macros.specs.declared.Form.{Form}
 use Rattle.macros.specs.Reader.{isMacroString, usesP}
 use Rattle.records.specs.Readings.{Optional, absent, present}
 use Rattle.rules.specs.declared.Counts.{Counts}
-use Rattle.rules.specs.Tree.{Reply, failed, items, Table, Check, give, ask, Settled, settled, wanting, bind, answered, run}
+use Rattle.rules.specs.declared.Life.{Life}
+use Rattle.rules.specs.Tree.{Reply, failed, items, Answer, Table, Check, give, ask, Settled, settled, wanting, bind, answered, sooner, run}
 use Rattle.rules.specs.Mechanisms.{Mail, withValid, validated, namesOf, givesChosen, pReply, pValue, givesExpansion, expanded, givesName, target}
 use Rattle.rules.specs.Evaluation.{givesShown, explained, explainReply, explainName, explanation}
 
 -- what is settled, with the counts c reported for a question that is lacking
 unfoldable pub recounted : {A : Type 0} → Counts → Settled A → Settled A
-recounted c (settled a) = settled a
-recounted c (wanting kind n e) = wanting kind n c
+recounted c (settled a l) = settled a l
+recounted c (wanting kind n e l) = wanting kind n c l
 
 -- two checks that are the same but for their counts: c throughout, and e throughout
 data Same (c e : Counts) {A : Type 0} : Check A → Check A → Type 0 where
   gives : {a : A} → Same c e (give a) (give a)
   asks : {kind : ℕ} {n : List ℕ} {g h : Reply → Check A} → ((r : Reply) → Same c e (g r) (h r)) → Same c e (ask kind n c g) (ask kind n e h)
 
-same-run : {c e : Counts} {A : Type 0} (t : Table) {m m′ : Check A} → Same c e m m′ → run t m ≡ recounted c (run t m′)
+same-run : {c e : Counts} {A : Type 0} (t : Table) (l : Life) {m m′ : Check A} → Same c e m m′ → run t l m ≡ recounted c (run t l m′)
 unfolding run recounted answered
-same-run t gives = refl
-same-run {c} {e} {A} t (asks {kind = kind} {n = n} {g = g} {h = h} s) = by (λ r. same-run t (s r)) (t kind n)
+same-run t l gives = refl
+same-run {c} {e} {A} t l (asks {kind = kind} {n = n} {g = g} {h = h} s) = by (λ x. same-run t (sooner l (x .lifetime)) (s (x .reply))) (t kind n)
   where
-    by : ((r : Reply) → run t (g r) ≡ recounted c (run t (h r))) → (x : Optional Reply) → answered x (wanting kind n c) (λ r. run t (g r)) ≡ recounted c (answered x (wanting kind n e) (λ r. run t (h r)))
+    after : (Reply → Check A) → Answer → Settled A
+    after f x = run t (sooner l (x .lifetime)) (f (x .reply))
+
+    by : ((x : Answer) → after g x ≡ recounted c (after h x)) → (y : Optional Answer) → answered y (wanting kind n c l) (after g) ≡ recounted c (answered y (wanting kind n e l) (after h))
     by f absent = refl
     by f (present r) = f r
 
@@ -84,6 +88,6 @@ module _ (c e : Counts) where
     same-explanation absent = gives
     same-explanation (present exp) = same-bind (same-target mail d exp) same-name
 
-pub recounts : (t : Table) (mail : Mail) (d : List ℕ) (exp : Optional (List ℕ)) (c e : Counts)
-    → run t (explanation mail d exp c) ≡ recounted c (run t (explanation mail d exp e))
-recounts t mail d exp c e = same-run t (same-explanation c e mail d exp)
+pub recounts : (t : Table) (l : Life) (mail : Mail) (d : List ℕ) (exp : Optional (List ℕ)) (c e : Counts)
+    → run t l (explanation mail d exp c) ≡ recounted c (run t l (explanation mail d exp e))
+recounts t l mail d exp c e = same-run t l (same-explanation c e mail d exp)

@@ -11,6 +11,7 @@ use Rattle.domain.specs.Names.{isTableName}
 use Rattle.domain.specs.Normal.{normal}
 use Rattle.records.specs.Readings.{Optional, absent, present}
 use Rattle.rules.specs.declared.Counts.{Counts}
+use Rattle.rules.specs.declared.Life.{Life}
 use Rattle.rules.specs.Tree.{Table, Check, run}
 use Rattle.rules.proofs.Laws.Alike.{Holds, holds-weaken, alike-give, alike-bind, alike-weaken}
 use Rattle.rules.proofs.Laws.Askable.{Fitting, normal-ok}
@@ -71,16 +72,16 @@ evaluation-fine t mail domain = check-fine t (Fitting t) (λ f. f) noCounts 11 m
 
 module _ (t : Table) where
   -- what is settled of a check, by what it keeps
-  facts-of : {A : Type 0} {P Q : A → Type 0} {m : Check A} → ((a : A) → P a → Q a) → Fine t (Fitting t) (λ f. f) noCounts P m → Holds (AskedFacts t) Q (run t m)
-  facts-of {P = P} {Q = Q} {m = m} f h = holds-weaken Q (asked-facts t) (run t m) (alike-weaken f h .holds)
+  facts-of : {A : Type 0} {P Q : A → Type 0} {m : Check A} → ((a : A) → P a → Q a) → Fine t (Fitting t) (λ f. f) noCounts P m → (l : Life) → Holds (AskedFacts t) Q (run t l m)
+  facts-of {P = P} {Q = Q} {m = m} f h l = holds-weaken Q (asked-facts t) (run t l m) (alike-weaken f h .holds l)
 
-  pub evaluation-facts : (mail : Mail) (domain : List ℕ) → Holds (AskedFacts t) (ResultFacts t) (run t (evaluation mail domain))
+  pub evaluation-facts : (mail : Mail) (domain : List ℕ) (l : Life) → Holds (AskedFacts t) (ResultFacts t) (run t l (evaluation mail domain))
   evaluation-facts mail domain = facts-of (result-facts t) (evaluation-fine t mail domain)
 
-  pub explanation-facts : (mail : Mail) (d : List ℕ) (exp : Optional (List ℕ)) → Holds (AskedFacts t) (λ x. length x ≤ most-text) (run t (explanation mail d exp noCounts))
-  explanation-facts mail d exp = facts-of (λ x l. l) (explanation-fine t (Fitting t) (λ f. f) noCounts mail d exp noCounts (bounded-self noCounts))
+  pub explanation-facts : (mail : Mail) (d : List ℕ) (exp : Optional (List ℕ)) (l : Life) → Holds (AskedFacts t) (λ x. length x ≤ most-text) (run t l (explanation mail d exp noCounts))
+  explanation-facts mail d exp = facts-of (λ x h. h) (explanation-fine t (Fitting t) (λ f. f) noCounts mail d exp noCounts (bounded-self noCounts))
 
-  pub verdict-facts : (mail : Mail) (domain : List ℕ) → Holds (AskedFacts t) VerdictFacts (run t (verdict mail domain))
+  pub verdict-facts : (mail : Mail) (domain : List ℕ) (l : Life) → Holds (AskedFacts t) VerdictFacts (run t l (verdict mail domain))
   unfolding verdict
   verdict-facts mail domain =
       facts-of (λ v h. h)

@@ -12,6 +12,8 @@ use Rattle.address.specs.declared.Address.{Address}
 use Rattle.address.specs.declared.Address.the-variants.{IPv4, IPv6}
 use Rattle.address.specs.Octets.{octetsOf, octets}
 use Rattle.answer_entry.specs.declared.AppendAnswer.{AppendAnswer}
+use Rattle.old_layout.specs.declared.Added.{Added}
+use Rattle.old_layout.specs.Numbers.{outcomeOf as addedOutcome}
 use Rattle.answer_entry.specs.Numbers.{outcomeOf}
 use Rattle.macros.specs.declared.Expanded.{Expanded}
 use Rattle.records.specs.declared.Term.{Term}
@@ -22,7 +24,7 @@ use Rattle.publishing.specs.declared.HouseAnswer.{HouseAnswer}
 use Rattle.evaluation.specs.declared.Answer.{Answer}
 use Rattle.evaluation.specs.declared.explaining.Explanation.{Explanation}
 use Rattle.talavorn.specs.declared.numbers.Shape.{Shape}
-use Rattle.talavorn.specs.Numbers.{encoded, encodedExplanation, appendedNumbers, expandedNumbers, writtenNumbers, lineNumbers, houseNumbers, shape, networkShape, shapeOf, Inside, networkOf, termRow}
+use Rattle.talavorn.specs.Numbers.{encoded, encodedExplanation, appendedNumbers, expandedNumbers, writtenNumbers, lineNumbers, houseNumbers, addedNumbers, shape, networkShape, shapeOf, Inside, networkOf, termRow}
 
 -- `put_answer`: the row of the case that the answer is
 pub answer-row : (x y : Answer) → x ≡ y → (r : List ℕ) → r ≡ encoded y → r ≡ encoded x
@@ -46,12 +48,15 @@ module _ (x : Expanded) (n : ℕ) where
   unfolding expandedNumbers
   expanded-refused e = rw e
 
--- `put_written`, `put_line` and `put_house`, as `put_answer`
+-- `put_written`, `put_line`, `put_added` and `put_house`, as `put_answer`
 pub written-row : (x y : Written) → x ≡ y → (r : List ℕ) → r ≡ writtenNumbers y → r ≡ writtenNumbers x
 written-row x y e r h = rw e h
 
 pub line-row : (x y : LineAnswer) → x ≡ y → (r : List ℕ) → r ≡ lineNumbers y → r ≡ lineNumbers x
 line-row x y e r h = rw e h
+
+pub added-row : (x y : Added) → x ≡ y → (r : List ℕ) → r ≡ addedNumbers (addedOutcome y) → r ≡ addedNumbers (addedOutcome x)
+added-row x y e r h = rw e h
 
 pub house-row : (x y : HouseAnswer) → x ≡ y → (r : List ℕ) → r ≡ houseNumbers y → r ≡ houseNumbers x
 house-row x y e r h = rw e h

@@ -51,7 +51,7 @@ use Rattle.talavorn.proofs.Laws.Inside.{term-inside, argument-stands}
 -- `talavorn_evaluate`
 module _ (client x : FromOctets) (p : x ≡ client) (domain sender helo receiver : List ℕ) (seconds : ℕ) (table name : List ℕ) where
   pub evaluate-no-client : x ≡ NoAddress
-      → EvaluateAnswers client domain sender helo receiver seconds table (90 ∷ 0 ∷ 0 ∷ 0 ∷ 0 ∷ 0 ∷ 0 ∷ []) name name
+      → EvaluateAnswers client domain sender helo receiver seconds table (90 ∷ 0 ∷ 0 ∷ 0 ∷ 0 ∷ 0 ∷ 0 ∷ 0 ∷ []) name name
   unfolding encoded first.answerOf first.nameAfter
   evaluate-no-client e =
       record { outcome = first.refused 90; answers = EvaluateOutcome.no-client (sym p ∙ e); says = record { answer = refl; name-buffer = refl } }

@@ -15,6 +15,7 @@ use Rattle.macros.specs.declared.Expanded.{Expanded}
 use Rattle.macros.specs.declared.Expanded.the-variants.{Written, Refused}
 use Rattle.macros.specs.Numbers.{refused, expanded as expandedTo, fitted, answerOf, bufferOf, Says}
 use Rattle.rules.specs.declared.Counts.{Counts}
+use Rattle.rules.specs.declared.Life.{Life}
 use Rattle.rules.specs.Tree.{Check, give, bind, run}
 use Rattle.rules.specs.Tables.{tableIn}
 use Rattle.rules.specs.Outcomes.{Gives, Wants}
@@ -60,18 +61,18 @@ module _ (xs z v : List ℕ) (x : Expanded) (says : Says (fitted xs (length z)) 
 
 -- a check that goes on with the expansion, as f says, once p is known
 module _ {A : Type 0} (go : List ℕ → Check A) (f : List ℕ → A) (gives : (s : List ℕ) → go s ≡ give (f s))
-    (mail : Mail) (form : Form) (c : Counts) (t d s b a : List ℕ) where
+    (mail : Mail) (form : Form) (c : Counts) (l j : Life) (t d s b a : List ℕ) where
   abbrev asked : Check (List ℕ)
   asked = pValue (mail .client) d c
 
-  pub expansion-given : (p : List ℕ) → Gives (run (tableIn t) asked) p b a
-      → Gives (run (tableIn t) (bind (bind asked (givesExpansion mail d form s)) go)) (f (expansion mail d form s p)) b a
+  pub expansion-given : (p : List ℕ) → Gives (run (tableIn t) l asked) p j b a
+      → Gives (run (tableIn t) l (bind (bind asked (givesExpansion mail d form s)) go)) (f (expansion mail d form s p)) j b a
   unfolding givesExpansion
   expansion-given p g =
-      gives-bind (tableIn t) (bind asked (givesExpansion mail d form s)) go (expansion mail d form s p) (f (expansion mail d form s p)) b a
-      (gives-bind (tableIn t) asked (givesExpansion mail d form s) p (expansion mail d form s p) b a g refl) (gives (expansion mail d form s p))
+      gives-bind (tableIn t) l (bind asked (givesExpansion mail d form s)) go (expansion mail d form s p) (f (expansion mail d form s p)) j b a
+      (gives-bind (tableIn t) l asked (givesExpansion mail d form s) p (expansion mail d form s p) j b a g refl) (gives (expansion mail d form s p))
 
-  pub expansion-wanted : (kind size : ℕ) → Wants (run (tableIn t) asked) kind size c b a
-      → Wants (run (tableIn t) (bind (bind asked (givesExpansion mail d form s)) go)) kind size c b a
+  pub expansion-wanted : (kind size : ℕ) → Wants (run (tableIn t) l asked) kind size c j b a
+      → Wants (run (tableIn t) l (bind (bind asked (givesExpansion mail d form s)) go)) kind size c j b a
   expansion-wanted kind size w =
-      wants-bind (tableIn t) (bind asked (givesExpansion mail d form s)) go kind size c b a (wants-bind (tableIn t) asked (givesExpansion mail d form s) kind size c b a w)
+      wants-bind (tableIn t) l (bind asked (givesExpansion mail d form s)) go kind size c j b a (wants-bind (tableIn t) l asked (givesExpansion mail d form s) kind size c j b a w)

@@ -29,8 +29,11 @@ use Rattle.macros.specs.Question.{questionName}
 use Rattle.macros.proofs.Laws.Expanding.{question-long}
 use Rattle.records.specs.Readings.{absent, present}
 use Rattle.rules.specs.declared.Counts.{Counts}
+use Rattle.rules.specs.declared.Life.{Life}
 use Rattle.rules.specs.declared.PValue.{PValue}
+use Rattle.rules.specs.declared.PFound.{PFound}
 use Rattle.rules.specs.declared.Target.{Target}
+use Rattle.rules.specs.declared.Targeted.{Targeted}
 use Rattle.rules.specs.Tree.{bind, run}
 use Rattle.rules.specs.Tables.{tableIn}
 use Rattle.rules.specs.Mechanisms.{Mail, pValue, expansion, givesExpansion, expanded, givesName, target, targetOr}
@@ -100,65 +103,65 @@ module _ (client : Address) (sender helo receiver : List ℕ) (seconds : ℕ) (d
       rw (question-long xs m) refl
 
 -- `write_target_with_p`
-module _ (client : Address) (sender helo receiver : List ℕ) (seconds : ℕ) (c : Counts) (t d spec b a : List ℕ) (v : PValue)
-    (says : SaysP c d t (run (tableIn t) (pValue client d c)) v b a) where
-  with-given : (p : List ℕ) → Gives (run (tableIn t) (pValue client d c)) p b a → (r : Target) (to : List ℕ)
+module _ (client : Address) (sender helo receiver : List ℕ) (seconds : ℕ) (c : Counts) (l : Life) (t d spec b a : List ℕ) (v : PFound)
+    (says : SaysP c d t (run (tableIn t) l (pValue client d c)) v b a) where
+  with-given : (p : List ℕ) → Gives (run (tableIn t) l (pValue client d c)) p (v .life) b a → (r : Target) (to : List ℕ)
       → NamingIs (questionName (expansion (mailOf client sender helo receiver seconds) d DomainSpec spec p)) r to
-      → SaysTarget c (run (tableIn t) (targetWithP (mailOf client sender helo receiver seconds) d spec c)) r to b a
+      → SaysTarget c (run (tableIn t) l (targetWithP (mailOf client sender helo receiver seconds) d spec c)) (record { target = r; life = v .life }) to b a
   unfolding targetWithP givesName
   with-given p g r to w =
-      target-gives c _ _ r to b a
-      (expansion-given givesName questionName (λ _. refl) (mailOf client sender helo receiver seconds) DomainSpec c t d spec b a p g) w
+      target-gives c _ _ (v .life) r to b a
+      (expansion-given givesName questionName (λ _. refl) (mailOf client sender helo receiver seconds) DomainSpec c l (v .life) t d spec b a p g) w
 
-  pub with-current : v ≡ PValue.Current → (r : Target) (to : List ℕ)
+  pub with-current : v .value ≡ PValue.Current → (r : Target) (to : List ℕ)
       → NamingIs (questionName (expansion (mailOf client sender helo receiver seconds) d DomainSpec spec d)) r to
-      → SaysTarget c (run (tableIn t) (targetWithP (mailOf client sender helo receiver seconds) d spec c)) r to b a
+      → SaysTarget c (run (tableIn t) l (targetWithP (mailOf client sender helo receiver seconds) d spec c)) (record { target = r; life = v .life }) to b a
   with-current e r to w = with-given d (p-current c d t _ v b a says e) r to w
 
-  pub with-listed : (from end : ℕ) → v ≡ PValue.Listed from end → (p : List ℕ) → p ≡ part t from end → (r : Target) (to : List ℕ)
+  pub with-listed : (from end : ℕ) → v .value ≡ PValue.Listed from end → (p : List ℕ) → p ≡ part t from end → (r : Target) (to : List ℕ)
       → NamingIs (questionName (expansion (mailOf client sender helo receiver seconds) d DomainSpec spec p)) r to
-      → SaysTarget c (run (tableIn t) (targetWithP (mailOf client sender helo receiver seconds) d spec c)) r to b a
+      → SaysTarget c (run (tableIn t) l (targetWithP (mailOf client sender helo receiver seconds) d spec c)) (record { target = r; life = v .life }) to b a
   with-listed from end e p h r to w =
-      with-given p (subst (λ (s : List ℕ). Gives (run (tableIn t) (pValue client d c)) s b a) (sym h) (p-listed c d t _ v b a says from end e)) r to w
+      with-given p (subst (λ (s : List ℕ). Gives (run (tableIn t) l (pValue client d c)) s (v .life) b a) (sym h) (p-listed c d t _ v b a says from end e)) r to w
 
-  pub with-unknown : v ≡ PValue.Unknown → (r : Target) (to : List ℕ)
+  pub with-unknown : v .value ≡ PValue.Unknown → (r : Target) (to : List ℕ)
       → NamingIs (questionName (expansion (mailOf client sender helo receiver seconds) d DomainSpec spec (bytes "unknown"))) r to
-      → SaysTarget c (run (tableIn t) (targetWithP (mailOf client sender helo receiver seconds) d spec c)) r to b a
+      → SaysTarget c (run (tableIn t) l (targetWithP (mailOf client sender helo receiver seconds) d spec c)) (record { target = r; life = v .life }) to b a
   with-unknown e r to w = with-given (bytes "unknown") (p-unknown c d t _ v b a says e) r to w
 
-  pub with-wanted : (kind size : ℕ) → v ≡ PValue.Wanting kind size → (to : List ℕ)
-      → SaysTarget c (run (tableIn t) (targetWithP (mailOf client sender helo receiver seconds) d spec c)) (Target.Wanting kind size) to b a
+  pub with-wanted : (kind size : ℕ) → v .value ≡ PValue.Wanting kind size → (to : List ℕ)
+      → SaysTarget c (run (tableIn t) l (targetWithP (mailOf client sender helo receiver seconds) d spec c)) (record { target = Target.Wanting kind size; life = v .life }) to b a
   unfolding targetWithP givesName
   with-wanted kind size e to =
-      target-wanted c _ kind size to b a
-      (expansion-wanted givesName questionName (λ _. refl) (mailOf client sender helo receiver seconds) DomainSpec c t d spec b a kind size
+      target-wanted c _ kind size (v .life) to b a
+      (expansion-wanted givesName questionName (λ _. refl) (mailOf client sender helo receiver seconds) DomainSpec c l (v .life) t d spec b a kind size
       (p-wants c d t _ v b a says kind size e))
 
 -- `make_target`
-module _ (client : Address) (sender helo receiver : List ℕ) (seconds : ℕ) (c : Counts) (t d spec : List ℕ) (u : Bool) (e : u ≡ usesP DomainSpec spec) where
-  pub target-uses-p : u ≡ true → (r : Target) (to b a : List ℕ) → SaysTarget c (run (tableIn t) (targetWithP (mailOf client sender helo receiver seconds) d spec c)) r to b a
-      → SaysTarget c (run (tableIn t) (target (mailOf client sender helo receiver seconds) d spec c)) r to b a
+module _ (client : Address) (sender helo receiver : List ℕ) (seconds : ℕ) (c : Counts) (l : Life) (t d spec : List ℕ) (u : Bool) (e : u ≡ usesP DomainSpec spec) where
+  pub target-uses-p : u ≡ true → (r : Targeted) (to b a : List ℕ) → SaysTarget c (run (tableIn t) l (targetWithP (mailOf client sender helo receiver seconds) d spec c)) r to b a
+      → SaysTarget c (run (tableIn t) l (target (mailOf client sender helo receiver seconds) d spec c)) r to b a
   unfolding targetWithP target expanded
   target-uses-p h r to b a w = rw (← e, h) w
 
   pub target-without-p : u ≡ false → (r : Target) (to b : List ℕ)
       → NamingIs (questionName (expansion (mailOf client sender helo receiver seconds) d DomainSpec spec [])) r to
-      → SaysTarget c (run (tableIn t) (target (mailOf client sender helo receiver seconds) d spec c)) r to b b
+      → SaysTarget c (run (tableIn t) l (target (mailOf client sender helo receiver seconds) d spec c)) (record { target = r; life = l }) to b b
   unfolding target expanded givesExpansion givesName bind
   target-without-p h r to b w =
-      target-gives c (run (tableIn t) (target (mailOf client sender helo receiver seconds) d spec c)) _ r to b b
-      (rw (← e, h) (gives-give (tableIn t) (questionName (expansion (mailOf client sender helo receiver seconds) d DomainSpec spec [])) b)) w
+      target-gives c (run (tableIn t) l (target (mailOf client sender helo receiver seconds) d spec c)) _ l r to b b
+      (rw (← e, h) (gives-give (tableIn t) l (questionName (expansion (mailOf client sender helo receiver seconds) d DomainSpec spec [])) b)) w
 
 -- `make_target_or`
-module _ (mail : Mail) (c : Counts) (t d spec : List ℕ) (is : Bool) where
-  pub target-given : is ≡ true → (r : Target) (to b a : List ℕ) → SaysTarget c (run (tableIn t) (target mail d spec c)) r to b a
-      → SaysTarget c (run (tableIn t) (targetOr mail d (cond is (present spec) absent) c)) r to b a
+module _ (mail : Mail) (c : Counts) (l : Life) (t d spec : List ℕ) (is : Bool) where
+  pub target-given : is ≡ true → (r : Targeted) (to b a : List ℕ) → SaysTarget c (run (tableIn t) l (target mail d spec c)) r to b a
+      → SaysTarget c (run (tableIn t) l (targetOr mail d (cond is (present spec) absent) c)) r to b a
   unfolding targetOr
   target-given h r to b a w = rw h w
 
   pub target-not-given : is ≡ false → length d ≤ 253 → (to to′ : List ℕ) (n : ℕ) → 253 ≤ length to → Wrote d to 0 to′ n → (b : List ℕ)
-      → SaysTarget c (run (tableIn t) (targetOr mail d (cond is (present spec) absent) c)) (Target.Name (length d)) to′ b b
+      → SaysTarget c (run (tableIn t) l (targetOr mail d (cond is (present spec) absent) c)) (record { target = Target.Name (length d); life = l }) to′ b b
   unfolding targetOr NamingIs
   target-not-given h short to to′ n room w b =
       rw h
-      (target-gives c _ (name d) _ to′ b b (gives-give (tableIn t) (name d) b) (refl, name-front d to to′ short room (wrote-over d to to′ n w), short))
+      (target-gives c _ (name d) l _ to′ b b (gives-give (tableIn t) l (name d) b) (refl, name-front d to to′ short room (wrote-over d to to′ n w), short))

@@ -19,6 +19,7 @@ use Rattle.macros.specs.Expansion.{Letters, pieceText, textOf}
 use Rattle.macros.specs.Question.{questionName}
 use Rattle.macros.proofs.Laws.Strings.{Row, none, literals, row-complete}
 use Rattle.rules.specs.declared.Counts.{Counts}
+use Rattle.rules.specs.declared.Life.{Life}
 use Rattle.rules.specs.declared.Target.{Target}
 use Rattle.rules.specs.Tree.{run}
 use Rattle.rules.specs.Tables.{tableIn}
@@ -60,11 +61,11 @@ module _ (form : Form) (s : List ℕ) (h : all isMacroLiteral s ≡ true) where
   plain-asks = rw plain-pieces (literal-asks s)
 
 -- `make_target` without macros
-pub target-plain : (client : Address) (sender helo receiver : List ℕ) (seconds : ℕ) (c : Counts) (t d spec : List ℕ) (u : Bool) → u ≡ all (isIn MacroLiteral) spec → u ≡ true
+pub target-plain : (client : Address) (sender helo receiver : List ℕ) (seconds : ℕ) (c : Counts) (l : Life) (t d spec : List ℕ) (u : Bool) → u ≡ all (isIn MacroLiteral) spec → u ≡ true
     → (r : Target) (to b : List ℕ) → NamingIs (questionName spec) r to
-    → SaysTarget c (run (tableIn t) (target (mailOf client sender helo receiver seconds) d spec c)) r to b b
+    → SaysTarget c (run (tableIn t) l (target (mailOf client sender helo receiver seconds) d spec c)) (record { target = r; life = l }) to b b
 unfolding expansion
-target-plain client sender helo receiver seconds c t d spec u e h r to b w =
+target-plain client sender helo receiver seconds c l t d spec u e h r to b w =
     let a : all isMacroLiteral spec ≡ true = sym (class-tests MacroLiteral spec) ∙ sym e ∙ h in
-    target-without-p client sender helo receiver seconds c t d spec false (sym (plain-asks DomainSpec spec a)) refl r to b
+    target-without-p client sender helo receiver seconds c l t d spec false (sym (plain-asks DomainSpec spec a)) refl r to b
     (rw (plain-text DomainSpec spec a _) w)

@@ -5,6 +5,7 @@ use Rattle.target_name.proofs.ask_names.Statement.{statement}
 use Rattle.target_name.proofs.ask_names.Tie as tie
 use Rattle.target_name.proofs.ask_names.Reads as reads
 use Rattle.target_name.proofs.ask_names.Lts as lts
+use Rattle.client_match.proofs.sooner.Reads as sooner-reads
 use Rattle.client_match.proofs.want.Reads as want-reads
 use Rattle.answer_table.proofs.find.Reads as find-reads
 use Rattle.target_name.proofs.choose_name.Reads as choose-name-reads
@@ -26,6 +27,9 @@ same-length c = search needs
 
 returns : tie.Need-returns
 returns c = search names-missing
+
+sooner-requires : tie.Need-sooner-requires
+sooner-requires c κs = search needs
 
 returns-2 : tie.Need-returns-2
 returns-2 c = search names-failed
@@ -49,6 +53,7 @@ ask-names-spec =
     want-requires
     same-length
     returns
+    sooner-requires
     returns-2
     choose-name-requires
     same-length-2

@@ -1,4 +1,4 @@
--- `target_name::choose_name` meets its contract. The loop's invariant: the names from `at` on, with the choice among those before it, come to what all names come to. From the laws of Asking.
+-- `target_name::choose_name` meets its contract. The loop's invariant: the names from `at` on, with the choice among those before it and the lifetime after them, come to what all names come to. From the laws of Asking.
 use borrow.Author.Needs.{needs}
 use Rattle.target_name.proofs.Laws.Asking.{Chosen, chosen-start, chosen-end, chosen-full, chosen-yes, chosen-no, chosen-wants, place-fits, item-fits, end-fits}
 use Rattle.target_name.proofs.choose_name.Statement.{statement}
@@ -12,10 +12,11 @@ use Rattle.target_name.proofs.value_of.Reads as value-of-reads
 use Rattle.text.proofs.bytes.part.Reads as part-reads
 
 abbrev Inv-loop : tie.InvT-loop
-Inv-loop client table domain start end counts out₀ items choice₀ at₀ left₀ out choice at left = Chosen client counts table domain items out₀ out choice at left
+Inv-loop client table domain start end counts out₀ items choice₀ met₀ at₀ left₀ out choice met at left =
+    Chosen client counts met₀ table domain items out₀ out choice met at left
 
 abbrev μ-loop : tie.MeasureT-loop
-μ-loop client table domain start end counts out₀ items choice₀ at₀ left₀ out choice at left = left
+μ-loop client table domain start end counts out₀ items choice₀ met₀ at₀ left₀ out choice met at left = left
 
 part-requires : tie.Need-part-requires Inv-loop μ-loop
 part-requires c κs = search needs
@@ -50,8 +51,8 @@ part-requires-2 c κs = search needs
 validate-requires : tie.Need-validate-requires Inv-loop μ-loop
 validate-requires c κs = search needs
 
-enum-told : tie.Need-enum-told Inv-loop μ-loop
-enum-told c = search needs
+enum-known-after : tie.Need-enum-known-after Inv-loop μ-loop
+enum-known-after c = search needs
 
 choose-requires : tie.Need-choose-requires Inv-loop μ-loop
 choose-requires c κs = search needs
@@ -65,8 +66,8 @@ loop-less c = search needs
 loop-again : tie.Need-loop-again Inv-loop μ-loop
 loop-again c = search chosen-yes
 
-enum-told-2 : tie.Need-enum-told-2 Inv-loop μ-loop
-enum-told-2 c = search needs
+enum-known-after-2 : tie.Need-enum-known-after-2 Inv-loop μ-loop
+enum-known-after-2 c = search needs
 
 sub-left-2 : tie.Need-sub-left-2 Inv-loop μ-loop
 sub-left-2 c = search needs
@@ -112,12 +113,12 @@ choose-name-spec =
     add-to
     part-requires-2
     validate-requires
-    enum-told
+    enum-known-after
     choose-requires
     sub-left
     loop-less
     loop-again
-    enum-told-2
+    enum-known-after-2
     sub-left-2
     loop-less-2
     loop-again-2

@@ -7,6 +7,7 @@ use Rattle.target_name.proofs.validate.Reads as reads
 use Rattle.target_name.proofs.validate.Lts as lts
 use Rattle.client_match.proofs.address_kind.Reads as address-kind-reads
 use Rattle.client_match.proofs.includes_client.Reads as includes-client-reads
+use Rattle.client_match.proofs.sooner.Reads as sooner-reads
 use Rattle.client_match.proofs.want.Reads as want-reads
 use Rattle.answer_table.proofs.find.Reads as find-reads
 use Rattle.text.proofs.bytes.part.Reads as part-reads
@@ -32,6 +33,9 @@ same-length c = search needs
 returns : tie.Need-returns
 returns c = search valid-missing
 
+sooner-requires : tie.Need-sooner-requires
+sooner-requires c κs = search needs
+
 part-requires : tie.Need-part-requires
 part-requires c κs = search needs
 
@@ -55,6 +59,7 @@ validate-spec =
     want-requires
     same-length
     returns
+    sooner-requires
     part-requires
     includes-client-requires
     returns-2

@@ -10,6 +10,9 @@ put-number-requires c κs = search needs
 put-requires : tie.Need-put-requires
 put-requires c κs = search needs
 
+put-lifetime-requires : tie.Need-put-lifetime-requires
+put-lifetime-requires c κs = search needs
+
 cast-put : tie.Need-cast-put
 cast-put c = search needs
 
@@ -31,6 +34,7 @@ put-head-spec =
     (tie.spec
     put-number-requires
     put-requires
+    put-lifetime-requires
     cast-put
     put-requires-2
     put-all-requires

@@ -4,9 +4,6 @@ use borrow.Author.Needs.{needs}
 use Rattle.answer_table.proofs.entries.is_pair.Statement.{statement}
 use Rattle.answer_table.proofs.entries.is_pair.Tie as tie
 
-name-of-requires : tie.Need-name-of-requires
-name-of-requires c κs = search needs
-
 equal-requires : tie.Need-equal-requires
 equal-requires c κs = search needs
 
@@ -17,4 +14,4 @@ returns-2 : tie.Need-returns-2
 returns-2 c = search pair-other
 
 pub is-pair-spec : {M : Type 1} → statement M
-is-pair-spec = tie.close (tie.spec name-of-requires equal-requires returns returns-2)
+is-pair-spec = tie.close (tie.spec equal-requires returns returns-2)

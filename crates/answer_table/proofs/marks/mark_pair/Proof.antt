@@ -30,7 +30,9 @@ same-length-2 : tie.Need-same-length-2
 same-length-2 c = search needs
 
 returns-2 : tie.Need-returns-2
-returns-2 c = ⊎-elim (λ w. search (pair-new, second-clear)) (λ w. search (pair-new, first-clear)) (c .before .before .before .before .before .before .before .before .if1 .came)
+returns-2 c =
+    ⊎-elim (λ w. search (pair-new, second-clear)) (λ w. search (pair-new, first-clear))
+    (c .before .before .before .before .before .before .before .before .if1 .came)
 
 pub mark-pair-spec : {M : Type 1} → statement M
 mark-pair-spec =

@@ -3,10 +3,6 @@ use Rattle.check_input.proofs.Laws.Lines.{named-written}
 use borrow.Author.Needs.{needs}
 use Rattle.check_input.proofs.lines.put_named.Statement.{statement}
 use Rattle.check_input.proofs.lines.put_named.Tie as tie
-use Rattle.check_input.proofs.lines.put_named.Reads as reads
-use Rattle.check_input.proofs.lines.put_named.Lts as lts
-use Rattle.check_input.proofs.lines.put_line.Reads as put-line-reads
-use Rattle.check_input.proofs.lines.put_placed.Reads as put-placed-reads
 
 put-placed-requires : tie.Need-put-placed-requires
 put-placed-requires c κs = search needs

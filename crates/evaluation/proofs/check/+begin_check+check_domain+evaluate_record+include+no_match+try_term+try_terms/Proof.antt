@@ -164,8 +164,8 @@ begin-check-ended-requires t c κs = search needs
 begin-check-returns : (t : ℕ) → begin-check-lts.Need-returns (begin-check-claims t) (begin-check-at t) begin-check.Post
 begin-check-returns t c = search begin-eleventh
 
-begin-check-add-t18 : (t : ℕ) → begin-check-lts.Need-add-t18 (begin-check-claims t) (begin-check-at t) begin-check.Post
-begin-check-add-t18 t c = search needs
+begin-check-add-t22 : (t : ℕ) → begin-check-lts.Need-add-t22 (begin-check-claims t) (begin-check-at t) begin-check.Post
+begin-check-add-t22 t c = search needs
 
 begin-check-part-requires : (t : ℕ) → begin-check-lts.Need-part-requires (begin-check-claims t) (begin-check-at t) begin-check.Post
 begin-check-part-requires t c κs = search needs
@@ -182,14 +182,14 @@ begin-check-enum-told t c = search needs
 begin-check-ended-requires-2 : (t : ℕ) → begin-check-lts.Need-ended-requires-2 (begin-check-claims t) (begin-check-at t) begin-check.Post
 begin-check-ended-requires-2 t c κs = search needs
 
-begin-check-enum-known-kind : (t : ℕ) → begin-check-lts.Need-enum-known-kind (begin-check-claims t) (begin-check-at t) begin-check.Post
-begin-check-enum-known-kind t c = search needs
+begin-check-enum-known-target : (t : ℕ) → begin-check-lts.Need-enum-known-target (begin-check-claims t) (begin-check-at t) begin-check.Post
+begin-check-enum-known-target t c = search needs
 
 begin-check-wanting-requires : (t : ℕ) → begin-check-lts.Need-wanting-requires (begin-check-claims t) (begin-check-at t) begin-check.Post
 begin-check-wanting-requires t c κs = search needs
 
-begin-check-enum-known-n : (t : ℕ) → begin-check-lts.Need-enum-known-n (begin-check-claims t) (begin-check-at t) begin-check.Post
-begin-check-enum-known-n t c = search needs
+begin-check-enum-known-target-2 : (t : ℕ) → begin-check-lts.Need-enum-known-target-2 (begin-check-claims t) (begin-check-at t) begin-check.Post
+begin-check-enum-known-target-2 t c = search needs
 
 begin-check-slice-aggregate-part : (t : ℕ) → begin-check-lts.Need-slice-aggregate-part (begin-check-claims t) (begin-check-at t) begin-check.Post
 begin-check-slice-aggregate-part t c = search needs
@@ -198,7 +198,7 @@ begin-check-part-requires-2 : (t : ℕ) → begin-check-lts.Need-part-requires-2
 begin-check-part-requires-2 t c κs = search needs
 
 begin-check-check-domain-requires : (t : ℕ) → begin-check-lts.Need-check-domain-requires (begin-check-claims t) (begin-check-at t) begin-check.Post
-begin-check-check-domain-requires t c κs = (omega arith, search (target-small, needs))
+begin-check-check-domain-requires t c κs = (omega arith, search (target-small, c .before .before .before .before .before .before .before .before .before .before .before .before .before .before .before .before .before .before .before .before .pre, needs))
 
 begin-check-same-length : (t : ℕ) → begin-check-lts.Need-same-length (begin-check-claims t) (begin-check-at t) begin-check.Post
 begin-check-same-length t c = cc
@@ -213,7 +213,7 @@ begin-check-returns-3 : (t : ℕ) → begin-check-lts.Need-returns-3 (begin-chec
 begin-check-returns-3 t c = search begin-wants
 
 begin-check-same-length-3 : (t : ℕ) → begin-check-lts.Need-same-length-3 (begin-check-claims t) (begin-check-at t) begin-check.Post
-begin-check-same-length-3 t c = cc
+begin-check-same-length-3 t c = c .before .out2 .given ∙ c .before .before .before .before .before .before .before .before .before .before .out .given
 
 begin-check-returns-4 : (t : ℕ) → begin-check-lts.Need-returns-4 (begin-check-claims t) (begin-check-at t) begin-check.Post
 begin-check-returns-4 t c = search begin-checked
@@ -230,8 +230,8 @@ check-domain-returns t c = search domain-single
 check-domain-select-record-requires : (t : ℕ) → check-domain-lts.Need-select-record-requires (check-domain-claims t) (check-domain-at t) check-domain.Post
 check-domain-select-record-requires t c κs = search needs
 
-check-domain-enum-known-value : (t : ℕ) → check-domain-lts.Need-enum-known-value (check-domain-claims t) (check-domain-at t) check-domain.Post
-check-domain-enum-known-value t c = search needs
+check-domain-enum-known-selected : (t : ℕ) → check-domain-lts.Need-enum-known-selected (check-domain-claims t) (check-domain-at t) check-domain.Post
+check-domain-enum-known-selected t c = search needs
 
 check-domain-ended-requires-2 : (t : ℕ) → check-domain-lts.Need-ended-requires-2 (check-domain-claims t) (check-domain-at t) check-domain.Post
 check-domain-ended-requires-2 t c κs = search needs
@@ -245,8 +245,8 @@ check-domain-want-requires t c κs = search needs
 check-domain-wanting-requires : (t : ℕ) → check-domain-lts.Need-wanting-requires (check-domain-claims t) (check-domain-at t) check-domain.Post
 check-domain-wanting-requires t c κs = search needs
 
-check-domain-enum-known-place : (t : ℕ) → check-domain-lts.Need-enum-known-place (check-domain-claims t) (check-domain-at t) check-domain.Post
-check-domain-enum-known-place t c = search needs
+check-domain-enum-known-selected-2 : (t : ℕ) → check-domain-lts.Need-enum-known-selected-2 (check-domain-claims t) (check-domain-at t) check-domain.Post
+check-domain-enum-known-selected-2 t c = search needs
 
 check-domain-evaluate-record-requires : (t : ℕ) → check-domain-lts.Need-evaluate-record-requires (check-domain-claims t) (check-domain-at t) check-domain.Post
 check-domain-evaluate-record-requires t c κs = (omega arith, search (domain-selected, needs))
@@ -372,16 +372,16 @@ try-term-returns : (t : ℕ) → try-term-lts.Need-returns (try-term-claims t) (
 try-term-returns t c = search tried-step
 
 try-term-same-length-2 : (t : ℕ) → try-term-lts.Need-same-length-2 (try-term-claims t) (try-term-at t) try-term.Post
-try-term-same-length-2 t c = cc
+try-term-same-length-2 t c = c .before .out2 .given ∙ c .before .before .before .before .before .before .before .before .before .out .given
 
 try-term-returns-2 : (t : ℕ) → try-term-lts.Need-returns-2 (try-term-claims t) (try-term-at t) try-term.Post
 try-term-returns-2 t c = search tried-include
 
 abbrev try-terms-Inv-loop : try-terms-lts.InvT-loop
-try-terms-Inv-loop client sender helo receiver seconds table domain redirect exp start out₀ s at₀ so-far₀ out at so-far = Walk table (mailOf client sender helo receiver seconds) (spanOf table domain) s 6 out₀ so-far₀ out at so-far
+try-terms-Inv-loop client sender helo receiver seconds table domain redirect exp start out₀ s at₀ so-far₀ least₀ out at so-far least = Walk table (mailOf client sender helo receiver seconds) (spanOf table domain) s 6 out₀ so-far₀ least₀ out at so-far least
 
 abbrev try-terms-μ-loop : try-terms-lts.MeasureT-loop
-try-terms-μ-loop client sender helo receiver seconds table domain redirect exp start out₀ s at₀ so-far₀ out at so-far = length s + 1 - at
+try-terms-μ-loop client sender helo receiver seconds table domain redirect exp start out₀ s at₀ so-far₀ least₀ out at so-far least = length s + 1 - at
 
 try-terms-part-requires : (t : ℕ) → try-terms-lts.Need-part-requires (try-terms-claims t) (try-terms-at t) try-terms.Post try-terms-Inv-loop try-terms-μ-loop
 try-terms-part-requires t c κs = search needs
@@ -399,10 +399,10 @@ try-terms-no-match-requires : (t : ℕ) → try-terms-lts.Need-no-match-requires
 try-terms-no-match-requires t c κs = (omega arith, search (walk-small, walk-few, needs))
 
 try-terms-same-length : (t : ℕ) → try-terms-lts.Need-same-length (try-terms-claims t) (try-terms-at t) try-terms.Post try-terms-Inv-loop try-terms-μ-loop
-try-terms-same-length t c = cc
+try-terms-same-length t c = c .before .out .given ∙ ap length (c .before .before .before .before .before .before .before .loop .inv .kept)
 
 try-terms-returns : (t : ℕ) → try-terms-lts.Need-returns (try-terms-claims t) (try-terms-at t) try-terms.Post try-terms-Inv-loop try-terms-μ-loop
-try-terms-returns t c = search walk-ended
+try-terms-returns t c = search (walk-ended, c .before .before .before .before .before .before .before .before .before .before .before .before .before .before .pre)
 
 try-terms-part-requires-2 : (t : ℕ) → try-terms-lts.Need-part-requires-2 (try-terms-claims t) (try-terms-at t) try-terms.Post try-terms-Inv-loop try-terms-μ-loop
 try-terms-part-requires-2 t c κs = search needs
@@ -420,7 +420,7 @@ try-terms-same-length-2 : (t : ℕ) → try-terms-lts.Need-same-length-2 (try-te
 try-terms-same-length-2 t c = c .before .before .before .before .before .out2 .given ∙ ap length (c .before .before .before .before .before .before .before .before .before .before .before .before .before .before .loop .inv .kept)
 
 try-terms-returns-2 : (t : ℕ) → try-terms-lts.Need-returns-2 (try-terms-claims t) (try-terms-at t) try-terms.Post try-terms-Inv-loop try-terms-μ-loop
-try-terms-returns-2 t c = walk-yes _ _ _ _ _ _ _ _ _ _ _ _ _ (c .signed .ensures) refl (underway-failable (c .before .before .before .before .before .before .before .before .before .before .before .before .before .before .before .before .before .before .before .before .before .pre .1 .3)) _ _ _ _ (c .before .before .before .before .before .before .before .before .before .before .before .before .before .before .loop .inv) (c .before .before .before .before .before .before .before .before .before .before .before .before .before .before .before .part .ensures) _ (c .before .before .before .before .before .before .before .before .before .before .before .before .next-term .ensures) _ _ (c .before .before .before .before .before .before .before .before .before .before .place .given .1) (c .before .before .before .before .before .before .before .before .before .before .before .before .before .loop-test .taken) _ (c .before .before .before .before .before .before .before .before .part2 .ensures) (c .before .before .before .before .before .before .try-term .ensures) (c .before .enum-told .given .1)
+try-terms-returns-2 t c = walk-yes _ _ _ _ _ _ _ _ _ _ _ _ _ _ (c .signed .ensures) refl (underway-failable (c .before .before .before .before .before .before .before .before .before .before .before .before .before .before .before .before .before .before .before .before .before .pre .1 .3)) _ _ _ _ _ (c .before .before .before .before .before .before .before .before .before .before .before .before .before .before .loop .inv) (c .before .before .before .before .before .before .before .before .before .before .before .before .before .before .before .part .ensures) _ (c .before .before .before .before .before .before .before .before .before .before .before .before .next-term .ensures) _ _ (c .before .before .before .before .before .before .before .before .before .before .place .given .1) (c .before .before .before .before .before .before .before .before .before .before .before .before .before .loop-test .taken) _ (c .before .before .before .before .before .before .before .before .part2 .ensures) (c .before .before .before .before .before .before .try-term .ensures) (c .before .enum-told .given .1)
 
 try-terms-enum-known-matched : (t : ℕ) → try-terms-lts.Need-enum-known-matched (try-terms-claims t) (try-terms-at t) try-terms.Post try-terms-Inv-loop try-terms-μ-loop
 try-terms-enum-known-matched t c = search needs
@@ -444,7 +444,7 @@ try-terms-no-match-requires-2 : (t : ℕ) → try-terms-lts.Need-no-match-requir
 try-terms-no-match-requires-2 t c κs = (omega arith, search (walk-small, walk-few, needs))
 
 try-terms-same-length-4 : (t : ℕ) → try-terms-lts.Need-same-length-4 (try-terms-claims t) (try-terms-at t) try-terms.Post try-terms-Inv-loop try-terms-μ-loop
-try-terms-same-length-4 t c = cc
+try-terms-same-length-4 t c = c .before .out3 .given ∙ ap length (c .before .before .before .before .before .loop .inv .kept)
 
 try-terms-returns-4 : (t : ℕ) → try-terms-lts.Need-returns-4 (try-terms-claims t) (try-terms-at t) try-terms.Post try-terms-Inv-loop try-terms-μ-loop
 try-terms-returns-4 t c = search walk-past
@@ -465,15 +465,15 @@ pub +begin-check+check-domain+evaluate-record+include+no-match+try-term+try-term
     begin-check.Post
     (begin-check-ended-requires t)
     (begin-check-returns t)
-    (begin-check-add-t18 t)
+    (begin-check-add-t22 t)
     (begin-check-part-requires t)
     (begin-check-slice-aggregate-make-target t)
     (begin-check-make-target-requires t)
     (begin-check-enum-told t)
     (begin-check-ended-requires-2 t)
-    (begin-check-enum-known-kind t)
+    (begin-check-enum-known-target t)
     (begin-check-wanting-requires t)
-    (begin-check-enum-known-n t)
+    (begin-check-enum-known-target-2 t)
     (begin-check-slice-aggregate-part t)
     (begin-check-part-requires-2 t)
     (begin-check-check-domain-requires t)
@@ -490,12 +490,12 @@ pub +begin-check+check-domain+evaluate-record+include+no-match+try-term+try-term
     (check-domain-ended-requires t)
     (check-domain-returns t)
     (check-domain-select-record-requires t)
-    (check-domain-enum-known-value t)
+    (check-domain-enum-known-selected t)
     (check-domain-ended-requires-2 t)
     (check-domain-enum-told t)
     (check-domain-want-requires t)
     (check-domain-wanting-requires t)
-    (check-domain-enum-known-place t)
+    (check-domain-enum-known-selected-2 t)
     (check-domain-evaluate-record-requires t)
     (check-domain-returns-2 t)
     (check-domain-same-length t)

@@ -3,13 +3,6 @@ use Rattle.evaluation.proofs.Laws.Standing.{find-single, find-other, fi
 use borrow.Author.Needs.{needs}
 use Rattle.evaluation.proofs.explaining.find_exp.Statement.{statement}
 use Rattle.evaluation.proofs.explaining.find_exp.Tie as tie
-use Rattle.evaluation.proofs.explaining.find_exp.Reads as reads
-use Rattle.evaluation.proofs.explaining.find_exp.Lts as lts
-use Rattle.domain.proofs.count_labels.Reads as count-labels-reads
-use Rattle.evaluation.proofs.check.in_table.Reads as in-table-reads
-use Rattle.record_lookup.proofs.select_record.Reads as select-record-reads
-use Rattle.records.proofs.opening.open_record.Reads as open-record-reads
-use Rattle.text.proofs.bytes.part.Reads as part-reads
 
 count-labels-requires : tie.Need-count-labels-requires
 count-labels-requires c κs = search needs
@@ -20,8 +13,8 @@ returns c = search find-single
 select-record-requires : tie.Need-select-record-requires
 select-record-requires c κs = search needs
 
-enum-known-text : tie.Need-enum-known-text
-enum-known-text c = search needs
+enum-known-selected : tie.Need-enum-known-selected
+enum-known-selected c = search needs
 
 returns-2 : tie.Need-returns-2
 returns-2 c = search find-other
@@ -63,7 +56,7 @@ find-exp-spec =
     count-labels-requires
     returns
     select-record-requires
-    enum-known-text
+    enum-known-selected
     returns-2
     part-requires
     open-record-requires

@@ -13,8 +13,8 @@ ask-requires c κs = search needs
 enum-known-stepped : tie.Need-enum-known-stepped
 enum-known-stepped c = search needs
 
-enum-told : tie.Need-enum-told
-enum-told c = search needs
+enum-known-met : tie.Need-enum-known-met
+enum-known-met c = search needs
 
 enum-known-start : tie.Need-enum-known-start
 enum-known-start c = search needs
@@ -62,7 +62,7 @@ ask-name-spec =
     address-kind-requires
     ask-requires
     enum-known-stepped
-    enum-told
+    enum-known-met
     enum-known-start
     at-or-below-requires
     part-requires

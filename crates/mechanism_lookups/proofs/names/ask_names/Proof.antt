@@ -9,10 +9,10 @@ use Rattle.mechanism_lookups.proofs.names.ask_names.Statement.{statemen
 use Rattle.mechanism_lookups.proofs.names.ask_names.Tie as tie
 
 abbrev Inv-loop : tie.InvT-loop
-Inv-loop client table items target out₀ at₀ left₀ so-far₀ out at left so-far = Names table client target items out₀ so-far₀ out at left so-far
+Inv-loop client table items target out₀ at₀ left₀ so-far₀ least₀ out at left so-far least = Names table client target items out₀ so-far₀ least₀ out at left so-far least
 
 abbrev μ-loop : tie.MeasureT-loop
-μ-loop client table items target out₀ at₀ left₀ so-far₀ out at left so-far = size items - at
+μ-loop client table items target out₀ at₀ left₀ so-far₀ least₀ out at left so-far least = size items - at
 
 loop-holds : tie.Need-loop-holds Inv-loop μ-loop
 loop-holds c = search names-start

@@ -22,6 +22,9 @@ same-length c = search needs
 returns : tie.Need-returns
 returns c = search ask-missing
 
+sooner-requires : tie.Need-sooner-requires
+sooner-requires c κs = search needs
+
 returns-2 : tie.Need-returns-2
 returns-2 c = search ask-failed
 
@@ -47,6 +50,7 @@ ask-spec =
     missing-requires
     same-length
     returns
+    sooner-requires
     returns-2
     part-requires
     void-requires

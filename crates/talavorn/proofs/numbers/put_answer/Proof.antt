@@ -8,23 +8,8 @@ use Rattle.talavorn.proofs.numbers.put_answer.Tie as tie
 enum-known-answer : tie.Need-enum-known-answer
 enum-known-answer c = search needs
 
-cast-t16 : tie.Need-cast-t16
-cast-t16 c = search needs
-
-cast-t17 : tie.Need-cast-t17
-cast-t17 c = search needs
-
-enum-known-answer-2 : tie.Need-enum-known-answer-2
-enum-known-answer-2 c = search needs
-
-cast-t18 : tie.Need-cast-t18
-cast-t18 c = search needs
-
 cast-t19 : tie.Need-cast-t19
 cast-t19 c = search needs
-
-enum-known-answer-3 : tie.Need-enum-known-answer-3
-enum-known-answer-3 c = search needs
 
 cast-t20 : tie.Need-cast-t20
 cast-t20 c = search needs
@@ -32,8 +17,32 @@ cast-t20 c = search needs
 cast-t21 : tie.Need-cast-t21
 cast-t21 c = search needs
 
+enum-known-answer-2 : tie.Need-enum-known-answer-2
+enum-known-answer-2 c = search needs
+
 cast-t22 : tie.Need-cast-t22
 cast-t22 c = search needs
+
+cast-t23 : tie.Need-cast-t23
+cast-t23 c = search needs
+
+cast-t24 : tie.Need-cast-t24
+cast-t24 c = search needs
+
+enum-known-answer-3 : tie.Need-enum-known-answer-3
+enum-known-answer-3 c = search needs
+
+cast-t25 : tie.Need-cast-t25
+cast-t25 c = search needs
+
+cast-t26 : tie.Need-cast-t26
+cast-t26 c = search needs
+
+cast-t27 : tie.Need-cast-t27
+cast-t27 c = search needs
+
+cast-t28 : tie.Need-cast-t28
+cast-t28 c = search needs
 
 enum-known-answer-4 : tie.Need-enum-known-answer-4
 enum-known-answer-4 c = search needs
@@ -66,15 +75,18 @@ put-answer-spec =
     tie.close
     (tie.spec
     enum-known-answer
-    cast-t16
-    cast-t17
-    enum-known-answer-2
-    cast-t18
     cast-t19
-    enum-known-answer-3
     cast-t20
     cast-t21
+    enum-known-answer-2
     cast-t22
+    cast-t23
+    cast-t24
+    enum-known-answer-3
+    cast-t25
+    cast-t26
+    cast-t27
+    cast-t28
     enum-known-answer-4
     enum-known-answer-5
     returns

@@ -1,8 +1,8 @@
--- `check_table` meets its contract: what the check of its entries answers is what the productions say. From the rules of the table.
+-- `check_table_in` meets its contract: what the check of its entries answers is what the productions say. From the rules of the table.
 use Rattle.answer_table.proofs.Laws.Rules.{check-right, check-long}
 use borrow.Author.Needs.{needs}
-use Rattle.answer_table.proofs.check_table.Statement.{statement}
-use Rattle.answer_table.proofs.check_table.Tie as tie
+use Rattle.answer_table.proofs.check_table_in.Statement.{statement}
+use Rattle.answer_table.proofs.check_table_in.Tie as tie
 
 returns : tie.Need-returns
 returns c = search (check-long, check-right)
@@ -25,8 +25,8 @@ check-entries-requires-2 c κs = search needs
 returns-3 : tie.Need-returns-3
 returns-3 c = search check-right
 
-pub check-table-spec : {M : Type 1} → statement M
-check-table-spec =
+pub check-table-in-spec : {M : Type 1} → statement M
+check-table-in-spec =
     tie.close
     (tie.spec
     returns

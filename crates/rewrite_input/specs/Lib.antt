@@ -1,0 +1,3 @@
+-- What the contract of this crate is said in.
+-- Printing: what the program add_lifetimes prints.
+pub mod Printing
