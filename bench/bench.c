@@ -1,5 +1,5 @@
-/* Times evaluations, explanations, and readings of records, through talavorn.h; where libspf2 was there to build with, the same questions through libspf2
- * over its in-memory zone.
+/* Times evaluations, explanations, readings of records and rewritings of old tables, through talavorn.h; where libspf2 was there to build with, the
+ * same questions through libspf2 over its in-memory zone.
  *
  * bench                      one round: every case once; a line each, with the case's word and the microseconds of one evaluation, ours and libspf2's
  * bench CASE TIMES           one case by its number, so often, and nothing else: for a profiler
@@ -171,6 +171,23 @@ static void make_distinct(struct table *t, int count)
     add_text(t, "example.com", record);
 }
 
+/* The same as make_entries, in the layout without lifetimes. */
+static void make_old(struct table *t, int count)
+{
+    size_t to = 0;
+    make_entries(t, count);
+    for (size_t at = 0; at < t->size;) {
+        size_t size = 2 + t->bytes[at] + 256 * (size_t)t->bytes[at + 1];
+        memmove(t->bytes + to, t->bytes + at, 5);
+        memmove(t->bytes + to + 5, t->bytes + at + 9, size - 9);
+        t->bytes[to] = (uint8_t)((size - 6) % 256);
+        t->bytes[to + 1] = (uint8_t)((size - 6) / 256);
+        to += size - 4;
+        at += size;
+    }
+    t->size = to;
+}
+
 static struct table table, zone;
 
 static int evaluate(int i);
@@ -178,6 +195,7 @@ static int explain(int i);
 static int play(int i);
 static int read_record(int i);
 static int house_rules(int i);
+static int rewrite(int i);
 static int ask_libspf2(int i);
 
 static const struct {
@@ -187,7 +205,8 @@ static const struct {
     uint8_t client[4];
     uint8_t number;
     int libspf2;        /* whether libspf2 is asked too */
-    int (*call)(int);   /* one evaluation, perhaps with its explanation, all rounds from an empty table, one reading of the record, or its breaches */
+    int (*call)(int);   /* one evaluation, perhaps with its explanation, all rounds from an empty table, one reading of the record, its breaches, or one
+                           rewriting of an old table */
 } cases[] = {
     { "first", "first match: pass", make_reference, 0, { 192, 0, 2, 1 }, TALAVORN_PASS, 1, evaluate },
     { "include", "include match: pass", make_reference, 0, { 203, 0, 113, 1 }, TALAVORN_PASS, 1, evaluate },
@@ -216,6 +235,8 @@ static const struct {
     { "house-80", "80 networks, their breaches", make_distinct, 80, { 0 }, 0, 0, house_rules },
     { "house-160", "160 networks, their breaches", make_distinct, 160, { 0 }, 0, 0, house_rules },
     { "house-320", "320 networks, their breaches", make_distinct, 320, { 0 }, 0, 0, house_rules },
+    { "rewrite-64", "old table of 64 entries: rewritten", make_old, 64, { 0 }, 0, 0, rewrite },
+    { "rewrite-512", "old table of 512 entries: rewritten", make_old, 512, { 0 }, 0, 0, rewrite },
 };
 enum { CASES = sizeof cases / sizeof *cases };
 
@@ -259,7 +280,7 @@ static int play(int i)
 /* The record in the table's first entry: its text stands behind the header, the name and its own length. */
 static const uint8_t *first_record(size_t *size)
 {
-    const uint8_t *text = table.bytes + 6 + table.bytes[5];
+    const uint8_t *text = table.bytes + 10 + table.bytes[9];
     *size = text[0] + 256u * text[1];
     return text + 2;
 }
@@ -281,6 +302,14 @@ static int house_rules(int i)
     const uint8_t *record = first_record(&size);
     (void)i;
     return talavorn_house_rules(TEXT("example.com"), record, size, list, sizeof list, &breaches);
+}
+
+/* Rewrites an old table with lifetimes. */
+static int rewrite(int i)
+{
+    size_t value;
+    (void)i;
+    return talavorn_add_lifetimes(table.bytes, table.size, zone.bytes, sizeof zone.bytes, &value);
 }
 
 static int ask_libspf2(int i)

@@ -44,7 +44,7 @@ static void *explain(void *unused)
 static void *house_rules(void *unused)
 {
     static uint8_t list[TALAVORN_HOUSE_LIST];
-    const uint8_t *text = table.bytes + 6 + table.bytes[5];
+    const uint8_t *text = table.bytes + 10 + table.bytes[9];
     size_t breaches;
     talavorn_house_rules(TEXT("d0.example"), text + 2, text[0] + 256u * text[1], list, sizeof list, &breaches);
     return unused;

@@ -36,13 +36,15 @@ static inline void close_entry(struct table *t)
     t->bytes[t->entry + 1] = (uint8_t)(n / 256);
 }
 
-/* An answered entry without items. */
+/* An answered entry without items, with a lifetime of an hour. */
 static inline void add_entry(struct table *t, size_t kind, const char *name)
 {
     t->entry = t->size;
     put_number(t, 0);
     put_number(t, kind);
     put_byte(t, 0);
+    put_number(t, 3600);
+    put_number(t, 0);
     put_byte(t, strlen(name));
     put_bytes(t, name, strlen(name));
     close_entry(t);
@@ -69,7 +71,7 @@ static inline int copy_entry(struct table *t, const struct table *from, size_t k
     for (size_t at = 0; at < from->size;) {
         const uint8_t *e = from->bytes + at;
         size_t size = 2 + e[0] + 256 * (size_t)e[1];
-        if (e[2] + 256 * (size_t)e[3] == kind && e[5] == n && memcmp(e + 6, name, n) == 0) {
+        if (e[2] + 256 * (size_t)e[3] == kind && e[9] == n && memcmp(e + 10, name, n) == 0) {
             if (sizeof t->bytes - t->size < size)
                 abort();
             memcpy(t->bytes + t->size, e, size);

@@ -1,7 +1,8 @@
-/* Makes the calls of talavorn.h, its wrapper's too, on arguments whose answers are known, and
- * prints how many were as they should be. */
+/* Makes the calls of talavorn.h, its wrapper's too, and those of cache.h, on arguments whose
+ * answers are known, and prints how many were as they should be. */
 #include <stdio.h>
 
+#include "cache.h"
 #include "talavorn.h"
 
 #define TEXT(s) (s), sizeof(s) - 1
@@ -434,23 +435,36 @@ static void matches(void)
     expect(talavorn_matches(mapped + 12, 4, network, 4, 24) == 1, "its last four octets");
 }
 
-#define GONE "\x0f\0\x10\0\x03\x0b" "example.com" /* no TXT records, since there is no such name */
+/* no TXT records for 300 seconds, since there is no such name: 21 bytes */
+#define GONE "\x13\0\x10\0\x03" "\x2c\1\0\0" "\x0b" "example.com"
 
 static void tables(void)
 {
     static const char table[] = GONE GONE;
     size_t place;
     expect(talavorn_check_table(table, 0, &place) == 0 && place == 0, "no entry");
-    expect(talavorn_check_table(table, 17, &place) == 0 && place == 1, "one entry");
-    expect(talavorn_check_table(table, 34, &place) == TALAVORN_REPEATED_ENTRY && place == 17,
+    expect(talavorn_check_table(table, 21, &place) == 0 && place == 1, "one entry");
+    expect(talavorn_check_table(table, 42, &place) == TALAVORN_REPEATED_ENTRY && place == 21,
            "the same twice");
-    expect(talavorn_check_table(table, 33, &place) == TALAVORN_BAD_ENTRY && place == 17,
+    expect(talavorn_check_table(table, 41, &place) == TALAVORN_BAD_ENTRY && place == 21,
            "half an entry");
+    expect(talavorn_check_table(TEXT("\x09\0\1\0\0\xff\xff\xff\xff\1" "a"), &place) == 0
+               && place == 1,
+           "the largest lifetime");
+    expect(talavorn_check_table(TEXT("\5\0\1\0\0\1" "a"), &place) == TALAVORN_BAD_ENTRY
+               && place == 0,
+           "an entry without a lifetime");
+    expect(talavorn_check_table(TEXT("\7\0\1\0\0\0\0\0\0"), &place) == TALAVORN_BAD_ENTRY
+               && place == 0,
+           "an entry whose length is 7");
 }
 
 /* The table under trial, and a copy of its whole buffer. */
 static uint8_t table[65536], before[65536];
 static size_t size, place;
+
+/* The lifetime of an entry that is appended. */
+static uint32_t lifetime = 300;
 
 static void begin_with(const void *bytes, size_t len)
 {
@@ -466,7 +480,7 @@ static uint8_t append(
     memcpy(before, table, sizeof table);
     place = 77;
     return talavorn_append_entry(
-        kind, status, name, name_len, items, items_len, table, room, &size, &place);
+        kind, status, lifetime, name, name_len, items, items_len, table, room, &size, &place);
 }
 
 /* Whether a refusal has this place, and left the table and its length as they were. */
@@ -486,19 +500,29 @@ static int added(size_t len, const void *entry, size_t entry_len)
 static void additions(void)
 {
     begin_with("", 0);
+    lifetime = 67305985;
     expect(append(TALAVORN_TYPE_TXT, TALAVORN_ANSWERED, TEXT("Example.COM"), TEXT("\x06\0v=SPF1"),
-                  25) == 0
-               && added(0, TEXT("\x17\0\x10\0\0\x0b" "example.com" "\x06\0v=SPF1")),
+                  29) == 0
+               && added(0, TEXT("\x1b\0\x10\0\0" "\1\2\3\4" "\x0b" "example.com"
+                                "\x06\0v=SPF1")),
            "an entry in a buffer of its length");
+    lifetime = 4294967295;
     expect(append(TALAVORN_TYPE_MX, TALAVORN_NO_SUCH_NAME, TEXT("example.com"), NULL, 0, 65535) == 0
-               && added(25, TEXT("\x0f\0\x0f\0\x03\x0b" "example.com")),
+               && added(29, TEXT("\x13\0\x0f\0\x03" "\xff\xff\xff\xff" "\x0b" "example.com")),
            "a second entry");
+    lifetime = 0;
     expect(append(TALAVORN_TYPE_A, TALAVORN_ANSWERED, TEXT("example.com"),
                   TEXT("\x04\0\xc0\0\x02\x01" "\x04\0\xc0\0\x02\x02"), 65535) == 0
-               && added(42, TEXT("\x1b\0\x01\0\0\x0b" "example.com" "\x04\0\xc0\0\x02\x01"
-                                 "\x04\0\xc0\0\x02\x02")),
+               && added(50, TEXT("\x1f\0\x01\0\0" "\0\0\0\0" "\x0b" "example.com"
+                                 "\x04\0\xc0\0\x02\x01" "\x04\0\xc0\0\x02\x02")),
            "two items");
     expect(talavorn_check_table(table, size, &place) == 0 && place == 3, "three entries");
+    begin_with("", 0);
+    lifetime = 67305985;
+    expect(append(TALAVORN_TYPE_A, TALAVORN_ANSWERED, TEXT("a.b"), TEXT("\4\0\1\2\3\4"), 19) == 0
+               && added(0, TEXT("\x11\0\1\0\0" "\1\2\3\4" "\3a.b" "\4\0\1\2\3\4")),
+           "a lifetime, the lowest byte first");
+    lifetime = 300;
 }
 
 static void refusals(void)
@@ -514,19 +538,19 @@ static void refusals(void)
            "a table of 65,536 bytes");
     begin_with(TEXT(GONE "\0"));
     expect(append(txt, 0, TEXT("example.com"), NULL, 0, 65535) == TALAVORN_BAD_ENTRY
-               && kept(18, 17),
+               && kept(22, 21),
            "a malformed entry in the table");
     begin_with(TEXT(GONE GONE));
     expect(append(txt, 0, TEXT("example.com"), NULL, 0, 65535) == TALAVORN_REPEATED_ENTRY
-               && kept(34, 17),
+               && kept(42, 21),
            "a repeated entry in the table");
     begin_with(TEXT(GONE));
-    expect(append(txt, 0, TEXT("example.com"), NULL, 0, 65535) == TALAVORN_IN_TABLE && kept(17, 0),
+    expect(append(txt, 0, TEXT("example.com"), NULL, 0, 65535) == TALAVORN_IN_TABLE && kept(21, 0),
            "a pair that is in the table");
-    expect(append(txt, 1, TEXT("EXAMPLE.com"), NULL, 0, 17) == TALAVORN_IN_TABLE && kept(17, 0),
+    expect(append(txt, 1, TEXT("EXAMPLE.com"), NULL, 0, 21) == TALAVORN_IN_TABLE && kept(21, 0),
            "the same, malformed and without room");
 #define UNFIT(what, ...) \
-    expect(append(__VA_ARGS__) == TALAVORN_UNFIT_ENTRY && kept(17, 0), what)
+    expect(append(__VA_ARGS__) == TALAVORN_UNFIT_ENTRY && kept(21, 0), what)
     UNFIT("kind 2", 2, 0, TEXT("a.b"), NULL, 0, 65535);
     UNFIT("status 1", a, 1, TEXT("a.b"), NULL, 0, 65535);
     UNFIT("an address of three octets", a, 0, TEXT("a.b"), TEXT("\x03\0\x01\x02\x03"), 65535);
@@ -537,17 +561,17 @@ static void refusals(void)
     UNFIT("a trailing dot", a, 0, TEXT("a.b."), NULL, 0, 65535);
     UNFIT("an empty name", a, 0, TEXT(""), NULL, 0, 65535);
     UNFIT("a space in a name", a, 0, TEXT("a b"), NULL, 0, 65535);
-    UNFIT("a buffer that is a byte too small", a, 0, TEXT("a.b"), NULL, 0, 25);
+    UNFIT("a buffer that is a byte too small", a, 0, TEXT("a.b"), NULL, 0, 33);
     memset(name, 'x', sizeof name);
     name[63] = name[127] = name[191] = '.';
     UNFIT("a name of 254 bytes", a, 0, name, 254, NULL, 0, 65535);
-    expect(append(a, 0, name, 253, NULL, 0, 276) == 0 && size == 276, "a name of 253 bytes");
+    expect(append(a, 0, name, 253, NULL, 0, 284) == 0 && size == 284, "a name of 253 bytes");
 }
 
 /* As many entries, and as many bytes, as a table holds. */
 static void fullness(void)
 {
-    static uint8_t items[65530];
+    static uint8_t items[65525];
     char name[16];
     int fine = 1;
     begin_with("", 0);
@@ -559,19 +583,19 @@ static void fullness(void)
     expect(append(TALAVORN_TYPE_A, 0, TEXT("n"), NULL, 0, 65535) == TALAVORN_UNFIT_ENTRY
                && kept(size, 0),
            "a 513th");
-    /* 15 texts of 4,096 bytes, and one that fills up 65,535 with the 7 bytes before the items */
+    /* 15 texts of 4,096 bytes, and one that fills up 65,535 with the 11 bytes before the items */
     for (size_t i = 0; i < 15; i++) {
         items[4098 * i] = 0;
         items[4098 * i + 1] = 16;
     }
     begin_with("", 0);
-    items[61470] = 4057 % 256;
-    items[61471] = 4057 / 256;
-    expect(append(TALAVORN_TYPE_TXT, 0, TEXT("n"), items, 65529, 65536) == TALAVORN_UNFIT_ENTRY
+    items[61470] = 4053 % 256;
+    items[61471] = 4053 / 256;
+    expect(append(TALAVORN_TYPE_TXT, 0, TEXT("n"), items, 65525, 65536) == TALAVORN_UNFIT_ENTRY
                && kept(0, 0),
            "65,536 bytes");
-    items[61470] = 4056 % 256;
-    expect(append(TALAVORN_TYPE_TXT, 0, TEXT("n"), items, 65528, 65536) == 0 && size == 65535,
+    items[61470] = 4052 % 256;
+    expect(append(TALAVORN_TYPE_TXT, 0, TEXT("n"), items, 65524, 65536) == 0 && size == 65535,
            "65,535 bytes");
     expect(append(TALAVORN_TYPE_A, 0, TEXT("n"), NULL, 0, 65536) == TALAVORN_UNFIT_ENTRY
                && kept(65535, 0),
@@ -782,7 +806,7 @@ static struct talavorn_answer answered(void)
 {
     struct talavorn_mail mail = usual_mail();
     struct talavorn_answer a = talavorn_check(&mail, table, size);
-    if (talavorn_add(&a, 0, &items, table, sizeof table, &size) != 0)
+    if (talavorn_add(&a, 0, lifetime, &items, table, sizeof table, &size) != 0)
         expect(0, "an addition");
     return talavorn_check(&mail, table, size);
 }
@@ -795,7 +819,7 @@ static struct talavorn_answer explained(void)
     char text[501];
     a = talavorn_fail_text(&mail, &failed, table, size, text);
     if (a.number != TALAVORN_WANTING
-        || talavorn_add(&a, 0, &items, table, sizeof table, &size) != 0)
+        || talavorn_add(&a, 0, lifetime, &items, table, sizeof table, &size) != 0)
         expect(0, "an addition");
     return talavorn_fail_text(&mail, &failed, table, size, text);
 }
@@ -815,25 +839,29 @@ static void checks(void)
     struct talavorn_answer a = talavorn_check(&mail, NULL, 0);
     expect(a.number == TALAVORN_WANTING && a.kind == TALAVORN_TYPE_TXT && a.name_len == 11
                && strcmp(a.name, "example.com") == 0 && a.text_len == 0 && a.exp_place == 0
-               && a.exp_len == 0 && a.place == 0 && a.lookups == 0 && a.voids == 0,
+               && a.exp_len == 0 && a.place == 0 && a.lookups == 0 && a.voids == 0
+               && a.lifetime == 0,
            "the first question");
     a = checked("v=spf1 ip4:192.0.2.129 -all");
     expect(a.number == TALAVORN_PASS && a.kind == 0 && a.place == 0 && a.name_len == 0
                && a.name[0] == 0 && a.text_len == 0 && a.exp_place == 0 && a.exp_len == 0
-               && a.lookups == 0,
+               && a.lookups == 0 && a.lifetime == 300,
            "a pass");
     a = checked("v=spf1 a -all");
     expect(a.number == TALAVORN_WANTING && a.kind == TALAVORN_TYPE_A && a.lookups == 1
-               && strcmp(a.name, "example.com") == 0,
+               && strcmp(a.name, "example.com") == 0 && a.lifetime == 300,
            "a's question");
-    talavorn_add(&a, 0, NULL, table, sizeof table, &size);
+    lifetime = 60;
+    talavorn_add(&a, 0, lifetime, NULL, table, sizeof table, &size);
     a = talavorn_check(&mail, table, size);
     expect(a.number == TALAVORN_FAIL && a.text_len == 0 && a.exp_place == 0 && a.exp_len == 0
                && a.name_len == 11 && strcmp(a.name, "example.com") == 0 && a.lookups == 1
-               && a.voids == 1,
+               && a.voids == 1 && a.lifetime == 60,
            "a void answer");
+    lifetime = 300;
     a = talavorn_check(&mail, TEXT(GONE GONE));
-    expect(a.number == TALAVORN_REPEATED_ENTRY && a.place == 17 && a.kind == 0 && a.name_len == 0,
+    expect(a.number == TALAVORN_REPEATED_ENTRY && a.place == 21 && a.kind == 0 && a.name_len == 0
+               && a.lifetime == 0,
            "a repeated entry");
     mail.sender = talavorn_text("");
     expect(talavorn_check(&mail, NULL, 0).number == TALAVORN_BAD_SENDER, "an empty sender");
@@ -846,30 +874,30 @@ static void fail_texts(void)
     struct talavorn_answer a = checked("v=spf1 a -all exp=why.%{d}"), t;
     char text[502];
     memset(text, 'x', sizeof text);
-    talavorn_add(&a, 0, NULL, table, sizeof table, &size);
+    talavorn_add(&a, 0, lifetime, NULL, table, sizeof table, &size);
     a = talavorn_check(&mail, table, size);
-    expect(a.number == TALAVORN_FAIL && a.exp_place == 37 && a.exp_len == 8 && a.text_len == 0
+    expect(a.number == TALAVORN_FAIL && a.exp_place == 41 && a.exp_len == 8 && a.text_len == 0
                && a.lookups == 1 && a.voids == 1,
            "a fail that has an explanation");
     t = talavorn_fail_text(&mail, &a, table, size, text);
     expect(t.number == TALAVORN_WANTING && t.kind == TALAVORN_TYPE_TXT && t.name_len == 15
                && strcmp(t.name, "why.example.com") == 0 && t.text_len == 0 && text[0] == 0
                && t.place == 0 && t.exp_place == 0 && t.exp_len == 0 && t.lookups == 1
-               && t.voids == 1,
+               && t.voids == 1 && t.lifetime == 300,
            "the explanation's question");
     begin_items(512);
     talavorn_item_txt(&items, talavorn_text("%{c} is not ours"));
-    expect(talavorn_add(&t, 0, &items, table, sizeof table, &size) == 0, "its answer");
+    expect(talavorn_add(&t, 0, 7, &items, table, sizeof table, &size) == 0, "its answer");
     t = talavorn_fail_text(&mail, &a, table, size, text);
     expect(t.number == TALAVORN_FAIL && t.text_len == 23
                && strcmp(text, "192.0.2.129 is not ours") == 0 && text[501] == 'x' && t.kind == 0
                && t.name_len == 0 && t.name[0] == 0 && t.place == 0 && t.lookups == 1
-               && t.voids == 1,
+               && t.voids == 1 && t.lifetime == 300,
            "the text");
     a.exp_place++;
     t = talavorn_fail_text(&mail, &a, table, size, text);
     expect(t.number == TALAVORN_BAD_EXP && t.text_len == 0 && text[0] == 0 && t.lookups == 0
-               && t.voids == 0,
+               && t.voids == 0 && t.lifetime == 0,
            "another place");
     a.exp_place = a.exp_len = 0;
     memset(text, 'x', sizeof text);
@@ -877,7 +905,7 @@ static void fail_texts(void)
     expect(t.number == TALAVORN_FAIL && t.text_len == 0 && text[0] == 0 && text[1] == 'x',
            "no place");
     t = talavorn_fail_text(&mail, &a, TEXT(GONE GONE), text);
-    expect(t.number == TALAVORN_REPEATED_ENTRY && t.place == 17, "the same, and a repeated entry");
+    expect(t.number == TALAVORN_REPEATED_ENTRY && t.place == 21, "the same, and a repeated entry");
 }
 
 /* An entry of type SPF may be added, and is ignored. */
@@ -889,7 +917,7 @@ static void spf_entries(void)
 #define ADD_SPF \
     append(TALAVORN_TYPE_SPF, TALAVORN_ANSWERED, TEXT("example.com"), TEXT("\x0b\0v=spf1 +all"), \
            65535)
-    expect(ADD_SPF == 0 && size == 30, "an SPF entry");
+    expect(ADD_SPF == 0 && size == 34, "an SPF entry");
     a = talavorn_check(&mail, table, size);
     expect(a.number == TALAVORN_WANTING && a.kind == TALAVORN_TYPE_TXT && a.lookups == 0
                && strcmp(a.name, "example.com") == 0,
@@ -897,7 +925,7 @@ static void spf_entries(void)
     begin_items(512);
     talavorn_item_txt(&items, talavorn_text("v=spf1 -all"));
     expect(answered().number == TALAVORN_FAIL, "with a TXT record beside it");
-    expect(ADD_SPF == TALAVORN_IN_TABLE && size == 60, "the SPF entry twice");
+    expect(ADD_SPF == TALAVORN_IN_TABLE && size == 68, "the SPF entry twice");
 }
 
 /* Names and texts that can't stand in the table do no harm. */
@@ -1011,10 +1039,11 @@ static int lent(const char *name, const char *text)
 
 /* What the first call left: values and name. */
 static int left(
-    size_t kind, size_t lookups, size_t voids, const char *name, size_t exp_place, size_t exp_len)
+    size_t kind, size_t lookups, size_t voids, size_t life, const char *name, size_t exp_place,
+    size_t exp_len)
 {
     const size_t expected[TALAVORN_VALUES + 1] = {
-        kind, lookups, voids, strlen(name), exp_place, exp_len, 77
+        kind, lookups, voids, life, strlen(name), exp_place, exp_len, 77
     };
     return memcmp(values, expected, sizeof values) == 0 && lent(name, "");
 }
@@ -1042,7 +1071,7 @@ static void put_status(uint16_t kind, uint8_t status, const char *name)
         expect(0, name);
 }
 
-/* A table of one TXT entry for example.com. Its text begins at 19. */
+/* A table of one TXT entry for example.com. Its text begins at 23. */
 static void begin_record(const char *record)
 {
     begin_check();
@@ -1061,7 +1090,7 @@ static void evaluation_refusals(void)
     given.helo = given.receiver = talavorn_text("a b");
     name_room = 252;
     size = 65536;
-#define REFUSED(number, at, what) expect(first() == (number) && left(at, 0, 0, "", 0, 0), what)
+#define REFUSED(number, at, what) expect(first() == (number) && left(at, 0, 0, 0, "", 0, 0), what)
     REFUSED(TALAVORN_BAD_ADDRESS, 0, "a client of 3 octets");
     given.client = talavorn_bytes(client6, 15);
     REFUSED(TALAVORN_BAD_ADDRESS, 0, "a client of 15 octets");
@@ -1080,11 +1109,11 @@ static void evaluation_refusals(void)
     size = 65535;
     REFUSED(TALAVORN_BAD_ENTRY, 0, "a table of other bytes");
     begin_with(TEXT(GONE "\1\0"));
-    REFUSED(TALAVORN_BAD_ENTRY, 17, "a malformed entry");
+    REFUSED(TALAVORN_BAD_ENTRY, 21, "a malformed entry");
     begin_with(TEXT(GONE GONE "\1\0"));
-    REFUSED(TALAVORN_REPEATED_ENTRY, 17, "an entry twice, before a malformed one");
+    REFUSED(TALAVORN_REPEATED_ENTRY, 21, "an entry twice, before a malformed one");
     begin_with(TEXT(GONE));
-    expect(first() == TALAVORN_NONE && left(0, 0, 0, "", 0, 0), "a malformed domain");
+    expect(first() == TALAVORN_NONE && left(0, 0, 0, 0, "", 0, 0), "a malformed domain");
 #undef REFUSED
 }
 
@@ -1100,7 +1129,7 @@ static void explanation_refusals(void)
     text_room = 499;
     size = 65536;
 #define REFUSED(number, at, what) \
-    expect(second(domain, 35, 9) == (number) && made(at, "", ""), what " of the second call"); \
+    expect(second(domain, 39, 9) == (number) && made(at, "", ""), what " of the second call"); \
     expect(second(domain, 0, 0) == (number) && made(at, "", ""), what " without exp")
     REFUSED(TALAVORN_BAD_ADDRESS, 0, "a client of 3 octets");
     given.client = talavorn_bytes(client6, 15);
@@ -1125,11 +1154,11 @@ static void explanation_refusals(void)
     size = 65535;
     REFUSED(TALAVORN_BAD_ENTRY, 0, "a table of other bytes");
     begin_with(TEXT(GONE "\1\0"));
-    REFUSED(TALAVORN_BAD_ENTRY, 17, "a malformed entry");
+    REFUSED(TALAVORN_BAD_ENTRY, 21, "a malformed entry");
     begin_with(TEXT(GONE GONE "\1\0"));
-    REFUSED(TALAVORN_REPEATED_ENTRY, 17, "an entry twice, before a malformed one");
+    REFUSED(TALAVORN_REPEATED_ENTRY, 21, "an entry twice, before a malformed one");
     begin_with(TEXT(GONE));
-    expect(second(domain, 35, 9) == TALAVORN_BAD_EXP && made(0, "", ""),
+    expect(second(domain, 39, 9) == TALAVORN_BAD_EXP && made(0, "", ""),
            "a malformed domain of the second call");
     expect(second(domain, 0, 0) == TALAVORN_FAIL && made(0, "", ""), "the same without exp");
 #undef REFUSED
@@ -1139,44 +1168,47 @@ static void explanation_refusals(void)
 static void failing_records(void)
 {
     begin_record("v=spf1 -all exp=e.example");
-    expect(first() == TALAVORN_FAIL && left(0, 0, 0, "example.com", 35, 9), "exp's argument");
+    expect(first() == TALAVORN_FAIL && left(0, 0, 0, 300, "example.com", 39, 9), "exp's argument");
     name_room = sizeof lent_name;
-    expect(first() == TALAVORN_FAIL && left(0, 0, 0, "example.com", 35, 9), "a longer name buffer");
+    expect(first() == TALAVORN_FAIL && left(0, 0, 0, 300, "example.com", 39, 9),
+           "a longer name buffer");
     begin_record("v=spf1 eXp=E.Example -all");
-    expect(first() == TALAVORN_FAIL && left(0, 0, 0, "example.com", 30, 9), "exp before -all");
+    expect(first() == TALAVORN_FAIL && left(0, 0, 0, 300, "example.com", 34, 9), "exp before -all");
     begin_record("v=spf1 -all");
-    expect(first() == TALAVORN_FAIL && left(0, 0, 0, "example.com", 0, 0), "no exp");
+    expect(first() == TALAVORN_FAIL && left(0, 0, 0, 300, "example.com", 0, 0), "no exp");
     begin_record("v=spf1 -all exp=a..b");
-    expect(first() == TALAVORN_FAIL && left(0, 0, 0, "example.com", 35, 4), "a malformed target");
+    expect(first() == TALAVORN_FAIL && left(0, 0, 0, 300, "example.com", 39, 4),
+           "a malformed target");
     begin_record("v=spf1 -all exp=%{p}.x");
-    expect(first() == TALAVORN_FAIL && left(0, 0, 0, "example.com", 35, 6), "a target with p");
+    expect(first() == TALAVORN_FAIL && left(0, 0, 0, 300, "example.com", 39, 6), "a target with p");
     begin_check();
     put_status(TALAVORN_TYPE_A, TALAVORN_NO_SUCH_NAME, "a");
     put_text("example.com", "v=spf1 -all exp=e.example");
-    expect(first() == TALAVORN_FAIL && left(0, 0, 0, "example.com", 42, 9),
-           "a record behind an entry of 7 bytes");
+    expect(first() == TALAVORN_FAIL && left(0, 0, 0, 300, "example.com", 50, 9),
+           "a record behind an entry of 11 bytes");
     begin_record("v=spf1 exists:g.x -all exp=e.example");
     put_status(TALAVORN_TYPE_A, TALAVORN_ANSWERED, "g.x");
-    expect(first() == TALAVORN_FAIL && left(0, 1, 1, "example.com", 46, 9), "a fail with counts");
+    expect(first() == TALAVORN_FAIL && left(0, 1, 1, 300, "example.com", 50, 9),
+           "a fail with counts");
     begin_record("v=spf1 redirect=B.x exp=a.a");
     put_text("b.x", "v=spf1 -all exp=c.c");
-    expect(first() == TALAVORN_FAIL && left(0, 1, 0, "b.x", 73, 3), "a redirect");
+    expect(first() == TALAVORN_FAIL && left(0, 1, 0, 300, "b.x", 81, 3), "a redirect");
     begin_record("v=spf1 redirect=b.x");
     put_text("b.x", "v=spf1 redirect=C.Y. exp=a.a");
     put_text("c.y", "v=spf1 -all");
-    expect(first() == TALAVORN_FAIL && left(0, 2, 0, "c.y", 0, 0), "two redirects");
+    expect(first() == TALAVORN_FAIL && left(0, 2, 0, 300, "c.y", 0, 0), "two redirects");
     begin_record("v=spf1 -include:b.x exp=a.a");
     put_text("b.x", "v=spf1 +all exp=c.c");
-    expect(first() == TALAVORN_FAIL && left(0, 1, 0, "example.com", 43, 3),
+    expect(first() == TALAVORN_FAIL && left(0, 1, 0, 300, "example.com", 47, 3),
            "an include that matches");
     begin_record("v=spf1 include:b.x -all exp=a.a");
     put_text("b.x", "v=spf1 -all exp=c.c");
-    expect(first() == TALAVORN_FAIL && left(0, 1, 0, "example.com", 47, 3),
+    expect(first() == TALAVORN_FAIL && left(0, 1, 0, 300, "example.com", 51, 3),
            "an include that doesn't match");
     begin_record("v=spf1 -include:b.x");
     put_text("b.x", "v=spf1 redirect=c.y exp=a.a");
     put_text("c.y", "v=spf1 +all exp=c.c");
-    expect(first() == TALAVORN_FAIL && left(0, 2, 0, "example.com", 0, 0),
+    expect(first() == TALAVORN_FAIL && left(0, 2, 0, 300, "example.com", 0, 0),
            "a redirect in an include");
 }
 
@@ -1195,16 +1227,17 @@ static void other_results(void)
     };
     for (size_t i = 0; i < sizeof results / sizeof *results; i++) {
         begin_record(results[i].record);
-        expect(first() == results[i].number && left(0, 0, 0, "", 0, 0), results[i].record);
+        expect(first() == results[i].number && left(0, 0, 0, 300, "", 0, 0), results[i].record);
     }
     begin_check();
     put_status(TALAVORN_TYPE_TXT, TALAVORN_FAILED, "example.com");
-    expect(first() == TALAVORN_TEMPERROR && left(0, 0, 0, "", 0, 0), "a failed record");
+    expect(first() == TALAVORN_TEMPERROR && left(0, 0, 0, 300, "", 0, 0), "a failed record");
     begin_check();
-    expect(first() == TALAVORN_WANTING && left(TALAVORN_TYPE_TXT, 0, 0, "example.com", 0, 0),
+    expect(first() == TALAVORN_WANTING && left(TALAVORN_TYPE_TXT, 0, 0, 0, "example.com", 0, 0),
            "the record's question");
     begin_record("v=spf1 a:G.x -all exp=e.example");
-    expect(first() == TALAVORN_WANTING && left(TALAVORN_TYPE_A, 1, 0, "g.x", 0, 0), "a question");
+    expect(first() == TALAVORN_WANTING && left(TALAVORN_TYPE_A, 1, 0, 300, "g.x", 0, 0),
+           "a question");
 }
 
 #define REVERSE "129.2.0.192.in-addr.arpa"
@@ -1214,7 +1247,7 @@ static void explanations(void)
 {
     begin_record("v=spf1 -all exp=e.example");
 #define ASKS(domain, what) \
-    expect(second(domain, 35, 9) == TALAVORN_WANTING \
+    expect(second(domain, 39, 9) == TALAVORN_WANTING \
                && made(TALAVORN_TYPE_TXT, "e.example", ""), \
            what)
     ASKS("example.com", "the explanation's question");
@@ -1225,7 +1258,7 @@ static void explanations(void)
     begin_record("v=spf1 -all exp=e.example");
     put_text("e.example", "%{d} is not %{o}: %{c} %{h} %{r} %{t}");
 #define MAKES(domain, text, what) \
-    expect(second(domain, 35, 9) == TALAVORN_FAIL && made(0, "", text), what)
+    expect(second(domain, 39, 9) == TALAVORN_FAIL && made(0, "", text), what)
     MAKES("Example.COM.", "example.com is not example.com: 192.0.2.129 h.example unknown 7",
           "a text");
     given.client = talavorn_bytes(mapped, 16);
@@ -1237,13 +1270,13 @@ static void explanations(void)
           "a text for another client");
     expect(second("example.com", 0, 0) == TALAVORN_FAIL && made(0, "", ""), "no exp: no text");
     begin_record("v=spf1 -all exp=a..b");
-    expect(second("example.com", 35, 4) == TALAVORN_FAIL && made(0, "", ""),
+    expect(second("example.com", 39, 4) == TALAVORN_FAIL && made(0, "", ""),
            "the text of a malformed target");
     begin_record("v=spf1 redirect=B.x exp=a.a");
     put_text("b.x", "v=spf1 -all exp=why.%{d}");
-    expect(second("b.x", 73, 8) == TALAVORN_WANTING && made(TALAVORN_TYPE_TXT, "why.b.x", ""),
+    expect(second("b.x", 81, 8) == TALAVORN_WANTING && made(TALAVORN_TYPE_TXT, "why.b.x", ""),
            "d of the failing record");
-    expect(second("example.com", 43, 3) == TALAVORN_WANTING && made(TALAVORN_TYPE_TXT, "a.a", ""),
+    expect(second("example.com", 47, 3) == TALAVORN_WANTING && made(TALAVORN_TYPE_TXT, "a.a", ""),
            "exp of the record before the redirect");
 }
 
@@ -1289,23 +1322,23 @@ static void explanations_with_p(void)
 {
     begin_record("v=spf1 -all exp=%{p}.x");
 #define ASKS_P(kind, name, what) \
-    expect(second("example.com", 35, 6) == TALAVORN_WANTING && made(kind, name, ""), what)
+    expect(second("example.com", 39, 6) == TALAVORN_WANTING && made(kind, name, ""), what)
     ASKS_P(TALAVORN_TYPE_PTR, REVERSE, "p's question for the target");
     append(TALAVORN_TYPE_PTR, 0, TEXT(REVERSE), TEXT("\x0f\0m.b.example.com"), 65535);
     ASKS_P(TALAVORN_TYPE_A, "m.b.example.com", "the address of p's name");
     append(TALAVORN_TYPE_A, 0, TEXT("m.b.example.com"), TEXT("\x04\0\xc0\0\x02\x81"), 65535);
     ASKS_P(TALAVORN_TYPE_TXT, "m.b.example.com.x", "the text of a target with p");
     put_text("m.b.example.com.x", "%{p}");
-    expect(second("example.com", 35, 6) == TALAVORN_FAIL && made(0, "", "m.b.example.com"),
+    expect(second("example.com", 39, 6) == TALAVORN_FAIL && made(0, "", "m.b.example.com"),
            "a text with p");
     begin_record("v=spf1 -all exp=e.example");
     put_text("e.example", "for %{p}");
-    expect(second("example.com", 35, 9) == TALAVORN_WANTING
+    expect(second("example.com", 39, 9) == TALAVORN_WANTING
                && made(TALAVORN_TYPE_PTR, REVERSE, ""),
            "p's question for the text");
     put_status(TALAVORN_TYPE_PTR, TALAVORN_FAILED, REVERSE);
     MAKES("example.com", "for unknown", "no value of p");
-    expect(first() == TALAVORN_FAIL && left(0, 0, 0, "example.com", 35, 9),
+    expect(first() == TALAVORN_FAIL && left(0, 0, 0, 300, "example.com", 39, 9),
            "the first call over the table that has grown");
 }
 
@@ -1318,32 +1351,32 @@ static void exp_places(void)
     const size_t most = SIZE_MAX;
     begin_record("v=spf1 -all exp=e.example");
     NO_EXP("example.com", 0, 9, "place 0");
-    NO_EXP("example.com", 35, 0, "length 0");
-    NO_EXP("example.com", 34, 9, "a place too early");
-    NO_EXP("example.com", 36, 9, "a place too late");
-    NO_EXP("example.com", 35, 8, "a length too short");
-    NO_EXP("example.com", 35, 10, "a length too long");
-    NO_EXP("example.com", 36, 8, "the end of the argument");
-    NO_EXP("example.com", 31, 13, "the whole term");
+    NO_EXP("example.com", 39, 0, "length 0");
+    NO_EXP("example.com", 38, 9, "a place too early");
+    NO_EXP("example.com", 40, 9, "a place too late");
+    NO_EXP("example.com", 39, 8, "a length too short");
+    NO_EXP("example.com", 39, 10, "a length too long");
+    NO_EXP("example.com", 40, 8, "the end of the argument");
+    NO_EXP("example.com", 35, 13, "the whole term");
     NO_EXP("example.com", 16, 9, "the place in the record");
-    NO_EXP("example.com", 0, 44, "the whole entry");
-    NO_EXP("example.com", 44, 9, "a place behind the table");
+    NO_EXP("example.com", 0, 48, "the whole entry");
+    NO_EXP("example.com", 48, 9, "a place behind the table");
     NO_EXP("example.com", most, 9, "the largest place");
-    NO_EXP("example.com", 35, most, "the largest length");
+    NO_EXP("example.com", 39, most, "the largest length");
     NO_EXP("example.com", most, most, "both");
-    NO_EXP("example.com", most - 34, 79, "a sum beyond the largest number, which leaves 44");
-    NO_EXP("example.com", 35, most - 34, "another, which leaves 0");
-    NO_EXP("example.com..", 35, 9, "two dots");
-    NO_EXP("other.x", 35, 9, "a domain that has no entry");
-    NO_EXP("", 35, 9, "an empty domain");
-    NO_EXP("a..b", 35, 9, "a malformed domain");
-    NO_EXP("sub.example.com", 35, 9, "a domain below");
+    NO_EXP("example.com", most - 38, 87, "a sum beyond the largest number, which leaves 48");
+    NO_EXP("example.com", 39, most - 38, "another, which leaves 0");
+    NO_EXP("example.com..", 39, 9, "two dots");
+    NO_EXP("other.x", 39, 9, "a domain that has no entry");
+    NO_EXP("", 39, 9, "an empty domain");
+    NO_EXP("a..b", 39, 9, "a malformed domain");
+    NO_EXP("sub.example.com", 39, 9, "a domain below");
     begin_record("v=spf1 +all exp=e.example");
     expect(first() == TALAVORN_PASS, "a pass");
     ASKS("example.com", "a record that passes");
     begin_check();
     put_text("com", "v=spf1 -all exp=e.example");
-    NO_EXP("com", 27, 9, "a single label");
+    NO_EXP("com", 31, 9, "a single label");
     expect(second("com", 0, 0) == TALAVORN_FAIL && made(0, "", ""), "no exp of a single label");
     expect(second("a..b", 0, 0) == TALAVORN_FAIL && made(0, "", ""), "of a malformed domain");
     expect(second("", 0, 0) == TALAVORN_FAIL && made(0, "", ""), "of an empty domain");
@@ -1358,15 +1391,15 @@ static void exp_tables(void)
     begin_record("v=spf1 -all exp=e.example");
     put_text("b.x", "v=spf1 -all exp=e.example");
     ASKS("example.com", "a table that has grown at its end");
-    NO_EXP("example.com", 71, 9, "the same bytes in another entry");
-    NO_EXP("b.x", 35, 9, "the same bytes in the first entry");
-    expect(second("b.x", 71, 9) == TALAVORN_WANTING && made(TALAVORN_TYPE_TXT, "e.example", ""),
+    NO_EXP("example.com", 79, 9, "the same bytes in another entry");
+    NO_EXP("b.x", 39, 9, "the same bytes in the first entry");
+    expect(second("b.x", 79, 9) == TALAVORN_WANTING && made(TALAVORN_TYPE_TXT, "e.example", ""),
            "those of its own entry");
     begin_check();
     put_status(TALAVORN_TYPE_A, TALAVORN_NO_SUCH_NAME, "a");
     put_text("example.com", "v=spf1 -all exp=e.example");
-    NO_EXP("example.com", 35, 9, "the place of another table");
-    expect(second("example.com", 42, 9) == TALAVORN_WANTING
+    NO_EXP("example.com", 39, 9, "the place of another table");
+    expect(second("example.com", 50, 9) == TALAVORN_WANTING
                && made(TALAVORN_TYPE_TXT, "e.example", ""),
            "that of this table");
 }
@@ -1377,33 +1410,335 @@ static void exp_selection(void)
 #define RECORD "\x19\0v=spf1 -all exp=e.example"
     begin_check();
     append(TALAVORN_TYPE_TXT, 0, TEXT("example.com"), TEXT(RECORD "\x0b\0v=spf1 -all"), 65535);
-    NO_EXP("example.com", 35, 9, "two records");
+    NO_EXP("example.com", 39, 9, "two records");
     begin_check();
     append(TALAVORN_TYPE_TXT, 0, TEXT("example.com"), TEXT("\4\0text" RECORD), 65535);
-    NO_EXP("example.com", 35, 9, "the place without the text before");
-    expect(second("example.com", 41, 9) == TALAVORN_WANTING
+    NO_EXP("example.com", 39, 9, "the place without the text before");
+    expect(second("example.com", 45, 9) == TALAVORN_WANTING
                && made(TALAVORN_TYPE_TXT, "e.example", ""),
            "a record behind another text");
     begin_check();
     append(TALAVORN_TYPE_SPF, 0, TEXT("example.com"), TEXT(RECORD), 65535);
-    NO_EXP("example.com", 35, 9, "an SPF entry");
+    NO_EXP("example.com", 39, 9, "an SPF entry");
     put_status(TALAVORN_TYPE_TXT, TALAVORN_FAILED, "example.com");
-    NO_EXP("example.com", 35, 9, "a failed answer beside it");
+    NO_EXP("example.com", 39, 9, "a failed answer beside it");
     begin_check();
     append(TALAVORN_TYPE_SPF, 0, TEXT("example.com"), TEXT(RECORD), 65535);
     put_status(TALAVORN_TYPE_TXT, TALAVORN_NO_SUCH_NAME, "example.com");
-    NO_EXP("example.com", 35, 9, "no such name beside it");
+    NO_EXP("example.com", 39, 9, "no such name beside it");
     begin_record("v=spf10 -all exp=e.example");
-    NO_EXP("example.com", 36, 9, "another version");
+    NO_EXP("example.com", 40, 9, "another version");
     begin_record("v=spf1 -al exp=e.example");
-    NO_EXP("example.com", 34, 9, "a term outside the grammar");
+    NO_EXP("example.com", 38, 9, "a term outside the grammar");
     begin_record("v=spf1 -all exp=e.example exp=e.example");
-    NO_EXP("example.com", 35, 9, "the first of two exp");
-    NO_EXP("example.com", 49, 9, "the second of two");
+    NO_EXP("example.com", 39, 9, "the first of two exp");
+    NO_EXP("example.com", 53, 9, "the second of two");
     begin_record("v=spf1 -all x=e.example");
-    NO_EXP("example.com", 33, 9, "another modifier");
+    NO_EXP("example.com", 37, 9, "another modifier");
     begin_record("v=spf1 redirect=e.example");
-    NO_EXP("example.com", 35, 9, "redirect's argument");
+    NO_EXP("example.com", 39, 9, "redirect's argument");
+}
+
+/* Appends an entry without items, of a lifetime. */
+static void put_void(uint16_t kind, uint8_t status, uint32_t life, const char *name)
+{
+    lifetime = life;
+    put_status(kind, status, name);
+    lifetime = 300;
+}
+
+/* Appends an entry with these items, of a lifetime. */
+static void put_items(
+    uint16_t kind, uint32_t life, const char *name, const void *bytes, size_t len)
+{
+    lifetime = life;
+    if (append(kind, 0, name, strlen(name), bytes, len, 65535) != 0)
+        expect(0, name);
+    lifetime = 300;
+}
+
+/* A table of one TXT entry for example.com, of a lifetime. */
+static void begin_lifetime(uint32_t life, const char *record)
+{
+    begin_check();
+    lifetime = life;
+    put_text("example.com", record);
+    lifetime = 300;
+}
+
+#define CLIENT "\4\0\xc0\0\2\x81"
+
+/* The smallest lifetime of the entries that were consulted, and of no other. */
+static void lifetimes(void)
+{
+    begin_lifetime(4294967295, "v=spf1 ?all");
+    expect(first() == 1 && left(0, 0, 0, 4294967295, "", 0, 0), "the largest lifetime of all");
+    begin_lifetime(0, "v=spf1 ?all");
+    expect(first() == 1 && left(0, 0, 0, 0, "", 0, 0), "a lifetime of 0");
+    begin_lifetime(50, "v=spf1 a:g.x ?all");
+    expect(first() == 7 && left(TALAVORN_TYPE_A, 1, 0, 50, "g.x", 0, 0), "7 has that so far");
+    put_void(TALAVORN_TYPE_A, TALAVORN_ANSWERED, 7, "g.x");
+    expect(first() == 1 && left(0, 1, 1, 7, "", 0, 0), "a void answer's");
+    begin_lifetime(50, "v=spf1 a:g.x ?all");
+    put_void(TALAVORN_TYPE_A, TALAVORN_FAILED, 7, "g.x");
+    expect(first() == 5 && left(0, 1, 0, 7, "", 0, 0), "a failed answer's");
+    begin_lifetime(50, "v=spf1 a:g.x ?all");
+    put_items(TALAVORN_TYPE_A, 70, "g.x", TEXT(CLIENT));
+    expect(first() == 2 && left(0, 1, 0, 50, "", 0, 0), "a longer one's");
+    begin_check();
+    expect(first() == 7 && left(TALAVORN_TYPE_TXT, 0, 0, 0, "example.com", 0, 0), "no entry's");
+    begin_check();
+    put_void(TALAVORN_TYPE_TXT, TALAVORN_FAILED, 50, "example.com");
+    expect(first() == 5 && left(0, 0, 0, 50, "", 0, 0), "a failed record's");
+    begin_check();
+    put_void(TALAVORN_TYPE_TXT, TALAVORN_NO_SUCH_NAME, 50, "com");
+    given.domain = talavorn_text("com");
+    expect(first() == 0 && left(0, 0, 0, 0, "", 0, 0), "a single label asks nothing");
+    begin_lifetime(50, "v=spf1 include:b.x ?all");
+    put_items(TALAVORN_TYPE_TXT, 40, "b.x", TEXT("\x12\0v=spf1 -exists:c.x"));
+    put_void(TALAVORN_TYPE_A, TALAVORN_NO_SUCH_NAME, 30, "c.x");
+    expect(first() == 1 && left(0, 2, 1, 30, "", 0, 0), "those within an include");
+    begin_lifetime(50, "v=spf1 redirect=b.x");
+    put_items(TALAVORN_TYPE_TXT, 40, "b.x", TEXT("\x0b\0v=spf1 -all"));
+    expect(first() == 3 && left(0, 1, 0, 40, "b.x", 0, 0), "a redirect's");
+    begin_lifetime(50, "v=spf1 exists:a.x exists:b.x ?all");
+    put_void(TALAVORN_TYPE_A, TALAVORN_ANSWERED, 3, "a.x");
+    put_items(TALAVORN_TYPE_A, 9, "b.x", TEXT(CLIENT));
+    expect(first() == 2 && left(0, 2, 1, 3, "", 0, 0), "a term's that didn't match");
+}
+
+/* What decisions are kept for: neither the time nor the receiver changes a result. */
+static void time_and_receiver(void)
+{
+    for (uint64_t seconds = 0; seconds < 2; seconds++) {
+        begin_record("v=spf1 exists:%{t}.x -all");
+        given.seconds = seconds;
+        expect(first() == TALAVORN_PERMERROR && left(0, 0, 0, 300, "", 0, 0), "t in a name");
+        begin_record("v=spf1 exists:%{r}.x -all");
+        given.receiver = talavorn_text(seconds ? "r.example" : "");
+        expect(first() == TALAVORN_PERMERROR && left(0, 0, 0, 300, "", 0, 0), "r in a name");
+    }
+}
+
+/* Entries that no question was for. */
+static void lifetimes_passed_over(void)
+{
+    begin_lifetime(50, "v=spf1 mx -all");
+    put_items(TALAVORN_TYPE_SPF, 1, "example.com", TEXT("\x0b\0v=spf1 +all"));
+    put_items(TALAVORN_TYPE_MX, 60, "example.com", TEXT("\6\0\0\0ok.x" "\5\0\0\0h.x"));
+    put_items(TALAVORN_TYPE_A, 70, "ok.x", TEXT(CLIENT));
+    put_void(TALAVORN_TYPE_AAAA, TALAVORN_ANSWERED, 1, "ok.x");
+    put_void(TALAVORN_TYPE_A, TALAVORN_ANSWERED, 1, "h.x");
+    expect(first() == 2 && left(0, 1, 0, 50, "", 0, 0),
+           "kind SPF, the other family, a host behind the match");
+    begin_lifetime(50, "v=spf1 mx -all");
+    begin_items(sizeof buffer);
+    for (int i = 0; i < 11; i++)
+        talavorn_item_mx(&items, 0, talavorn_text("h.x"));
+    put_items(TALAVORN_TYPE_MX, 60, "example.com", items.bytes, items.len);
+    put_items(TALAVORN_TYPE_A, 1, "h.x", TEXT(CLIENT));
+    expect(first() == 6 && left(0, 1, 0, 50, "", 0, 0), "hosts of eleven");
+    begin_lifetime(50, "v=spf1 exists:%{p}.y -all");
+    put_items(TALAVORN_TYPE_PTR, 60, REVERSE, TEXT("\x0b\0example.com" "\3\0h.x"));
+    put_items(TALAVORN_TYPE_A, 70, "example.com", TEXT(CLIENT));
+    put_items(TALAVORN_TYPE_A, 7, "h.x", TEXT("\4\0\1\2\3\4"));
+    put_items(TALAVORN_TYPE_A, 80, "example.com.y", TEXT(CLIENT));
+    expect(first() == 2 && left(0, 1, 0, 7, "", 0, 0), "p asks behind the domain's own name, too");
+    begin_lifetime(50, "v=spf1 -all exp=e.x");
+    put_items(TALAVORN_TYPE_TXT, 7, "e.x", TEXT("\1\0t"));
+    expect(first() == 3 && left(0, 0, 0, 50, "example.com", 39, 3), "the explanation's");
+    expect(second("example.com", 39, 3) == 3 && made(0, "", "t"), "the second call has none");
+}
+
+/* Rewrites an old table into the front of the buffer, whose bytes are others before. */
+static uint8_t rewrite(const void *old, size_t old_len, size_t room)
+{
+    memset(table, 0xee, sizeof table);
+    memcpy(before, table, sizeof table);
+    size = 77;
+    return talavorn_add_lifetimes(old, old_len, table, room, &size);
+}
+
+/* Whether this new table was written, and no byte besides. */
+static int rewritten(const void *bytes, size_t len)
+{
+    return size == len && memcmp(table, bytes, len) == 0
+           && memcmp(table + len, before + len, sizeof table - len) == 0;
+}
+
+/* Whether a refusal has this place and left the buffer as it was. */
+static int not_rewritten(size_t at)
+{
+    return size == at && memcmp(table, before, sizeof table) == 0;
+}
+
+#define OLD "\5\0\1\0\0\1" "a"
+
+static void old_tables(void)
+{
+    expect(rewrite(TEXT(OLD), 11) == 0
+               && rewritten(TEXT("\x09\0\1\0\0\0\0\0\0\1" "a")),
+           "an old entry in a buffer of the new one's length");
+    expect(rewrite(TEXT(OLD), 65535) == 0 && size == 11, "the same in a larger buffer");
+    expect(rewrite(TEXT(OLD), 10) == TALAVORN_LONG_TABLE && not_rewritten(0),
+           "in a buffer that is a byte too small");
+    expect(rewrite(NULL, 0, 0) == 0 && rewritten("", 0), "an empty table");
+    expect(rewrite(TEXT("\x0d\0\1\0\0\3" "a.b" "\4\0\1\2\3\4" "\5\0\x10\0\3\1" "a"), 65535) == 0
+               && rewritten(TEXT("\x11\0\1\0\0\0\0\0\0\3" "a.b" "\4\0\1\2\3\4"
+                                 "\x09\0\x10\0\3\0\0\0\0\1" "a")),
+           "two entries");
+    expect(talavorn_check_table(table, size, &place) == 0 && place == 2, "the new table's entries");
+    expect(rewrite(TEXT(OLD OLD), 0) == TALAVORN_REPEATED_ENTRY && not_rewritten(7),
+           "an entry twice");
+    expect(rewrite(TEXT(OLD OLD "\n"), 0) == TALAVORN_REPEATED_ENTRY && not_rewritten(7),
+           "an entry twice, before a malformed one");
+    expect(rewrite(TEXT(OLD "\n"), 65535) == TALAVORN_BAD_ENTRY && not_rewritten(7), "a newline");
+    expect(rewrite(TEXT("\x09\0\1\0\0\0\0\0\0\1" "a"), 65535) == TALAVORN_BAD_ENTRY
+               && not_rewritten(0),
+           "a new table");
+    expect(rewrite(TEXT("\x1c\0\x10\0\0\x0b" "example.com" "\x0b\0v=spf1 -all"), 65535) == 0,
+           "an old record");
+    given = usual_mail();
+    expect(first() == TALAVORN_FAIL && left(0, 0, 0, 0, "example.com", 0, 0), "a check over it");
+}
+
+/* An old table that is read as a new one: part of the name stands for the lifetime and a length. */
+static void old_table_as_new(void)
+{
+#define NAME "abc!" "abcdefghijklmnopqrstuvwxyz0123456"
+    begin_with(TEXT("\x29\0\1\0\0\x25" NAME));
+    expect(talavorn_check_table(table, size, &place) == 0 && place == 1, "an old table as it is");
+    expect(rewrite(TEXT("\x29\0\1\0\0\x25" NAME), 65535) == 0
+               && rewritten(TEXT("\x2d\0\1\0\0" "\0\0\0\0" "\x25" NAME)),
+           "the same rewritten");
+}
+
+/* Old tables of 65,531 bytes and above, of one TXT entry, and many entries. */
+static void large_old_tables(void)
+{
+    static uint8_t old[65536];
+    size_t at = 0;
+    for (size_t n = 65531; n <= 65536; n++) {
+        /* 16 texts behind the 7 bytes before the items: 15 of 4,096 bytes, the last fills up */
+        memcpy(old, "\0\0\x10\0\0\1a", 7);
+        old[0] = (uint8_t)((n - 2) % 256);
+        old[1] = (uint8_t)((n - 2) / 256);
+        for (size_t i = 0; i < 15; i++)
+            memcpy(old + 7 + 4098 * i, "\0\x10", 2);
+        old[61477] = (uint8_t)((n - 61479) % 256);
+        old[61478] = (uint8_t)((n - 61479) / 256);
+        if (n == 65531)
+            expect(rewrite(old, n, 65535) == 0 && size == 65535
+                       && memcmp(table, "\xfd\xff\x10\0\0\0\0\0\0\1a", 11) == 0
+                       && memcmp(table + 11, old + 7, n - 7) == 0 && table[65535] == 0xee,
+                   "65,531 bytes");
+        else
+            expect(rewrite(old, n, 65536) == TALAVORN_LONG_TABLE && not_rewritten(0),
+                   "over 65,531 bytes");
+    }
+    expect(rewrite(old, 65535, 65535) == TALAVORN_BAD_ENTRY && not_rewritten(0),
+           "65,535 bytes of a longer entry");
+    for (int i = 0; i < 513; i++) {
+        char name[8];
+        int n = sprintf(name, "n%d", i);
+        const uint8_t header[6] = { (uint8_t)(4 + n), 0, 1, 0, 3, (uint8_t)n };
+        if (i == 512)
+            expect(rewrite(old, at, 65535) == 0 && size == at + 4 * 512, "512 old entries");
+        memcpy(old + at, header, 6);
+        memcpy(old + at + 6, name, (size_t)n);
+        at += 6 + (size_t)n;
+    }
+    expect(rewrite(old, at, 65535) == TALAVORN_BAD_ENTRY && not_rewritten(at - 10),
+           "a 513th old entry");
+}
+
+/* Decisions in the cache. */
+static struct cache cache;
+
+/* Keeps a pass of one lookup and two void answers for a mail. */
+static void keep(const struct talavorn_mail *mail, uint32_t life, uint64_t since, uint64_t now)
+{
+    struct talavorn_answer a = { .number = TALAVORN_PASS, .lookups = 1, .voids = 2 };
+    a.lifetime = life;
+    cache_keep(&cache, mail, &a, since, now);
+}
+
+static void kept_decisions(void)
+{
+    struct talavorn_mail mail = usual_mail(), other;
+    struct talavorn_answer a = { .number = TALAVORN_PASS, .lifetime = 50 };
+    const struct cache_decision *d;
+    memset(&cache, 0, sizeof cache);
+    expect(!cache_find(&cache, &mail, 0) && !cache_find(&cache, &mail, 1000), "an empty cache");
+    keep(&mail, 50, 1000, 1000);
+    d = cache_find(&cache, &mail, 1000);
+    expect(d && d->number == TALAVORN_PASS && d->lookups == 1 && d->voids == 2, "a decision");
+    expect(cache_find(&cache, &mail, 1049) == d, "in the last second of its lifetime");
+    expect(!cache_find(&cache, &mail, 1050), "at the end of its lifetime");
+    expect(!cache_find(&cache, &mail, 999), "before it was made");
+    mail.seconds = 1049;
+    expect(cache_find(&cache, &mail, 1049) == d, "another value of macro t");
+#define OTHER(part, view, what) \
+    (other = mail, other.part = (view), expect(!cache_find(&cache, &other, 1000), what))
+    OTHER(client, talavorn_bytes(network, 4), "another client");
+    OTHER(client, talavorn_bytes(mapped, 16), "the client mapped");
+    OTHER(domain, talavorn_text("example.com"), "another domain");
+    OTHER(sender, talavorn_text("user@example.co"), "another sender");
+    OTHER(helo, talavorn_text(""), "another HELO");
+    OTHER(receiver, talavorn_text("r"), "another receiver");
+    other = mail;
+    other.domain = talavorn_text("Example.com.u");
+    other.sender = talavorn_text("ser@example.com");
+    expect(!cache_find(&cache, &other, 1000), "a byte moved from one part to the next");
+    keep(&mail, 20, 1045, 1045);
+    expect(cache_find(&cache, &mail, 1064) && !cache_find(&cache, &mail, 1065), "decided anew");
+    memset(&cache, 0, sizeof cache);
+    keep(&mail, 0, 1000, 1000);
+    expect(!cache_find(&cache, &mail, 1000), "a lifetime of 0");
+    keep(&mail, 50, 1000, 1049);
+    expect(cache_find(&cache, &mail, 1049) && !cache_find(&cache, &mail, 1050), "a letter parked");
+    memset(&cache, 0, sizeof cache);
+    keep(&mail, 50, 1000, 1050);
+    expect(!cache_find(&cache, &mail, 1050), "one parked for too long");
+    for (unsigned number = 0; number < 256; number++) {
+        memset(&cache, 0, sizeof cache);
+        a.number = (uint8_t)number;
+        cache_keep(&cache, &mail, &a, 1000, 1000);
+        expect(!cache_find(&cache, &mail, 1000) == (7 <= number), "results are kept, 0 to 6");
+    }
+}
+
+/* More decisions than there are places, and arguments of the most bytes. */
+static void full_cache(void)
+{
+    static char domain[257], sender[321], helo[256], receiver[256];
+    static uint8_t octets[CACHE_PLACES + 1][4];
+    struct talavorn_mail mail = usual_mail();
+    memset(&cache, 0, sizeof cache);
+    for (uint8_t i = 0; i <= CACHE_PLACES; i++) {
+        octets[i][3] = i;
+        mail.client = talavorn_bytes(octets[i], 4);
+        /* that of number 7 has least left, though not the smallest lifetime */
+        keep(&mail, i == 7 ? 120 : 100 + i, i == 7 ? 930 : 1000, 1000);
+    }
+    for (uint8_t i = 0; i <= CACHE_PLACES; i++) {
+        mail.client = talavorn_bytes(octets[i], 4);
+        expect(!cache_find(&cache, &mail, 1000) == (i == 7), "the least left is replaced");
+    }
+    memset(domain, 'd', 256);
+    memset(sender, 's', 320);
+    memset(helo, 'h', 255);
+    memset(receiver, 'r', 255);
+    mail.client = talavorn_bytes(client6, 16);
+    mail.domain = talavorn_bytes(domain, 255);
+    mail.sender = talavorn_text(sender);
+    mail.helo = talavorn_text(helo);
+    mail.receiver = talavorn_text(receiver);
+    keep(&mail, 50, 1000, 1000);
+    expect(cache_find(&cache, &mail, 1000) != NULL, "the longest arguments");
+    mail.domain.len = 256;
+    keep(&mail, 50, 1000, 1000);
+    expect(!cache_find(&cache, &mail, 1000), "longer ones, which a check refuses");
 }
 
 /* Adds to an empty table of so much room, as the answer to the question for `A a.b`. */
@@ -1415,32 +1750,36 @@ static uint8_t add(unsigned rcode, const struct talavorn_items *given, size_t ro
     begin_with("", 0);
     memcpy(before, table, sizeof table);
     place = 0;
-    return talavorn_add(&asked, rcode, given, table, room, &size);
+    return talavorn_add(&asked, rcode, lifetime, given, table, room, &size);
 }
 
 static void wrapped_additions(void)
 {
-    static const char failed[] = "\x07\0\x01\0\x02\x03" "a.b";
+    #define UNTIL(life) life "\x03" "a.b"
+    static const char failed[] = "\x0b\0\x01\0\x02" UNTIL("\x2c\1\0\0");
+    static const char unfit[] = "\x0b\0\x01\0\x02" UNTIL("\0\0\0\0");
     begin_items(16);
     talavorn_item_a(&items, client);
-    expect(add(0, &items, 15) == 0
-               && added(0, TEXT("\x0d\0\x01\0\0\x03" "a.b" "\x04\0\xc0\0\x02\x81")),
+    expect(add(0, &items, 19) == 0
+               && added(0, TEXT("\x11\0\x01\0\0" UNTIL("\x2c\1\0\0") "\x04\0\xc0\0\x02\x81")),
            "an answer");
-    expect(add(0, &items, 14) == 0 && added(0, TEXT(failed)), "one that the table has no room for");
-    expect(add(0, &items, 9) == 0 && added(0, TEXT(failed)), "room for a failed one alone");
-    expect(add(0, &items, 8) == TALAVORN_UNFIT_ENTRY && kept(0, 0), "a full table");
-    expect(add(0, NULL, 9) == 0 && added(0, TEXT("\x07\0\x01\0\0\x03" "a.b")), "no records");
-    expect(add(3, &items, 9) == 0 && added(0, TEXT("\x07\0\x01\0\x03\x03" "a.b")), "NXDOMAIN");
-    expect(add(2, &items, 9) == 0 && added(0, TEXT(failed)), "SERVFAIL");
-    expect(add(5, NULL, 9) == 0 && added(0, TEXT(failed)), "REFUSED");
-    expect(add(256, NULL, 9) == 0 && added(0, TEXT(failed)), "an RCODE over 255");
+    expect(add(0, &items, 18) == 0 && added(0, TEXT(unfit)), "one that the table has no room for");
+    expect(add(0, &items, 13) == 0 && added(0, TEXT(unfit)), "room for a failed one alone");
+    expect(add(0, &items, 12) == TALAVORN_UNFIT_ENTRY && kept(0, 0), "a full table");
+    expect(add(0, NULL, 13) == 0 && added(0, TEXT("\x0b\0\x01\0\0" UNTIL("\x2c\1\0\0"))),
+           "no records");
+    expect(add(3, &items, 13) == 0 && added(0, TEXT("\x0b\0\x01\0\x03" UNTIL("\x2c\1\0\0"))),
+           "NXDOMAIN");
+    expect(add(2, &items, 13) == 0 && added(0, TEXT(failed)), "SERVFAIL");
+    expect(add(5, NULL, 13) == 0 && added(0, TEXT(failed)), "REFUSED");
+    expect(add(256, NULL, 13) == 0 && added(0, TEXT(failed)), "an RCODE over 255");
     talavorn_item_txt(&items, talavorn_text("xyz"));
-    expect(!items.unfit && add(0, &items, 65535) == 0 && added(0, TEXT(failed)),
+    expect(!items.unfit && add(0, &items, 65535) == 0 && added(0, TEXT(unfit)),
            "an item of another kind");
     begin_items(7);
     talavorn_item_a(&items, client);
     talavorn_item_a(&items, client);
-    expect(items.unfit && add(0, &items, 65535) == 0 && added(0, TEXT(failed)),
+    expect(items.unfit && add(0, &items, 65535) == 0 && added(0, TEXT(unfit)),
            "an item that had no room");
 }
 
@@ -1475,7 +1814,7 @@ static int played(const char *record, char gone, struct talavorn_answer *a)
             talavorn_item_a(&items, client);
         else
             rcode = TALAVORN_NO_SUCH_NAME;
-        if (talavorn_add(a, rcode, &items, table, sizeof table, &size) != 0)
+        if (talavorn_add(a, rcode, lifetime, &items, table, sizeof table, &size) != 0)
             break;
         questions++;
     }
@@ -1514,7 +1853,7 @@ static int ask_for(const struct talavorn_answer *a, const char *record)
         talavorn_item_txt(&items, talavorn_text(record));
     else
         talavorn_item_txt(&items, talavorn_text("not from %{p}"));
-    return !items.unfit && talavorn_add(a, 0, &items, table, sizeof table, &size) == 0;
+    return !items.unfit && talavorn_add(a, 0, lifetime, &items, table, sizeof table, &size) == 0;
 }
 
 /* Plays a check of this record, both calls, from an empty table. Leaves how many questions the
@@ -1595,6 +1934,14 @@ int main(void)
     exp_places();
     exp_tables();
     exp_selection();
+    lifetimes();
+    lifetimes_passed_over();
+    time_and_receiver();
+    old_tables();
+    old_table_as_new();
+    large_old_tables();
+    kept_decisions();
+    full_cache();
     wrapped_additions();
     void_answers();
     most_questions();

@@ -1,8 +1,8 @@
 /* Checks a client, through talavorn.h: reads client, domain, sender, HELO, receiver and t from
- * standard input, a line each, then the answer table, and prints number, kind or place and both
- * counts on a line, and for 3 and 7 the text or name on a second. For a fail the number, the kind
- * and what stands on the second line are those of the second call. A client or t that cannot be
- * read prints `input`. What it prints is what the proved program check_host prints. */
+ * standard input, a line each, then the answer table, and prints number, kind or place, both counts
+ * and the lifetime on a line, and for 3 and 7 the text or name on a second. For a fail the number,
+ * the kind and what stands on the second line are those of the second call. A client or t that
+ * cannot be read prints `input`. What it prints is what the proved program check_host prints. */
 #include <stdio.h>
 #include <stdlib.h>
 
@@ -103,7 +103,7 @@ static void check(struct bytes rest)
         printf("%zu", a.place);
     else
         putchar('.');
-    printf(" %u %u\n", a.lookups, a.voids);
+    printf(" %u %u %lu\n", a.lookups, a.voids, (unsigned long)a.lifetime);
     if (a.number == TALAVORN_FAIL)
         puts(text);
     if (a.number == TALAVORN_WANTING)

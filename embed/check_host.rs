@@ -1,8 +1,8 @@
 // Checks a client, through talavorn.rs: reads client, domain, sender, HELO, receiver and t from
-// standard input, a line each, then the answer table, and prints number, kind or place and both
-// counts on a line, and for 3 and 7 the text or name on a second. For a fail the number, the kind
-// and what stands on the second line are those of the second call. A client or t that cannot be
-// read prints `input`. What it prints is what the proved program check_host prints.
+// standard input, a line each, then the answer table, and prints number, kind or place, both counts
+// and the lifetime on a line, and for 3 and 7 the text or name on a second. For a fail the number,
+// the kind and what stands on the second line are those of the second call. A client or t that
+// cannot be read prints `input`. What it prints is what the proved program check_host prints.
 mod talavorn;
 
 use std::io::{Read, Write};
@@ -38,7 +38,7 @@ fn read_number(s: &[u8]) -> Option<u64> {
     if s.is_empty() { None } else { Some(value) }
 }
 
-// What is printed: number, kind or place, counts, and a second line.
+// What is printed: number, kind or place, counts and lifetime, and a second line.
 type Shown = (u8, Option<usize>, Counts, Option<Vec<u8>>);
 
 fn wanting(question: Question, counts: Counts) -> Shown {
@@ -47,7 +47,7 @@ fn wanting(question: Question, counts: Counts) -> Shown {
 
 fn refused(refusal: Refusal) -> Shown {
     let place = matches!(refusal.number, 25 | 26).then_some(refusal.place);
-    (refusal.number, place, Counts { lookups: 0, voids: 0 }, None)
+    (refusal.number, place, Counts::default(), None)
 }
 
 fn check(mail: &Mail, table: &[u8]) -> Shown {
@@ -78,9 +78,9 @@ fn main() -> std::io::Result<()> {
         return out.write_all(b"input\n");
     };
     let mail = Mail { client: &client, domain, sender, helo, receiver, seconds };
-    let (number, place, Counts { lookups, voids }, line) = check(&mail, rest);
+    let (number, place, Counts { lookups, voids, lifetime }, line) = check(&mail, rest);
     let place = place.map_or(".".to_string(), |n| n.to_string());
-    writeln!(out, "{number} {place} {lookups} {voids}")?;
+    writeln!(out, "{number} {place} {lookups} {voids} {lifetime}")?;
     if let Some(bytes) = line {
         out.write_all(&bytes)?;
         out.write_all(b"\n")?;

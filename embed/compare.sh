@@ -1,7 +1,8 @@
 #!/bin/sh
-# compare.sh PROGRAM CALLER..: runs each caller and the proved program, check_host, received_line or
-# lint_record, on the same inputs, and compares what they print. The inputs are the program's stored
-# one and those made below; INPUTS may name further files. The status is 0 only if all agree.
+# compare.sh PROGRAM CALLER..: runs each caller and the proved program, check_host, received_line,
+# lint_record or add_lifetimes, on the same inputs, and compares what they print. The inputs are the
+# program's stored one and those made below; INPUTS may name further files. The status is 0 only if
+# all agree.
 set -u
 cd "$(dirname "$0")/.." || exit 2
 program=$1
@@ -19,16 +20,21 @@ usual() {
 }
 # repeat N TEXT: the text N times
 repeat() { i=0; while [ "$i" -lt "$1" ]; do printf '%s' "$2"; i=$((i + 1)); done; }
-# a TXT entry of example.com with the record `v=spf1 -all`, and one of status 3
-record() { printf '\034\000\020\000\000\013example.com\013\000v=spf1 -all'; }
-gone() { printf '\017\000\020\000\003\013example.com'; }
-# one with an explanation behind a void answer, that answer, and the explanation's text
+# a TXT entry of example.com with the record `v=spf1 -all`, for 300 seconds, and one of status 3
+record() { printf '\040\000\020\000\000\054\001\000\000\013example.com\013\000v=spf1 -all'; }
+gone() { printf '\023\000\020\000\003\074\000\000\000\013example.com'; }
+# one with an explanation behind a void answer, for the longest time, that answer, for 100 seconds,
+# and the explanation's text
 explained() {
-    printf '\065\000\020\000\000\013example.com'
+    printf '\071\000\020\000\000\377\377\377\377\013example.com'
     printf '\044\000v=spf1 exists:g.x -all exp=e.example'
-    printf '\007\000\001\000\000\003g.x'
+    void
 }
-text() { printf '\027\000\020\000\000\011e.example\010\000for %%{d}'; }
+void() { printf '\013\000\001\000\000\144\000\000\000\003g.x'; }
+text() { printf '\033\000\020\000\000\007\000\000\000\011e.example\010\000for %%{d}'; }
+# an entry for the longest time, and one as it was before W-209
+longest() { printf '\040\000\020\000\000\377\377\377\377\013example.com\013\000v=spf1 ~all'; }
+old_record() { printf '\034\000\020\000\000\013example.com\013\000v=spf1 -all'; }
 
 checks() {
     : >"$dir/empty"
@@ -38,6 +44,8 @@ checks() {
     { usual; explained; text; } >"$dir/fail_with_text"
     { usual; explained; text; record; } >"$dir/fail_repeated"
     { usual; gone; } >"$dir/none"
+    { usual; longest; } >"$dir/longest_lifetime"
+    { usual; old_record; } >"$dir/old_layout"
     { usual; record; gone; } >"$dir/repeated"
     { usual; record; printf '\001'; } >"$dir/malformed"
     { usual; repeat 4097 0123456789abcdef; } >"$dir/long_table"
@@ -130,11 +138,54 @@ records() {
     mail a "v=spf1 -all$(repeat 9000 ' ')" >"$dir/long_input"
 }
 
+# octal N: the 2 bytes of a length, for printf
+octal() { printf '\\%03o\\%03o' $(($1 % 256)) $(($1 / 256)); }
+# big N: an old table of N bytes, one TXT entry of 15 texts of 4,096 bytes and one more
+big() {
+    # shellcheck disable=SC2059
+    printf "$(octal $(($1 - 2)))"
+    printf '\020\000\000\001a'
+    for _ in 1 2 3 4 5 6 7 8 9 10 11 12 13 14 15; do
+        printf '\000\020'
+        head -c 4096 /dev/zero | tr '\000' x
+    done
+    # shellcheck disable=SC2059
+    printf "$(octal $(($1 - 61479)))"
+    head -c $(($1 - 61479)) /dev/zero | tr '\000' x
+}
+# many N: N old entries of 10 bytes
+many() {
+    i=0
+    while [ "$i" -lt "$1" ]; do
+        printf '\010\000\001\000\003\004n%03d' "$i"
+        i=$((i + 1))
+    done
+}
+rewritings() {
+    : >"$dir/empty"
+    old_record >"$dir/one"
+    { old_record; printf '\005\000\001\000\000\001a'; } >"$dir/two"
+    { old_record; old_record; } >"$dir/repeated"
+    { old_record; old_record; echo; } >"$dir/repeated_first"
+    { old_record; echo; } >"$dir/newline"
+    { old_record; printf '\005\000\001\000\000\001'; } >"$dir/malformed"
+    # the last byte of an A entry's only item is 10
+    printf '\013\000\001\000\000\001a\004\000\001\002\003\n' >"$dir/last_byte"
+    record >"$dir/new_layout"
+    many 512 >"$dir/most_entries"
+    many 513 >"$dir/too_many"
+    for n in 65530 65531 65532 65535 65536 65537; do big "$n" >"$dir/big_$n"; done
+    { big 65537; big 65537; } >"$dir/long_input"
+    head -c 65535 /dev/zero >"$dir/zeros"
+    head -c 65536 /dev/zero >"$dir/more_zeros"
+}
+
 cp "crates/$program/stdin" "$dir/stored"
 case $program in
 check_host) checks ;;
 received_line) lines ;;
 lint_record) records ;;
+add_lifetimes) rewritings ;;
 *) echo "compare.sh: no inputs for $program" >&2; exit 2 ;;
 esac
 

@@ -29,7 +29,7 @@ version=$(sed -n 's/^.define TALAVORN_VERSION "\(.*\)"/\1/p' talavorn.h)
 [ "$(pkg-config --modversion talavorn)" = "$version" ]
 grep -q "\"Talavorn $version\"" talavorn.3 || { echo "talavorn.3: not $version"; exit 1; }
 
-cp relay.c "$dir"
+cp relay.c cache.h "$dir"
 # shellcheck disable=SC2086
 (cd "$dir" && build $cc -std=c99 $flags relay.c $libs -o relay)
 "$dir/relay" >"$dir/printed"
@@ -38,7 +38,7 @@ a relay that sends the text
 client 192.0.2.1
   TXT example.com
   TXT _spf.example.net
-  pass, lookups 1, voids 0
+  pass, lookups 1, voids 0, lifetime 300
   Received-SPF: pass receiver=mx.relay.example; client-ip=192.0.2.1; envelope-from="user@example.com"; helo=mail.example.com; identity=mailfrom
   questions: 2
 client 198.51.100.7
@@ -46,7 +46,7 @@ client 198.51.100.7
   TXT _spf.example.net
   MX example.com
   A mail.example.com
-  pass, lookups 2, voids 0
+  pass, lookups 2, voids 0, lifetime 120
   Received-SPF: pass receiver=mx.relay.example; client-ip=198.51.100.7; envelope-from="user@example.com"; helo=mail.example.com; identity=mailfrom
   questions: 4
 client 203.0.113.9
@@ -55,7 +55,7 @@ client 203.0.113.9
   MX example.com
   A mail.example.com
   A gone.example.com
-  fail, lookups 2, voids 1
+  fail, lookups 2, voids 1, lifetime 60
   Received-SPF: fail receiver=mx.relay.example; client-ip=203.0.113.9; envelope-from="user@example.com"; helo=mail.example.com; identity=mailfrom
   TXT why.example.com
   the domain example.com explains: 203.0.113.9 may not send mail for example.com
@@ -66,7 +66,7 @@ client 2001:db8::1
   MX example.com
   AAAA mail.example.com
   AAAA gone.example.com
-  fail, lookups 2, voids 2
+  fail, lookups 2, voids 2, lifetime 60
   Received-SPF: fail receiver=mx.relay.example; client-ip="2001:db8:0:0:0:0:0:1"; envelope-from="user@example.com"; helo=mail.example.com; identity=mailfrom
   TXT why.example.com
   the domain example.com explains: 2001:db8:0:0:0:0:0:1 may not send mail for example.com
@@ -75,7 +75,7 @@ a relay that sends no text
 client 192.0.2.1
   TXT example.com
   TXT _spf.example.net
-  pass, lookups 1, voids 0
+  pass, lookups 1, voids 0, lifetime 300
   Received-SPF: pass receiver=mx.relay.example; client-ip=192.0.2.1; envelope-from="user@example.com"; helo=mail.example.com; identity=mailfrom
   questions: 2
 client 198.51.100.7
@@ -83,7 +83,7 @@ client 198.51.100.7
   TXT _spf.example.net
   MX example.com
   A mail.example.com
-  pass, lookups 2, voids 0
+  pass, lookups 2, voids 0, lifetime 120
   Received-SPF: pass receiver=mx.relay.example; client-ip=198.51.100.7; envelope-from="user@example.com"; helo=mail.example.com; identity=mailfrom
   questions: 4
 client 203.0.113.9
@@ -92,7 +92,7 @@ client 203.0.113.9
   MX example.com
   A mail.example.com
   A gone.example.com
-  fail, lookups 2, voids 1
+  fail, lookups 2, voids 1, lifetime 60
   Received-SPF: fail receiver=mx.relay.example; client-ip=203.0.113.9; envelope-from="user@example.com"; helo=mail.example.com; identity=mailfrom
   questions: 5
 client 2001:db8::1
@@ -101,19 +101,57 @@ client 2001:db8::1
   MX example.com
   AAAA mail.example.com
   AAAA gone.example.com
-  fail, lookups 2, voids 2
+  fail, lookups 2, voids 2, lifetime 60
   Received-SPF: fail receiver=mx.relay.example; client-ip="2001:db8:0:0:0:0:0:1"; envelope-from="user@example.com"; helo=mail.example.com; identity=mailfrom
   questions: 5
 client 203.0.113.9, parked for the explanation alone: no text is sent
-  fail, lookups 2, voids 1
+  fail, lookups 2, voids 1, lifetime 60
   Received-SPF: fail receiver=mx.relay.example; client-ip=203.0.113.9; envelope-from="user@example.com"; helo=mail.example.com; identity=mailfrom
   questions: 0
 client 203.0.113.9, parked for the explanation alone: the text is sent
-  fail, lookups 2, voids 1
+  fail, lookups 2, voids 1, lifetime 60
   Received-SPF: fail receiver=mx.relay.example; client-ip=203.0.113.9; envelope-from="user@example.com"; helo=mail.example.com; identity=mailfrom
   TXT why.example.com
   the domain example.com explains: 203.0.113.9 may not send mail for example.com
   questions: 1
+a relay that keeps decisions
+client 192.0.2.1, second 0
+  TXT example.com
+  TXT _spf.example.net
+  pass, lifetime 300, questions: 2
+client 192.0.2.1, second 1
+  pass, kept, seconds left: 299
+client 203.0.113.9, second 1
+  TXT example.com
+  TXT _spf.example.net
+  MX example.com
+  A mail.example.com
+  A gone.example.com
+  fail, lifetime 60, questions: 5
+client 203.0.113.9, second 60
+  fail, kept, seconds left: 1
+client 203.0.113.9, second 61
+  TXT example.com
+  TXT _spf.example.net
+  MX example.com
+  A mail.example.com
+  A gone.example.com
+  fail, lifetime 60, questions: 5
+client 203.0.113.9, second 62: the text is sent
+  TXT example.com
+  TXT _spf.example.net
+  MX example.com
+  A mail.example.com
+  A gone.example.com
+  TXT why.example.com
+  fail, lifetime 60, questions: 6
+  the domain example.com explains: 203.0.113.9 may not send mail for example.com
+client 192.0.2.1, second 299
+  pass, kept, seconds left: 1
+client 192.0.2.1, second 300
+  TXT example.com
+  TXT _spf.example.net
+  pass, lifetime 300, questions: 2
 END
 diff "$dir/expected" "$dir/printed"
 echo 'relay.c: built with pkg-config, prints what it should'
@@ -137,10 +175,12 @@ int main()
         return 1;
     talavorn_items items = talavorn_items_in(buffer, sizeof buffer);
     talavorn_item_txt(&items, talavorn_text("v=spf1 -ip4:192.0.2.0/24"));
-    if (talavorn_add(&a, TALAVORN_ANSWERED, &items, table, sizeof table, &size) != 0)
+    if (talavorn_add(&a, TALAVORN_ANSWERED, 60, &items, table, sizeof table, &size) != 0)
         return 1;
     char text[501];
     a = talavorn_check(&mail, table, size);
+    if (a.lifetime != 60)
+        return 1;
     if (talavorn_fail_text(&mail, &a, table, size, text).text_len != 0 || text[0] != 0)
         return 1;
     char line[1501], value[321];
@@ -157,6 +197,8 @@ int main()
     talavorn_breach b = talavorn_breach_at(list, 0);
     if (b.rule != TALAVORN_RULE_AFTER_ALL || b.place != 12
         || std::strcmp(talavorn_rule_name(b.rule), "no mechanism after the first all") != 0)
+        return 1;
+    if (talavorn_add_lifetimes("", 0, table, sizeof table, &n) != 0 || n != 0)
         return 1;
     return std::strcmp(talavorn_result_name(a.number), "fail");
 }

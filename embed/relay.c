@@ -1,28 +1,35 @@
 /* What a relay does that sends the domain's explanation, and what one does that never sends it:
  * each checks four clients from an empty table each. Each question that is wanting is printed and
  * asked, here of a little zone in place of the DNS. Then the result is printed, with the header
- * line that goes into an accepted message, and how many questions were asked. At the end both take
- * up a letter that lacks the explanation's answer alone. */
+ * line that goes into an accepted message, and how many questions were asked. Then both take up a
+ * letter that lacks the explanation's answer alone. At the end a relay keeps its decisions for
+ * their lifetimes, over some minutes. */
 #include <stdio.h>
 
 #include <talavorn.h>
+
+#include "cache.h"
 
 /* The zone: a line for each record. */
 static const struct record {
     const char *name;
     uint16_t type;
     uint16_t preference;    /* of an MX record */
+    uint32_t ttl;
     const char *data;
 } zone[] = {
-    { "example.com", TALAVORN_TYPE_TXT, 0, "some other text" },
-    { "example.com", TALAVORN_TYPE_TXT, 0,
+    { "example.com", TALAVORN_TYPE_TXT, 0, 3600, "some other text" },
+    { "example.com", TALAVORN_TYPE_TXT, 0, 3600,
       "v=spf1 include:_spf.example.net mx -all exp=why.%{d}" },
-    { "_spf.example.net", TALAVORN_TYPE_TXT, 0, "v=spf1 ip4:192.0.2.0/25 -all" },
-    { "example.com", TALAVORN_TYPE_MX, 20, "gone.example.com." },
-    { "example.com", TALAVORN_TYPE_MX, 10, "Mail.Example.COM." },
-    { "mail.example.com", TALAVORN_TYPE_A, 0, "198.51.100.7" },
-    { "why.example.com", TALAVORN_TYPE_TXT, 0, "%{c} may not send mail for %{d}" },
+    { "_spf.example.net", TALAVORN_TYPE_TXT, 0, 300, "v=spf1 ip4:192.0.2.0/25 -all" },
+    { "example.com", TALAVORN_TYPE_MX, 20, 3600, "gone.example.com." },
+    { "example.com", TALAVORN_TYPE_MX, 10, 3600, "Mail.Example.COM." },
+    { "mail.example.com", TALAVORN_TYPE_A, 0, 120, "198.51.100.7" },
+    { "why.example.com", TALAVORN_TYPE_TXT, 0, 30, "%{c} may not send mail for %{d}" },
 };
+
+/* How long it holds that a name or a record isn't there: in the DNS the SOA record says so. */
+static const uint32_t negative_ttl = 60;
 
 static void put_item(struct talavorn_items *items, const struct record *r)
 {
@@ -41,16 +48,21 @@ static void put_item(struct talavorn_items *items, const struct record *r)
     }
 }
 
-/* Asks the zone: an item for each record of the type; returns the RCODE. */
-static unsigned ask(const char *name, uint16_t type, struct talavorn_items *items)
+/* Asks the zone: an item for each record of the type, and the smallest TTL; returns the RCODE. */
+static unsigned ask(
+    const char *name, uint16_t type, struct talavorn_items *items, uint32_t *lifetime)
 {
-    unsigned rcode = TALAVORN_NO_SUCH_NAME;
+    unsigned rcode = TALAVORN_NO_SUCH_NAME, records = 0;
+    *lifetime = negative_ttl;
     for (size_t i = 0; i < sizeof zone / sizeof *zone; i++) {
         if (strcmp(zone[i].name, name) != 0)
             continue;
         rcode = TALAVORN_ANSWERED;
-        if (zone[i].type == type)
-            put_item(items, &zone[i]);
+        if (zone[i].type != type)
+            continue;
+        put_item(items, &zone[i]);
+        if (records++ == 0 || zone[i].ttl < *lifetime)
+            *lifetime = zone[i].ttl;
     }
     return rcode;
 }
@@ -72,6 +84,7 @@ struct letter {
     uint8_t client[16], table[65535];
     size_t size;
     unsigned asked;
+    uint64_t begun;         /* when its table was begun: the lifetimes in it run from then on */
 };
 
 /* Asks for what is wanting and adds the answer to the letter's table; returns whether it could. */
@@ -79,10 +92,11 @@ static int ask_for(struct letter *l, const struct talavorn_answer *wanting)
 {
     static uint8_t buffer[65535]; /* one for each thread */
     struct talavorn_items items = talavorn_items_in(buffer, sizeof buffer);
-    unsigned rcode = ask(wanting->name, wanting->kind, &items);
+    uint32_t lifetime;
+    unsigned rcode = ask(wanting->name, wanting->kind, &items, &lifetime);
     printf("  %s %s\n", type_name(wanting->kind), wanting->name);
     l->asked++;
-    return talavorn_add(wanting, rcode, &items, l->table, sizeof l->table, &l->size) == 0;
+    return talavorn_add(wanting, rcode, lifetime, &items, l->table, sizeof l->table, &l->size) == 0;
 }
 
 /* The result. Nothing is asked for the explanation. */
@@ -92,6 +106,7 @@ static struct talavorn_answer decide(struct letter *l)
     while ((a = talavorn_check(&l->mail, l->table, l->size)).number == TALAVORN_WANTING)
         if (!ask_for(l, &a)) {
             a.number = TALAVORN_TEMPERROR; /* nothing was added: the table is full */
+            a.lifetime = 0;
             break;
         }
     return a;
@@ -118,7 +133,8 @@ static void handle(struct letter *l, int sends_text)
         printf("  no result: refused, number %u\n", a.number);
         return;
     }
-    printf("  %s, lookups %u, voids %u\n", talavorn_result_name(a.number), a.lookups, a.voids);
+    printf("  %s, lookups %u, voids %u, lifetime %u\n", talavorn_result_name(a.number), a.lookups,
+           a.voids, (unsigned)a.lifetime);
     n = talavorn_received(&l->mail, a.number, TALAVORN_IDENTITY_MAILFROM, line);
     if (n) /* without its CR LF */
         printf("  %.*s\n", (int)n - 2, line);
@@ -129,7 +145,7 @@ static void handle(struct letter *l, int sends_text)
     printf("  questions: %u\n", l->asked);
 }
 
-static void begin(struct letter *l, const char *client)
+static void begin(struct letter *l, const char *client, uint64_t now)
 {
     size_t family = talavorn_read_address(client, strlen(client), l->client);
     struct talavorn_mail mail = {
@@ -138,10 +154,63 @@ static void begin(struct letter *l, const char *client)
         .sender = talavorn_text("user@example.com"),
         .helo = talavorn_text("mail.example.com"),
         .receiver = talavorn_text("mx.relay.example"),
-        .seconds = 1700000000,
+        .seconds = now,
     };
     l->mail = mail;
     l->size = 0;
+    l->begun = now;
+}
+
+/* A letter of a relay that keeps decisions. A kept fail has no text, and its table is gone: if the
+ * text is sent the letter is decided from its own table, as the first of its kind was. */
+static void handle_kept(struct cache *cache, struct letter *l, int sends_text, uint64_t now)
+{
+    const struct cache_decision *kept = cache_find(cache, &l->mail, now);
+    char text[501] = "";
+    struct talavorn_answer a;
+    if (kept && !(sends_text && kept->number == TALAVORN_FAIL)) {
+        printf("  %s, kept, seconds left: %u\n", talavorn_result_name(kept->number),
+               (unsigned)cache_left(kept, now));
+        return;
+    }
+    l->asked = 0;
+    a = decide(l);
+    cache_keep(cache, &l->mail, &a, l->begun, now);
+    if (a.number == TALAVORN_FAIL && sends_text)
+        explain(l, &a, text);
+    printf("  %s, lifetime %u, questions: %u\n", talavorn_result_name(a.number),
+           (unsigned)a.lifetime, l->asked);
+    if (*text)
+        printf("  the domain %s explains: %s\n", a.name, text);
+}
+
+/* A mailing list's run: the same two clients again and again. */
+static void play_run(void)
+{
+    static const struct {
+        unsigned at;
+        const char *client;
+        int sends_text;
+    } run[] = {
+        { 0, "192.0.2.1", 0 },
+        { 1, "192.0.2.1", 0 },
+        { 1, "203.0.113.9", 0 },
+        { 60, "203.0.113.9", 0 },
+        { 61, "203.0.113.9", 0 },
+        { 62, "203.0.113.9", 1 },
+        { 299, "192.0.2.1", 0 },
+        { 300, "192.0.2.1", 0 },
+    };
+    static struct cache cache;
+    static struct letter l;
+    puts("a relay that keeps decisions");
+    for (size_t i = 0; i < sizeof run / sizeof *run; i++) {
+        uint64_t now = 1700000000 + run[i].at;
+        printf("client %s, second %u%s\n", run[i].client, run[i].at,
+               run[i].sends_text ? ": the text is sent" : "");
+        begin(&l, run[i].client, now);
+        handle_kept(&cache, &l, run[i].sends_text, now);
+    }
 }
 
 int main(void)
@@ -154,7 +223,7 @@ int main(void)
         puts(sends_text ? "a relay that sends the text" : "a relay that sends no text");
         for (size_t i = 0; i < sizeof clients / sizeof *clients; i++) {
             printf("client %s\n", clients[i]);
-            begin(&letters[i], clients[i]);
+            begin(&letters[i], clients[i], 1700000000);
             handle(&letters[i], sends_text);
         }
     }
@@ -163,5 +232,6 @@ int main(void)
     handle(&letters[2], 0);
     printf("client %s, parked for the explanation alone: the text is sent\n", clients[2]);
     handle(&letters[2], 1);
+    play_run();
     return 0;
 }

@@ -59,6 +59,7 @@ extern "C" {
  *     2 bytes  the length of all that follows in it
  *     2 bytes  kind, the DNS type that was asked
  *     1 byte   status
+ *     4 bytes  lifetime: the seconds for which the answer holds, any number
  *     1 byte   the length of the name
  *     the name that was asked
  *     items up to the entry's end, one for each record: a 2-byte length and as many bytes
@@ -87,8 +88,16 @@ extern "C" {
  * - A reply that the layout can't hold goes in as failed. But one odd name or text needn't fail all
  *   of the reply: see talavorn_item_ptr, talavorn_item_mx and talavorn_item_txt.
  *
- * An entry doesn't expire: a table is for the checks of one message, HELO and MAIL FROM, and begins
- * empty, or with answers from the caller's cache. */
+ * Lifetimes: the smallest TTL among the reply's records, followed CNAMEs' included. For a reply
+ * without records RFC 2308 has the smaller of the TTL and the MINIMUM of its SOA record. What isn't
+ * known to hold for a while, as a failed question, has 0: no result that rests on it is kept.
+ *
+ * A lifetime changes no result, and no entry is dropped when it is over: a table is for the checks
+ * of one message, HELO and MAIL FROM, and begins empty, or with answers from the caller's cache,
+ * with what is left of their lifetimes. talavorn_evaluate says for how long its result may be kept.
+ *
+ * Before W-209 entries had no lifetime: talavorn_add_lifetimes rewrites such a table. Don't lend
+ * one as it is: mostly it is refused with 25, but not always. */
 
 /* Kinds: DNS types. No check asks for kind SPF, and an entry of that kind changes no answer: it is
  * checked like any other, counts among the 512 and is then ignored, as records are TXT's alone
@@ -172,10 +181,11 @@ enum {
     TALAVORN_PLACE = 0,
     TALAVORN_LOOKUPS = 1,           /* lookups begun, 0 to 10 */
     TALAVORN_VOIDS = 2,             /* void answers met, 0 to 3; the third gives 6 */
-    TALAVORN_LENGTH = 3,            /* 7: the name's length. 3: the domain's length. Otherwise 0 */
-    TALAVORN_EXP_PLACE = 4,         /* 3: the place of exp's argument in the table. Otherwise 0 */
-    TALAVORN_EXP_LENGTH = 5,        /* 3: its length. Otherwise 0. Both are 0 without exp */
-    TALAVORN_VALUES = 6
+    TALAVORN_LIFETIME = 3,          /* the consulted entries' smallest lifetime; 0 for none */
+    TALAVORN_LENGTH = 4,            /* 7: the name's length. 3: the domain's length. Otherwise 0 */
+    TALAVORN_EXP_PLACE = 5,         /* 3: the place of exp's argument in the table. Otherwise 0 */
+    TALAVORN_EXP_LENGTH = 6,        /* 3: its length. Otherwise 0. Both are 0 without exp */
+    TALAVORN_VALUES = 7
 };
 
 /* Evaluates a domain for a client: check_host() but for the explanation.
@@ -194,26 +204,34 @@ enum {
  * and the HELO name. RFC 7208 recommends the HELO check (2.3); MAIL FROM is checked, too, unless
  * HELO's result already decided (2.4).
  *
- * Tests in this order, and returns the first that holds, with counts of 0 and nothing written to
- * name:
+ * Tests in this order, and returns the first that holds, with counts and lifetime 0 and nothing
+ * written to name:
  *     90  client isn't 4 or 16 octets
  *     20  sender, 21 helo or receiver, 22 domain, 23 name buffer, 24 table
  *     25 or 26, whichever has the earlier place in the table, 25 if equal; the place in values[0]
  * Otherwise returns
- *     0 to 6  the result, with both counts
+ *     0 to 6  the result, with both counts and the lifetime
  *     3       has, besides, what talavorn_explain makes the text from. The failing record's domain
- *             is written at the front of name, values[3] bytes, 3 to 253: lowered and without a
+ *             is written at the front of name, values[4] bytes, 3 to 253: lowered and without a
  *             trailing dot, as macro d shows it. The failing record is the one whose mechanism
  *             matched: behind redirects the last one, and never an included one. The argument of
- *             its exp, all that follows `exp=`, is the values[5] bytes of the table from the place
- *             values[4] on; both are 0 where it has no exp, and only there
+ *             its exp, all that follows `exp=`, is the values[6] bytes of the table from the place
+ *             values[5] on; both are 0 where it has no exp, and only there
  *     7       a question is needed that has no entry: its kind, the DNS type to ask (A, PTR, MX,
  *             TXT or AAAA), is in values[0], and its name is written at the front of name,
- *             values[3] bytes, 1 to 253. The counts are those so far. Ask the DNS, add an entry for
- *             this kind and name, and call again
+ *             values[4] bytes, 1 to 253. Counts and lifetime are those so far. Ask the DNS, add an
+ *             entry for this kind and name, and call again
  * Only 3 and 7 write to name. All of values is written by every call.
  *
  * No question is for the explanation: neither its TXT question nor macro p's for it.
+ *
+ * The lifetime, in values[3], is for how many seconds the result may be kept, 0 to 4,294,967,295:
+ * the smallest among the entries that were consulted. Consulted is each entry that a question of
+ * this call found: of records, of a, mx, ptr and exists, of hosts and names, of macro p; void and
+ * failed ones too, whether or not the result hangs on them. Not consulted are entries that no
+ * question was for: of hosts behind a match, of names after the tenth, of kind SPF, of the
+ * explanation. The lifetime is 0 where none was consulted: for the result of a malformed or
+ * single-label domain, and for 7 at the first question.
  *
  * A void answer is an entry of status 3, or of status 0 without items, for a question of a, mx, ptr
  * or exists; the addresses of mx hosts and ptr names are such questions. It counts each time it is
@@ -236,7 +254,7 @@ uint8_t talavorn_evaluate(
     uint64_t seconds,
     const void *table, size_t table_len,
     void *name, size_t name_len,
-    size_t values[6]);
+    size_t values[7]);
 
 /* Where what talavorn_explain writes stands in `values`. */
 enum {
@@ -250,7 +268,7 @@ enum {
  *
  * domain    the failing record's, as talavorn_evaluate wrote it to its name buffer; one trailing
  *           dot would be dropped and A to Z lowered
- * place, size  values[4] and values[5] of talavorn_evaluate: exp's argument in the table
+ * place, size  values[5] and values[6] of talavorn_evaluate: exp's argument in the table
  * name      at least 253 bytes. NOT the buffer in which the domain stands, which is read while name
  *           is written: lend another one, or copy the domain
  * text      at least 500 bytes
@@ -273,7 +291,7 @@ enum {
  *        A or AAAA. Its kind is in values[0], and its name is written at the front of name,
  *        values[1] bytes, 1 to 253. Add the answer, and call again
  * 3 writes to text only, and 7 to name only. All of values is written by every call. There are no
- * counts: an explanation counts nothing.
+ * counts and no lifetime: an explanation counts nothing, and its entries are no part of the result.
  *
  * The place belongs to the table that it was given with. A table that has grown at its end keeps
  * every place, so that 7 is answered by adding an entry. In one that has changed before it the
@@ -295,6 +313,7 @@ uint8_t talavorn_explain(
  *
  * kind      TALAVORN_TYPE_A and so on
  * status    TALAVORN_ANSWERED, TALAVORN_FAILED or TALAVORN_NO_SUCH_NAME
+ * lifetime  in seconds, any number for any status
  * name      the name that was asked; A to Z are lowered
  * items     the items end to end, each led by its 2-byte length; taken as given
  * table     a buffer of `room` bytes, of which the first *size are the table
@@ -309,11 +328,28 @@ uint8_t talavorn_explain(
  * Otherwise returns 0: the entry is written behind the table and *size is the new table's length.
  * *place is written by every call: 0 but for 25 and 26. */
 uint8_t talavorn_append_entry(
-    uint16_t kind, uint8_t status,
+    uint16_t kind, uint8_t status, uint32_t lifetime,
     const void *name, size_t name_len,
     const void *items, size_t items_len,
     void *table, size_t room, size_t *size,
     size_t *place);
+
+/* Rewrites a table of the layout before W-209, whose entries have no lifetime, with a lifetime of 0
+ * in each entry: the name's length stood just after the status, and all else is as in section 3.
+ *
+ * old       the old table, up to 65,535 bytes
+ * new_table a buffer of `room` bytes; the new table has four more than the old for each entry
+ *
+ * Tests in this order, and returns the first that holds, with nothing written to new_table:
+ *     24  the old table is over 65,535 bytes; *value is 0
+ *     25 or 26, whichever has the earlier place in the old table, 25 if equal; the place in *value
+ *     24  the new table would be over 65,535 bytes or over `room`; *value is 0
+ * Otherwise returns 0: the new table is written at the front of new_table, *value bytes. *value is
+ * written by every call.
+ *
+ * What is checked over the new table has lifetime 0, so that no relay keeps it. */
+uint8_t talavorn_add_lifetimes(
+    const void *old, size_t old_len, void *new_table, size_t room, size_t *value);
 
 /* Checks a table, as talavorn_evaluate does.
  *
@@ -571,6 +607,7 @@ uint8_t talavorn_read_address(const void *text, size_t text_len, uint8_t octets[
  *     while ((a = talavorn_check(&mail, table, size)).number == TALAVORN_WANTING)
  *         if (!ask_for(&a)) {
  *             a.number = TALAVORN_TEMPERROR;
+ *             a.lifetime = 0;
  *             break;
  *         }
  *     if (20 <= a.number)
@@ -588,11 +625,12 @@ uint8_t talavorn_read_address(const void *text, size_t text_len, uint8_t octets[
  * where `ask_for(w)` answers what is wanting, and says whether it could:
  *
  *     struct talavorn_items items = talavorn_items_in(buffer, sizeof buffer);
- *     unsigned rcode = ask(w->name, w->kind, &items);
- *     return talavorn_add(w, rcode, &items, table, sizeof table, &size) == 0;
+ *     uint32_t lifetime;
+ *     unsigned rcode = ask(w->name, w->kind, &items, &lifetime);
+ *     return talavorn_add(w, rcode, lifetime, &items, table, sizeof table, &size) == 0;
  *
- * `ask` asks the DNS, calls talavorn_item_a and so on for each record, and returns the RCODE; and
- * `refused` does what section 4 says. */
+ * `ask` asks the DNS, calls talavorn_item_a and so on for each record, leaves the lifetime that
+ * section 3 speaks of, and returns the RCODE; and `refused` does what section 4 says. */
 
 /* Bytes to be read. */
 struct talavorn_view {
@@ -630,6 +668,7 @@ struct talavorn_answer {
     uint16_t kind;                  /* 7: the DNS type to ask; otherwise 0 */
     size_t place;                   /* 25, 26: the place in the table; otherwise 0 */
     unsigned lookups, voids;
+    uint32_t lifetime;              /* for how many seconds the result may be kept */
     size_t exp_place, exp_len;      /* talavorn_check's 3: exp's argument in the table, 0 and 0 for
                                        none; otherwise 0 */
     size_t text_len;                /* talavorn_fail_text's 3: the text's length; otherwise 0 */
@@ -656,6 +695,7 @@ static inline struct talavorn_answer talavorn_check(
         a.place = values[TALAVORN_PLACE];
     a.lookups = (unsigned)values[TALAVORN_LOOKUPS];
     a.voids = (unsigned)values[TALAVORN_VOIDS];
+    a.lifetime = (uint32_t)values[TALAVORN_LIFETIME];
     a.name_len = values[TALAVORN_LENGTH];
     a.exp_place = values[TALAVORN_EXP_PLACE];
     a.exp_len = values[TALAVORN_EXP_LENGTH];
@@ -669,7 +709,8 @@ static inline struct talavorn_answer talavorn_check(
  * failed    talavorn_check's answer, with the number 3
  * table     the table of that check, or one that has grown at its end since
  *
- * The counts of 3 and 7 are those of `failed`: both answers together are a whole check_host(). */
+ * The counts and the lifetime of 3 and 7 are those of `failed`: both answers together are a whole
+ * check_host(). */
 static inline struct talavorn_answer talavorn_fail_text(
     const struct talavorn_mail *mail, const struct talavorn_answer *failed, const void *table,
     size_t table_len, char text[501])
@@ -692,6 +733,7 @@ static inline struct talavorn_answer talavorn_fail_text(
     if (a.number == TALAVORN_WANTING || a.number == TALAVORN_FAIL) {
         a.lookups = failed->lookups;
         a.voids = failed->voids;
+        a.lifetime = failed->lifetime;
     }
     text[a.text_len] = 0;
     return a;
@@ -917,32 +959,35 @@ static inline void talavorn_item_txt(struct talavorn_items *items, struct talavo
  *
  * asked     an answer of talavorn_check or talavorn_fail_text with the number 7
  * rcode     the reply's RCODE; TALAVORN_FAILED where there was no reply
+ * lifetime  in seconds; section 3 says which
  * items     the reply's records, used for RCODE 0 only; NULL for none
  *
  * RCODE 0 goes in as answered with the items, 3 as no such name, any other one as failed. An answer
  * goes in as failed, too, if its items are unfit or don't have the kind's layout, if every PTR name
- * was left out, or if the table has no room for it.
+ * was left out, or if the table has no room for it. It then has lifetime 0: nobody answered so.
  * Returns 0, or talavorn_append_entry's number if nothing was added: 65 where the table is full, 64
  * where the question has its entry already, 24 to 26 where the table isn't accepted. 64 can't
  * happen to a question that a check over this table wanted, nor 24 to 26 to a table that was begun
  * empty and only added to. */
 static inline uint8_t talavorn_add(
-    const struct talavorn_answer *asked, unsigned rcode, const struct talavorn_items *items,
-    void *table, size_t room, size_t *size)
+    const struct talavorn_answer *asked, unsigned rcode, uint32_t lifetime,
+    const struct talavorn_items *items, void *table, size_t room, size_t *size)
 {
     size_t place;
     uint8_t number = TALAVORN_UNFIT_ENTRY;
     if (rcode == TALAVORN_NO_SUCH_NAME || (rcode == TALAVORN_ANSWERED && !items))
         number = talavorn_append_entry(
-            asked->kind, (uint8_t)rcode, asked->name, asked->name_len, NULL, 0,
+            asked->kind, (uint8_t)rcode, lifetime, asked->name, asked->name_len, NULL, 0,
             table, room, size, &place);
     else if (rcode == TALAVORN_ANSWERED && !items->unfit && (items->len || !items->names))
         number = talavorn_append_entry(
-            asked->kind, TALAVORN_ANSWERED, asked->name, asked->name_len, items->bytes, items->len,
-            table, room, size, &place);
+            asked->kind, TALAVORN_ANSWERED, lifetime, asked->name, asked->name_len,
+            items->bytes, items->len, table, room, size, &place);
+    if (rcode == TALAVORN_ANSWERED || rcode == TALAVORN_NO_SUCH_NAME)
+        lifetime = 0;
     if (number == TALAVORN_UNFIT_ENTRY)
         number = talavorn_append_entry(
-            asked->kind, TALAVORN_FAILED, asked->name, asked->name_len, NULL, 0,
+            asked->kind, TALAVORN_FAILED, lifetime, asked->name, asked->name_len, NULL, 0,
             table, room, size, &place);
     return number;
 }

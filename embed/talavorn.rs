@@ -1,5 +1,5 @@
-//! Talavorn's calls for Rust: declarations of those that a check, its header line and the house
-//! rules need, and a safe function over each. talavorn.h says what they do. A program says
+//! Talavorn's calls for Rust: declarations of those that a check, its header line, the house rules
+//! and old tables need, and a safe function over each. talavorn.h says what they do. A program says
 //! `mod talavorn;`, has this file beside it, and links the static library. rustc 1.82 or later, any
 //! edition.
 #![allow(dead_code)] // a program uses what it needs
@@ -53,7 +53,7 @@ unsafe extern "C" {
         seconds: u64,
         table: *const u8, table_len: usize,
         name: *mut u8, name_len: usize,
-        values: *mut [usize; 6],
+        values: *mut [usize; 7],
     ) -> u8;
     fn talavorn_explain(
         client: *const u8, client_len: usize,
@@ -69,11 +69,14 @@ unsafe extern "C" {
         values: *mut [usize; 2],
     ) -> u8;
     fn talavorn_append_entry(
-        kind: u16, status: u8,
+        kind: u16, status: u8, lifetime: u32,
         name: *const u8, name_len: usize,
         items: *const u8, items_len: usize,
         table: *mut u8, room: usize, size: *mut usize,
         place: *mut usize,
+    ) -> u8;
+    fn talavorn_add_lifetimes(
+        old: *const u8, old_len: usize, new: *mut u8, room: usize, value: *mut usize,
     ) -> u8;
     fn talavorn_read_address(text: *const u8, text_len: usize, octets: *mut [u8; 16]) -> u8;
     fn talavorn_write_line(
@@ -113,10 +116,13 @@ pub struct Mail<'a> {
 
 /// Lookups begun, 0 to 10, and void answers met, 0 to 3: those without items to the questions of a,
 /// mx, ptr and exists, mx hosts' and ptr names' addresses included. The third gives `PERMERROR`.
-#[derive(Clone, Copy, Debug, PartialEq)]
+/// With them the lifetime: for how many seconds the result may be kept, the smallest among the
+/// entries that were consulted, or 0 if none was.
+#[derive(Clone, Copy, Debug, Default, PartialEq)]
 pub struct Counts {
     pub lookups: usize,
     pub voids: usize,
+    pub lifetime: u32,
 }
 
 /// A question that has no entry in the table: ask the DNS, append an entry for this kind and name,
@@ -160,8 +166,8 @@ pub enum Explanation {
     Refused(Refusal),
 }
 
-/// A refusal: its number, and the place, for 25 and 26 in the table and for 30 to 33 in the record;
-/// otherwise 0.
+/// A refusal: its number, and the place, for 25 and 26 in the table, the old one where it is
+/// rewritten, and for 30 to 33 in the record; otherwise 0.
 #[derive(Clone, Debug, PartialEq)]
 pub struct Refusal {
     pub number: u8,
@@ -200,7 +206,7 @@ pub struct Breach {
 
 /// Evaluates a domain for a client over a table of DNS answers.
 pub fn evaluate(mail: &Mail, table: &[u8]) -> Answer {
-    let (mut name, mut values) = ([0; 253], [0; 6]);
+    let (mut name, mut values) = ([0; 253], [0; 7]);
     let number = unsafe {
         talavorn_evaluate(
             mail.client.as_ptr(), mail.client.len(),
@@ -214,8 +220,9 @@ pub fn evaluate(mail: &Mail, table: &[u8]) -> Answer {
             &mut values,
         )
     };
-    let [first, lookups, voids, length, place, size] = values;
-    let (counts, written) = (Counts { lookups, voids }, name[..length].to_vec());
+    let [first, lookups, voids, lifetime, length, place, size] = values;
+    let counts = Counts { lookups, voids, lifetime: lifetime as u32 };
+    let written = name[..length].to_vec();
     match number {
         FAIL => Answer::Fail(Failing { domain: written, place, size }, counts),
         NONE..=PERMERROR => Answer::Decided(number, counts),
@@ -256,8 +263,9 @@ pub fn explain(mail: &Mail, failing: &Failing, table: &[u8]) -> Explanation {
 
 /// Appends an entry to the table in the first `size` bytes of a buffer, and moves `size` on.
 ///
-/// `name` is the name that was asked. `items` has an item for each record of the asked type, in the
-/// reply's order: a 2-byte length, and then
+/// `lifetime` is for how many seconds the answer holds: the smallest TTL among the reply's records,
+/// followed CNAMEs' included; 0 where that isn't known. `name` is the name that was asked. `items`
+/// has an item for each record of the asked type, in the reply's order: a 2-byte length, and then
 /// - A: 4 octets; AAAA: 16 octets;
 /// - PTR: a name;
 /// - MX: a 2-byte preference and a name, or no name where the host is the root;
@@ -269,12 +277,13 @@ pub fn explain(mail: &Mail, failing: &Failing, table: &[u8]) -> Explanation {
 /// append the answer as `FAILED` and without items; if that is refused with 65, too, the table is
 /// full, or kind or name breaks a rule.
 pub fn append_entry(
-    kind: u16, status: u8, name: &[u8], items: &[u8], table: &mut [u8], size: &mut usize,
+    kind: u16, status: u8, lifetime: u32, name: &[u8], items: &[u8], table: &mut [u8],
+    size: &mut usize,
 ) -> Result<(), Refusal> {
     let mut place = 0;
     let number = unsafe {
         talavorn_append_entry(
-            kind, status,
+            kind, status, lifetime,
             name.as_ptr(), name.len(),
             items.as_ptr(), items.len(),
             table.as_mut_ptr(), table.len(), size,
@@ -282,6 +291,23 @@ pub fn append_entry(
         )
     };
     if number == 0 { Ok(()) } else { Err(Refusal { number, place }) }
+}
+
+/// Rewrites a table of the layout before W-209, whose entries have no lifetime: the new table, with
+/// a lifetime of 0 in each entry. Refused are 24, the old table or the new one over 65,535 bytes,
+/// and 25 and 26 with the place in the old table.
+pub fn add_lifetimes(old: &[u8]) -> Result<Vec<u8>, Refusal> {
+    let (mut new, mut value) = (vec![0; 65535], 0);
+    let number = unsafe {
+        talavorn_add_lifetimes(
+            old.as_ptr(), old.len(), new.as_mut_ptr(), new.len(), &mut value,
+        )
+    };
+    if number != 0 {
+        return Err(Refusal { number, place: value });
+    }
+    new.truncate(value);
+    Ok(new)
 }
 
 /// The octets of a written address; none for any other text.
@@ -368,8 +394,10 @@ mod tests {
         seconds: 7,
     };
 
-    const NO_COUNTS: Counts = Counts { lookups: 0, voids: 0 };
-    const EXPLAINED: &[u8] = b"\x2a\0\x10\0\0\x0bexample.com\x19\0v=spf1 -all exp=e.example";
+    const NO_COUNTS: Counts = Counts { lookups: 0, voids: 0, lifetime: 0 };
+    const AN_HOUR: Counts = Counts { lifetime: 3600, ..NO_COUNTS };
+    const EXPLAINED: &[u8] =
+        b"\x2e\0\x10\0\0\x10\x0e\0\0\x0bexample.com\x19\0v=spf1 -all exp=e.example";
 
     fn question(name: &[u8]) -> Question {
         Question { kind: TYPE_TXT, name: name.to_vec() }
@@ -385,38 +413,42 @@ mod tests {
 
     #[test]
     fn an_answer_is_added_and_found() {
-        let (mut table, mut size) = ([0xeeu8; 40], 0);
+        let (mut table, mut size) = ([0xeeu8; 44], 0);
         let a = evaluate(&MAIL, &table[..size]);
         assert_eq!(a, Answer::Wanting(question(b"example.com"), NO_COUNTS));
         let Answer::Wanting(q, _) = a else { return };
         let record = b"\x0b\0v=spf1 -all";
-        let added = append_entry(q.kind, ANSWERED, &q.name, record, &mut table, &mut size);
-        assert_eq!((added, size), (Ok(()), 30));
-        assert_eq!(&table[..30], b"\x1c\0\x10\0\0\x0bexample.com\x0b\0v=spf1 -all");
-        assert_eq!(&table[30..], [0xee; 10]);
+        let added = append_entry(q.kind, ANSWERED, 3600, &q.name, record, &mut table, &mut size);
+        assert_eq!((added, size), (Ok(()), 34));
+        let entry = b"\x20\0\x10\0\0\x10\x0e\0\0\x0bexample.com\x0b\0v=spf1 -all";
+        assert_eq!(&table[..34], entry);
+        assert_eq!(&table[34..], [0xee; 10]);
         let a = evaluate(&MAIL, &table[..size]);
-        assert_eq!(a, Answer::Fail(failing(b"example.com", 0, 0), NO_COUNTS));
+        assert_eq!(a, Answer::Fail(failing(b"example.com", 0, 0), AN_HOUR));
     }
 
     #[test]
     fn each_result_has_its_case() {
-        let decided = |number, lookups, voids| Answer::Decided(number, Counts { lookups, voids });
-        let pass: &[u8] = b"\x1c\0\x10\0\0\x0bexample.com\x0b\0v=spf1 +all";
-        assert_eq!(evaluate(&MAIL, pass), decided(PASS, 0, 0));
-        let void = b"\x1c\0\x10\0\0\x0bexample.com\x0b\0v=spf1 a ~a\x0f\0\x01\0\x03\x0bexample.com";
-        assert_eq!(evaluate(&MAIL, void), decided(NEUTRAL, 2, 2));
-        assert_eq!(evaluate(&Mail { domain: b"com", ..MAIL }, b""), decided(NONE, 0, 0));
+        let decided = |number, lookups, voids, lifetime| {
+            Answer::Decided(number, Counts { lookups, voids, lifetime })
+        };
+        let pass: &[u8] = b"\x20\0\x10\0\0\xff\xff\xff\xff\x0bexample.com\x0b\0v=spf1 +all";
+        assert_eq!(evaluate(&MAIL, pass), decided(PASS, 0, 0, u32::MAX));
+        let void = b"\x20\0\x10\0\0\x10\x0e\0\0\x0bexample.com\x0b\0v=spf1 a ~a\
+            \x13\0\x01\0\x03\x3c\0\0\0\x0bexample.com";
+        assert_eq!(evaluate(&MAIL, void), decided(NEUTRAL, 2, 2, 60));
+        assert_eq!(evaluate(&Mail { domain: b"com", ..MAIL }, b""), decided(NONE, 0, 0, 0));
         let twice = [pass, pass].concat();
-        assert_eq!(evaluate(&MAIL, &twice), Answer::Refused(refused(26, 30)));
+        assert_eq!(evaluate(&MAIL, &twice), Answer::Refused(refused(26, 34)));
         assert_eq!(evaluate(&Mail { client: &[], ..MAIL }, b""), Answer::Refused(refused(90, 0)));
     }
 
     #[test]
     fn a_fail_is_explained() {
-        let f = failing(b"example.com", 35, 9);
-        assert_eq!(evaluate(&MAIL, EXPLAINED), Answer::Fail(f.clone(), NO_COUNTS));
+        let f = failing(b"example.com", 39, 9);
+        assert_eq!(evaluate(&MAIL, EXPLAINED), Answer::Fail(f.clone(), AN_HOUR));
         assert_eq!(explain(&MAIL, &f, EXPLAINED), Explanation::Wanting(question(b"e.example")));
-        let text = b"\x21\0\x10\0\0\x09e.example\x12\0%{d} sends no %{l}";
+        let text = b"\x25\0\x10\0\0\x07\0\0\0\x09e.example\x12\0%{d} sends no %{l}";
         let table = [EXPLAINED, text].concat();
         let sends_no_user = Explanation::Text(b"example.com sends no user".to_vec());
         assert_eq!(explain(&Mail { domain: b"", ..MAIL }, &f, &table), sends_no_user);
@@ -427,11 +459,11 @@ mod tests {
     #[test]
     fn an_explanation_is_refused() {
         let explained = |f: &Failing, table: &[u8]| explain(&MAIL, f, table);
-        let f = failing(b"example.com", 35, 9);
+        let f = failing(b"example.com", 39, 9);
         let twice = [EXPLAINED, EXPLAINED].concat();
-        assert_eq!(explained(&f, &twice), Explanation::Refused(refused(26, 44)));
+        assert_eq!(explained(&f, &twice), Explanation::Refused(refused(26, 48)));
         assert_eq!(explained(&f, b""), Explanation::Refused(refused(28, 0)));
-        let moved = [b"\x05\0\x01\0\x03\x01a", EXPLAINED].concat();
+        let moved = [b"\x09\0\x01\0\x03\0\0\0\0\x01a", EXPLAINED].concat();
         assert_eq!(explained(&f, &moved), Explanation::Refused(refused(28, 0)));
         let long = failing(&[b'x'; 256], 0, 0);
         assert_eq!(explained(&long, EXPLAINED), Explanation::Refused(refused(22, 0)));
@@ -439,17 +471,36 @@ mod tests {
 
     #[test]
     fn a_refusal_changes_nothing() {
-        let first = *b"\x0f\0\x10\0\x03\x0bexample.com\0\0\0\0\0\0\0\0";
-        let (mut table, mut size) = (first, 17);
+        let first = *b"\x13\0\x10\0\x03\0\0\0\0\x0bexample.com\0\0\0\0\0\0\0\0\0\0\0\0";
+        let (mut table, mut size) = (first, 21);
         let mut refused = |kind, status, name: &[u8], size: &mut usize| {
-            append_entry(kind, status, name, b"", &mut table, size).unwrap_err()
+            append_entry(kind, status, 7, name, b"", &mut table, size).unwrap_err()
         };
         assert_eq!(refused(16, 0, b"EXAMPLE.com", &mut size), Refusal { number: 64, place: 0 });
         assert_eq!(refused(2, 0, b"a", &mut size), Refusal { number: 65, place: 0 });
         assert_eq!(refused(1, 0, b"a.bc", &mut size), Refusal { number: 65, place: 0 });
-        assert_eq!(refused(1, 0, b"a", &mut 18), Refusal { number: 25, place: 17 });
-        assert_eq!(refused(1, 0, b"a", &mut 26), Refusal { number: 24, place: 0 });
-        assert_eq!((table, size), (first, 17));
+        assert_eq!(refused(1, 0, b"a", &mut 22), Refusal { number: 25, place: 21 });
+        assert_eq!(refused(1, 0, b"a", &mut 34), Refusal { number: 24, place: 0 });
+        assert_eq!((table, size), (first, 21));
+    }
+
+    #[test]
+    fn an_old_table_is_rewritten() {
+        let old = b"\x05\0\x01\0\0\x01a";
+        assert_eq!(add_lifetimes(b""), Ok(Vec::new()));
+        assert_eq!(add_lifetimes(old), Ok(b"\x09\0\x01\0\0\0\0\0\0\x01a".to_vec()));
+        assert_eq!(add_lifetimes(&old.repeat(2)), Err(refused(26, 7)));
+        assert_eq!(add_lifetimes(&[old, &b"\n"[..]].concat()), Err(refused(25, 7)));
+        assert_eq!(add_lifetimes(&[0; 65535]), Err(refused(25, 0)));
+        assert_eq!(add_lifetimes(&[0; 65536]), Err(refused(24, 0)));
+        // one entry of 16 texts: 65,531 bytes grow to 65,535
+        let of = |n: usize| {
+            let texts = [&b"\0\x10"[..], &[b'x'; 4096]].concat().repeat(15);
+            let last = [&((n - 61479) as u16).to_le_bytes()[..], &vec![b'x'; n - 61479]].concat();
+            [&((n - 2) as u16).to_le_bytes()[..], b"\x10\0\0\x01a", &texts, &last].concat()
+        };
+        assert_eq!(add_lifetimes(&of(65531)).map(|new| new.len()), Ok(65535));
+        assert_eq!(add_lifetimes(&of(65532)), Err(refused(24, 0)));
     }
 
     #[test]
