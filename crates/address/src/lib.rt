@@ -1,4 +1,6 @@
 // Addresses and prefix lengths.
+#![tactic(auto)]
+
 ghost use Rattle.std.specs.Prelude.{◌-◌, ◌*◌, ◌≤◌, ◌<◌, ◌^◌, ◌≡◌, true, ◌++◌, ◌↔◌, length, take, leb, eqb};
 ghost use Rattle.text.specs.Lists.{same};
 ghost use Rattle.address.specs.Octets.{octets_of, octets, value_of, from_octets, client_octets, as_client};
@@ -8,14 +10,14 @@ ghost use Rattle.address.specs.Clearing.{cleared_low, cleared};
 use text::words;
 
 // An address of either family, by its number; an IPv6 address in two halves, high-order first.
-#[derive(Drop)]
+#[derive(Clone, Copy)]
 pub enum Address {
     IPv4(u32),
     IPv6(u64, u64),
 }
 
 // What octets are: an address, or neither 4 nor 16 of them.
-#[derive(Drop)]
+#[derive(Clone, Copy)]
 pub enum FromOctets {
     Is(Address),
     NoAddress,

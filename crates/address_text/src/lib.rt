@@ -1,4 +1,6 @@
 // The texts of addresses and numbers, written into a lent buffer.
+#![tactic(auto)]
+
 ghost use Rattle.std.specs.Prelude.{ℕ, suc, ◌^◌, ◌<◌, ◌≤◌, ◌≡◌, length, get_or};
 ghost use Rattle.text.specs.Writing.{Wrote};
 ghost use Rattle.address_text.specs.Digits.{digit, numeral, in_decimal};
@@ -9,7 +11,7 @@ use address::Address;
 use text::{bytes, writing};
 
 // What the numbers of a row are.
-#[derive(Drop)]
+#[derive(Clone, Copy)]
 enum Parts {
     Octets,
     Nibbles,

@@ -1,5 +1,5 @@
 -- The bytes of entries, written by hand from the layout, and what the check of a table answers to them.
-use Rattle.std.specs.Prelude.{ℕ, ◌≡◌, refl, List, [], ◌∷◌, ◌++◌, map, length, replicate}
+use Rattle.std.specs.Prelude.{ℕ, ◌≡◌, refl, List, [], ◌∷◌, ◌++◌, map, replicate}
 use Rattle.text.specs.Bytes.{within, is_upper, is_not_upper, is_visible, lower}
 use Rattle.text.specs.Lists.{same, all, grow, split}
 use Rattle.text.specs.Texts.{bytes}

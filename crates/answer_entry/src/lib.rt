@@ -1,4 +1,6 @@
 // An entry added to an answer table in a lent buffer.
+#![tactic(auto)]
+
 ghost use Rattle.std.specs.Prelude.{◌≤◌, ◌≡◌, map, length};
 ghost use Rattle.text.specs.Bytes.{lower};
 ghost use Rattle.domain.specs.Names.{most_name};
@@ -14,7 +16,7 @@ use text::writing;
 pub mod encoding;
 
 // What appending an entry answers.
-#[derive(Drop)]
+#[derive(Clone, Copy)]
 pub enum AppendAnswer {
     // Appended, with the length of the new table.
     Appended(usize),

@@ -11,7 +11,7 @@ use text::{bytes, words};
 const HEADER_SIZE: usize = 6;
 
 // The header of an entry: kind, status, length of the name, size of the whole entry; or that none stands there.
-#[derive(Drop)]
+#[derive(Clone, Copy)]
 pub enum Header {
     Whole {
         kind: u16,

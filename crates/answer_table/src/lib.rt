@@ -1,4 +1,6 @@
 // The answer table: its check, in either layout, and lookup in it.
+#![tactic(auto)]
+
 ghost use Rattle.std.specs.Prelude.{◌≡◌, ◌≤◌, ◌<◌, length};
 ghost use Rattle.answer_table.specs.Numbers.{reported};
 ghost use Rattle.answer_table.specs.Answers.{TableAnswersIn, TableAnswers};
@@ -13,14 +15,14 @@ pub mod items;
 mod marks;
 
 // The layouts of a table: 01's, without lifetimes, and 02's, in which each entry has one.
-#[derive(Drop)]
+#[derive(Clone, Copy)]
 pub enum Layout {
     Old,
     New,
 }
 
 // What a check of a table answers.
-#[derive(Drop)]
+#[derive(Clone, Copy)]
 pub enum TableAnswer {
     // Accepted, with the number of entries.
     Accepted(usize),
@@ -33,7 +35,7 @@ pub enum TableAnswer {
 }
 
 // What looking up a kind and a name answers: the entry's status, its lifetime in seconds and where its items stand, or that there is no entry.
-#[derive(Drop)]
+#[derive(Clone, Copy)]
 pub enum Found {
     Entry {
         status: u8,
@@ -45,7 +47,7 @@ pub enum Found {
 }
 
 // What the check finds at a place: a whole entry of a new pair, with the place after it; none; or one whose pair stands before.
-#[derive(Drop)]
+#[derive(Clone, Copy)]
 pub enum Step {
     Next(usize),
     Malformed,

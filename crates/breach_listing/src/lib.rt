@@ -1,5 +1,7 @@
 // What the program lint_record prints, written into a lent buffer: the breaches of the house rules, each with the record and a caret under its place; `ok`;
 // or a refusal.
+#![tactic(auto)]
+
 ghost use Rattle.std.specs.Prelude.{◌+◌, ◌*◌, ◌≤◌, ◌≡◌, ◌++◌, length, replicate};
 ghost use Rattle.text.specs.Texts.{bytes};
 ghost use Rattle.text.specs.Writing.{Wrote};

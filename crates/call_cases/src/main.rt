@@ -8,11 +8,14 @@
 //
 // NAMEBUF and TEXTBUF are the lent buffers' lengths, CLIENT is the address's octets. `.` stands where there is no kind and no place, and for a buffer that
 // stays; `touched` comes after an answer if the call changed a byte that it doesn't say it wrote. Any other line is printed as it is.
+#![tactic(auto)]
+
 use address::Address;
 use case_support::{Line, is_kept};
 use evaluation::explaining::{Explanation, explain};
 use evaluation::{Answer, evaluate};
 use rules::Counts;
+use std::io;
 use text::bytes::part;
 use text::words;
 
@@ -25,56 +28,56 @@ fn are_kept(a: &[u8], a_end: usize, b: &[u8], b_end: usize) -> bool {
 }
 
 // Prints a number after a space.
-fn print_next(n: usize) {
-    io::write_all(1, b" ");
-    io::print_decimal(1, n as u64);
+fn print_next(rt: &impl Print, n: usize) -> io::Result<()> {
+    rt.write_all(b" ")?;
+    rt.print(n)
 }
 
 // Prints an answer's number without a kind or place.
-fn print_number(number: u8) {
-    io::print_decimal(1, number as u64);
-    io::write_all(1, b" .");
+fn print_number(rt: &impl Print, number: u8) -> io::Result<()> {
+    rt.print(number)?;
+    rt.write_all(b" .")
 }
 
 // Prints an answer's number and its kind or place.
-fn print_placed(number: u8, place: usize) {
-    io::print_decimal(1, number as u64);
-    print_next(place);
+fn print_placed(rt: &impl Print, number: u8, place: usize) -> io::Result<()> {
+    rt.print(number)?;
+    print_next(rt, place)
 }
 
 // Prints both counts and the lifetime.
-fn print_counts(counts: Counts, lifetime: u32) {
-    print_next(counts.lookups as usize);
-    print_next(counts.voids as usize);
-    print_next(lifetime as usize);
+fn print_counts(rt: &impl Print, counts: Counts, lifetime: u32) -> io::Result<()> {
+    print_next(rt, counts.lookups as usize)?;
+    print_next(rt, counts.voids as usize)?;
+    print_next(rt, lifetime as usize)
 }
 
 // Prints what was written at the front of a buffer.
-fn print_front(out: &[u8], n: usize) {
-    io::write_all(1, b" ");
-    case_support::print_bytes(part(out, 0, n));
+fn print_front(rt: &impl Print, out: &[u8], n: usize) -> io::Result<()> {
+    rt.write_all(b" ")?;
+    case_support::print_bytes(rt, part(out, 0, n))
 }
 
 // Prints the rest of an answer, and whether the buffers are kept.
-fn print_rest(rest: &[u8], kept: bool) {
-    io::write_all(1, rest);
+fn print_rest(rt: &impl Print, rest: &[u8], kept: bool) -> io::Result<()> {
+    rt.write_all(rest)?;
     if kept {
-        return case_support::print_line(b"");
+        return case_support::print_line(rt, b"");
     }
-    case_support::print_line(b" touched");
+    case_support::print_line(rt, b" touched")
 }
 
 // Prints what the first call answered.
-fn print_answer(answer: Answer, name: &[u8]) {
+fn print_answer(rt: &impl Print, answer: Answer, name: &[u8]) -> io::Result<()> {
     match answer {
         Answer::Decided {
             value,
             counts,
             lifetime,
         } => {
-            print_number(value);
-            print_counts(counts, lifetime);
-            print_rest(b" . 0 0", is_kept(name, 0));
+            print_number(rt, value)?;
+            print_counts(rt, counts, lifetime)?;
+            print_rest(rt, b" . 0 0", is_kept(name, 0))
         }
         Answer::Fail {
             counts,
@@ -83,12 +86,12 @@ fn print_answer(answer: Answer, name: &[u8]) {
             place,
             length,
         } => {
-            print_number(3);
-            print_counts(counts, lifetime);
-            print_front(name, n);
-            print_next(place);
-            print_next(length);
-            print_rest(b"", is_kept(name, n));
+            print_number(rt, 3)?;
+            print_counts(rt, counts, lifetime)?;
+            print_front(rt, name, n)?;
+            print_next(rt, place)?;
+            print_next(rt, length)?;
+            print_rest(rt, b"", is_kept(name, n))
         }
         Answer::Wanting {
             kind,
@@ -96,42 +99,47 @@ fn print_answer(answer: Answer, name: &[u8]) {
             counts,
             lifetime,
         } => {
-            print_placed(7, kind as usize);
-            print_counts(counts, lifetime);
-            print_front(name, n);
-            print_rest(b" 0 0", is_kept(name, n));
+            print_placed(rt, 7, kind as usize)?;
+            print_counts(rt, counts, lifetime)?;
+            print_front(rt, name, n)?;
+            print_rest(rt, b" 0 0", is_kept(name, n))
         }
         Answer::Refused(number) => {
-            print_number(number);
-            print_rest(b" 0 0 0 . 0 0", is_kept(name, 0));
+            print_number(rt, number)?;
+            print_rest(rt, b" 0 0 0 . 0 0", is_kept(name, 0))
         }
         Answer::RefusedAt { number, at } => {
-            print_placed(number, at);
-            print_rest(b" 0 0 0 . 0 0", is_kept(name, 0));
+            print_placed(rt, number, at)?;
+            print_rest(rt, b" 0 0 0 . 0 0", is_kept(name, 0))
         }
     }
 }
 
 // Prints what the second call answered.
-fn print_explanation(answer: Explanation, name: &[u8], text: &[u8]) {
+fn print_explanation(
+    rt: &impl Print,
+    answer: Explanation,
+    name: &[u8],
+    text: &[u8],
+) -> io::Result<()> {
     match answer {
         Explanation::Text(n) => {
-            print_number(3);
-            print_front(text, n);
-            print_rest(b"", are_kept(name, 0, text, n));
+            print_number(rt, 3)?;
+            print_front(rt, text, n)?;
+            print_rest(rt, b"", are_kept(name, 0, text, n))
         }
         Explanation::Wanting { kind, length: n } => {
-            print_placed(7, kind as usize);
-            print_front(name, n);
-            print_rest(b"", are_kept(name, n, text, 0));
+            print_placed(rt, 7, kind as usize)?;
+            print_front(rt, name, n)?;
+            print_rest(rt, b"", are_kept(name, n, text, 0))
         }
         Explanation::Refused(number) => {
-            print_number(number);
-            print_rest(b" .", are_kept(name, 0, text, 0));
+            print_number(rt, number)?;
+            print_rest(rt, b" .", are_kept(name, 0, text, 0))
         }
         Explanation::RefusedAt { number, at } => {
-            print_placed(number, at);
-            print_rest(b" .", are_kept(name, 0, text, 0));
+            print_placed(rt, number, at)?;
+            print_rest(rt, b" .", are_kept(name, 0, text, 0))
         }
     }
 }
@@ -203,12 +211,20 @@ fn explain_front(
 }
 
 // The call that a line names, once the arguments are read.
-fn run_call(line: &[u8], domain: &[u8], sender: &[u8], helo: &[u8], receiver: &[u8], table: &[u8]) {
+fn run_call(
+    rt: &impl Print,
+    line: &[u8],
+    domain: &[u8],
+    sender: &[u8],
+    helo: &[u8],
+    receiver: &[u8],
+    table: &[u8],
+) -> io::Result<()> {
     let mut name = [0u8; 512];
     case_support::fill(&mut name);
     if words::equal(case_support::word(line, 0), b"first") {
         let answer = evaluate_front(line, domain, sender, helo, receiver, table, &mut name);
-        return print_answer(answer, &name);
+        return print_answer(rt, answer, &name);
     }
     let mut text = [0u8; 1024];
     case_support::fill(&mut text);
@@ -223,11 +239,11 @@ fn run_call(line: &[u8], domain: &[u8], sender: &[u8], helo: &[u8], receiver: &[
         &mut name,
         &mut text,
     );
-    print_explanation(explanation, &name, &text);
+    print_explanation(rt, explanation, &name, &text)
 }
 
 // Reads the arguments that both calls have, from the word after the client's on, and runs the call. The table's space is one byte more than a table may have.
-fn run_arguments(line: &[u8], at: u8) {
+fn run_arguments(rt: &impl Print, line: &[u8], at: u8) -> io::Result<()> {
     let mut domain = [0u8; 1024];
     let mut sender = [0u8; 1024];
     let mut helo = [0u8; 1024];
@@ -239,35 +255,38 @@ fn run_arguments(line: &[u8], at: u8) {
     let r = case_support::unhex(case_support::word(line, at as usize + 3), &mut receiver);
     let t = case_support::unhex(case_support::word(line, at as usize + 5), &mut table);
     run_call(
+        rt,
         line,
         part(&domain, 0, d),
         part(&sender, 0, s),
         part(&helo, 0, h),
         part(&receiver, 0, r),
         part(&table, 0, t),
-    );
+    )
 }
 
-fn run_line(line: &[u8]) {
+fn run_line(rt: &impl Print, line: &[u8]) -> io::Result<()> {
     let kind = case_support::word(line, 0);
     if words::equal(kind, b"first") {
-        return run_arguments(line, 3);
+        return run_arguments(rt, line, 3);
     }
     if words::equal(kind, b"second") {
-        return run_arguments(line, 6);
+        return run_arguments(rt, line, 6);
     }
-    case_support::print_line(line);
+    case_support::print_line(rt, line)
 }
 
 // At most as many lines as the budget says.
-fn main() {
+fn main(rt: HostRuntime) -> io::Result<()> {
+    let mut input = rt.reader();
     let mut line = [0u8; 140000];
     let mut budget: usize = 1000000;
     while 0 < budget {
-        let Line::Of(n) = case_support::read_line(&mut line) else {
-            return;
+        let Line::Of(n) = case_support::read_line(&mut input, &mut line)? else {
+            return Ok(());
         };
-        run_line(part(&line, 0, n));
+        run_line(&rt, part(&line, 0, n))?;
         budget -= 1;
     }
+    Ok(())
 }

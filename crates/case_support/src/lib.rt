@@ -1,44 +1,49 @@
 // What the programs that run cases share: lines of the input, their words, what the words write, answers printed, and which bytes a call kept.
-ghost use Rattle.std.specs.Prelude.{◌<◌, min, ◌≡◌, length};
+#![tactic(auto)]
+
+ghost use Rattle.std.specs.Prelude.{◌<◌, min, ◌≡◌, IfOk, OnErr, length};
 ghost use Rattle.text.specs.Writing.{overwritten};
 ghost use Rattle.text.specs.Fields.{field};
 ghost use Rattle.case_support.specs.Lines.{LineRead};
 ghost use Rattle.case_support.specs.Words.{hex_value, hex_byte, hex_bytes, number_of, address_of};
 
 use address::{Address, FromOctets};
+use std::io;
+use std::io::Read;
 use text::decimal::Number;
 use text::{bytes, decimal, writing};
 
 // A line that was read, with its length, or the end of the input.
-#[derive(Drop)]
+#[derive(Clone, Copy)]
 pub enum Line {
     Of(usize),
     End,
 }
 
-// Reads a line of standard input into a lent buffer, without its newline. A line that is longer than the buffer is cut there, and the rest is read
-// as a line of its own.
-pub fn read_line(line: &mut [u8]) -> Line
-    ensures { LineRead result line.old line.new }
+// Reads a line of an input into a lent buffer, without its newline. A line that is longer than the buffer is cut there, and the rest is read
+// as a line of its own. A failed read is the error, and leaves the buffer its length.
+pub fn read_line(input: &mut impl Read, line: &mut [u8]) -> io::Result<Line>
+    ensures read { IfOk result (λ r. LineRead r line.old line.new) }
+    ensures err { OnErr result (length line.new ≡ length line.old) }
 {
     let mut byte = [0u8; 1];
     let mut i = 0;
     while i < line.len() {
-        let got = libc::read(0, &mut byte);
-        if got < 1 {
+        let got = input.read(&mut byte)?;
+        if got == 0 {
             if i == 0 {
-                return Line::End;
+                return Ok(Line::End);
             }
-            return Line::Of(i);
+            return Ok(Line::Of(i));
         }
         let b = byte[0];
         if b == 10 {
-            return Line::Of(i);
+            return Ok(Line::Of(i));
         }
         line[i] = b;
         i += 1;
     }
-    Line::Of(i)
+    Ok(Line::Of(i))
 }
 
 // The k-th word of a line, counted from 0; words are parted by one space.
@@ -107,52 +112,44 @@ pub fn address_of(word: &[u8]) -> Address
     a
 }
 
-// A byte as a number.
-fn wide(b: u8) -> u64 {
-    b as u64
-}
-
 // Prints bytes in hex, `-` for none.
-pub fn print_bytes(s: &[u8]) {
+pub fn print_bytes(rt: &impl Print, s: &[u8]) -> io::Result<()> {
     if s.len() == 0 {
-        io::write_all(1, b"-");
-        return;
+        return rt.write_all(b"-");
     }
-    let mut i = 0;
-    while i < s.len() {
-        io::print_hex(1, wide(s[i]), 2);
-        i += 1;
+    for b in s {
+        print!(rt; "{b:02x}")?;
     }
+    Ok(())
 }
 
 // Prints a text and the line's end.
-pub fn print_line(s: &[u8]) {
-    io::write_all(1, s);
-    io::write_all(1, b"\n");
+pub fn print_line(rt: &impl Print, s: &[u8]) -> io::Result<()> {
+    rt.write_all(s)?;
+    rt.write_all(b"\n")
 }
 
 // Prints a number and the line's end.
-pub fn print_number_line(n: usize) {
-    io::print_decimal(1, n as u64);
-    io::write_all(1, b"\n");
+pub fn print_number_line(rt: &impl Print, n: usize) -> io::Result<()> {
+    rt.print(n)?;
+    rt.write_all(b"\n")
 }
 
 // Prints a test's answer.
-pub fn print_test(yes: bool) {
+pub fn print_test(rt: &impl Print, yes: bool) -> io::Result<()> {
     if yes {
-        print_line(b"1");
-        return;
+        return print_line(rt, b"1");
     }
-    print_line(b"0");
+    print_line(rt, b"0")
 }
 
 // Prints an address's octets and the line's end.
-pub fn print_address(a: Address) {
+pub fn print_address(rt: &impl Print, a: Address) -> io::Result<()> {
     match a {
-        Address::IPv4(v) => print_bytes(&address::octets4(v)),
-        Address::IPv6(high, low) => print_bytes(&address::octets16(high, low)),
+        Address::IPv4(v) => print_bytes(rt, &address::octets4(v))?,
+        Address::IPv6(high, low) => print_bytes(rt, &address::octets16(high, low))?,
     }
-    print_line(b"");
+    print_line(rt, b"")
 }
 
 // The byte that a buffer has at a place before a call.

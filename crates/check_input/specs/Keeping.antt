@@ -1,5 +1,5 @@
 -- What of an input is held while it is read, so that lines and a table of any length need no more room than this: as much as the answer depends on
--- (`Kept-same`, proofs/Laws/Keeping.antt).
+-- (`kept_same`, proofs/Laws/Keeping.antt).
 use Rattle.std.specs.Prelude.{ℕ, ◌≤◌, ◌≡◌, List, [], ◌∷◌, ◌++◌, cond, ◌&&◌, length, take, ltb, eqb}
 use Rattle.std.proofs.lemmas.List.Edits.{sets}
 use Rattle.text.specs.Runs.{run}

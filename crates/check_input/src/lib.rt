@@ -1,4 +1,6 @@
 // The check of an input: client, domain, sender, HELO, receiver and t, a line each, and then the answer table; and the lines that answer it.
+#![tactic(auto)]
+
 ghost use Rattle.std.specs.Prelude.{◌≤◌, length, replicate};
 ghost use Rattle.text.specs.Writing.{Wrote};
 ghost use Rattle.evaluation.specs.Evaluating.{evaluated};

@@ -1,4 +1,6 @@
 // What the table's answers say of a client, their lifetimes, and the name of a question that has no answer.
+#![tactic(auto)]
+
 ghost use Rattle.std.specs.Prelude.{◌≡◌};
 ghost use Rattle.text.specs.Writing.{overwritten};
 ghost use Rattle.answer_table.specs.Reader.{items_of};

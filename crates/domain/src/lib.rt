@@ -1,4 +1,6 @@
 // Domain names.
+#![tactic(auto)]
+
 ghost use Rattle.std.specs.Prelude.{◌≤◌, length, drop, ◌≡◌};
 ghost use Rattle.text.specs.Lists.{same, all};
 ghost use Rattle.domain.specs.Names.{labels, is_label, is_name, is_table_name, label_count, at_or_below};
@@ -12,7 +14,7 @@ use text::{bytes, words, writing};
 pub const MOST_NAME: usize = 253;
 
 // What a text names: a name that was written, with its length, or nothing.
-#[derive(Drop)]
+#[derive(Clone, Copy)]
 pub enum Name {
     Written(usize),
     Malformed,

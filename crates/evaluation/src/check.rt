@@ -136,7 +136,7 @@ pub fn in_table(m: Modifier, start: usize) -> Modifier
 }
 
 // The check of a domain: "A malformed or single-label domain gives none"; its record is looked up.
-#[cycle(begin_check_check_domain_evaluate_record_include_no_match_try_term_try_terms)]
+#[cycle(checks)]
 pub fn check_domain(
     client: Address,
     sender: &[u8],
@@ -174,7 +174,7 @@ pub fn check_domain(
 }
 
 // The record that a check selected: it is read whole; only then does a leading term decide it, or are the terms tried that need a lookup.
-#[cycle(begin_check_check_domain_evaluate_record_include_no_match_try_term_try_terms)]
+#[cycle(checks)]
 fn evaluate_record(
     client: Address,
     sender: &[u8],
@@ -221,7 +221,7 @@ fn evaluate_record(
 }
 
 // The terms of a record, from left to right; those up to `start` are known to pass. `redirect` stands in the record and `exp` in the table.
-#[cycle(begin_check_check_domain_evaluate_record_include_no_match_try_term_try_terms)]
+#[cycle(checks)]
 fn try_terms(
     client: Address,
     sender: &[u8],
@@ -299,7 +299,7 @@ fn try_terms(
 }
 
 // No term matches: the redirect of the record `s`, or neutral.
-#[cycle(begin_check_check_domain_evaluate_record_include_no_match_try_term_try_terms)]
+#[cycle(checks)]
 fn no_match(
     client: Address,
     sender: &[u8],
@@ -337,7 +337,7 @@ fn no_match(
 }
 
 // A term: include, or any other.
-#[cycle(begin_check_check_domain_evaluate_record_include_no_match_try_term_try_terms)]
+#[cycle(checks)]
 fn try_term(
     client: Address,
     sender: &[u8],
@@ -387,7 +387,7 @@ fn try_term(
 }
 
 // An include: the check of its domain, and what its result says of the record that includes.
-#[cycle(begin_check_check_domain_evaluate_record_include_no_match_try_term_try_terms)]
+#[cycle(checks)]
 fn include(
     client: Address,
     sender: &[u8],
@@ -411,7 +411,7 @@ fn include(
 }
 
 // Counts a lookup, makes the target and checks it.
-#[cycle(begin_check_check_domain_evaluate_record_include_no_match_try_term_try_terms)]
+#[cycle(checks)]
 fn begin_check(
     client: Address,
     sender: &[u8],
@@ -510,6 +510,7 @@ fn include_of(o: Checked) -> Stepped
     }
 }
 
+#[tactic(auto, using(text::proofs::Laws::Tests::ways), unfolding(crate::specs::Checks::included_now))]
 fn included(value: u8) -> Matched
     ensures { result ≡ included_now value }
 {

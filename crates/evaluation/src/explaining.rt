@@ -16,7 +16,7 @@ use rules::{Counts, Explained, Life, Selected};
 use text::bytes;
 
 // What the second call answers; its counts are 0.
-#[derive(Drop)]
+#[derive(Clone, Copy)]
 pub enum Explanation {
     // 3: the length of the text.
     Text(usize),

@@ -1,4 +1,6 @@
 // An evaluation in two calls: whether a client may send for a domain, or the one question that is missing; and then, for a fail, its explanation.
+#![tactic(auto)]
+
 ghost use Rattle.std.specs.Prelude.{◌≤◌, ◌≡◌, length};
 ghost use Rattle.rules.specs.declared.Life.TheVariants.{Unmet};
 ghost use Rattle.rules.specs.Tree.{run};
@@ -21,7 +23,7 @@ mod check;
 pub mod explaining;
 
 // What the first call answers.
-#[derive(Drop)]
+#[derive(Clone, Copy)]
 pub enum Answer {
     // 0 to 6 but 3, both counts, and how many seconds the decision may be kept.
     Decided {

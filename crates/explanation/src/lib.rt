@@ -1,4 +1,6 @@
 // The explanation that the exp of a record makes: one TXT text, expanded. It counts nothing, and answers no lifetime.
+#![tactic(auto)]
+
 ghost use Rattle.std.specs.Prelude.{◌≤◌, [], ◌∷◌, length};
 ghost use Rattle.domain.specs.Normal.{name};
 ghost use Rattle.records.specs.Readings.{present};

@@ -1,4 +1,6 @@
 // What the program received_line prints of an input: six lines from which a Received-SPF line is written, or such a line, which is read back.
+#![tactic(auto)]
+
 ghost use Rattle.std.specs.Prelude.{◌≤◌, ◌≡◌, length};
 ghost use Rattle.text.specs.Writing.{Wrote};
 ghost use Rattle.received.specs.Quoting.{unescaped};
@@ -20,7 +22,7 @@ pub const MOST_INPUT: usize = 4096;
 pub const READ: usize = 4097;
 
 // The identity of a word, or that it names none.
-#[derive(Drop)]
+#[derive(Clone, Copy)]
 pub enum Named {
     Is(Identity),
     NoIdentity,

@@ -118,7 +118,7 @@ later_value p v h c r t b =
     (cond (eqb b 114) r
     t))))
 
--- "`%%`, `%◌`, `%-` give `%`, a space, `%20`"
+-- "`%%`, `%_`, `%-` give `%`, a space, `%20`"
 unfoldable pub escape_text : ℕ → List ℕ
 escape_text b = cond (eqb b 37) (bytes "%") (cond (eqb b 95) (bytes " ") (bytes "%20"))
 

@@ -16,7 +16,7 @@ pub record Macro : Type 0 where
   pub reversed : Bool
   pub delimiters : List ℕ
 
--- a piece of a macro string: a byte as it stands; `%%`, `%◌` or `%-`, by its second byte; or a macro in braces
+-- a piece of a macro string: a byte as it stands; `%%`, `%_` or `%-`, by its second byte; or a macro in braces
 pub data Piece : Type 0 where
   literal : ℕ → Piece
   escape : ℕ → Piece

@@ -19,7 +19,7 @@ is_literal DomainSpec b = is_macro_literal b
 is_literal ModifierValue b = is_macro_literal b
 is_literal Explanation b = is_macro_literal b || is_space b
 
--- the second byte of `%%`, `%◌` or `%-`
+-- the second byte of `%%`, `%_` or `%-`
 unfoldable pub is_escape : ℕ → Bool
 is_escape b = eqb b 37 || (eqb b 95 || eqb b 45)
 

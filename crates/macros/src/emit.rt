@@ -10,7 +10,7 @@ use crate::{Form, pieces};
 use text::bytes::Class;
 use text::{bytes, writing};
 
-// Writes the text of `%%`, `%◌` or `%-`.
+// Writes the text of `%%`, `%_` or `%-`.
 fn put_escape(b: u8, out: &mut [u8], at: usize) -> usize
     ensures { Wrote (escape_text b) out.old at out.new result }
 {

@@ -1,4 +1,6 @@
 // Macro strings: their grammar and their expansion.
+#![tactic(auto)]
+
 ghost use Rattle.std.specs.Prelude.{◌≤◌, ◌≡◌, true, ◌&&◌, ◌||◌, List, ◌↔◌, length, eqb};
 ghost use Rattle.text.specs.Bytes.{lower};
 ghost use Rattle.macros.specs.Grammar.{Piece, Produces};
@@ -23,7 +25,7 @@ pub mod pieces;
 pub mod values;
 
 // What a macro string is read as.
-#[derive(Drop)]
+#[derive(Clone, Copy)]
 pub enum Form {
     DomainSpec,
     ModifierValue,
@@ -32,7 +34,7 @@ pub enum Form {
 
 // What one walk over a text tells: whether it is pieces up to its end, whether the last one is a macro-expand, and whether a p macro stands among
 // those before the end or the first that is none.
-#[derive(Drop)]
+#[derive(Clone, Copy)]
 pub struct Summary {
     pub whole: bool,
     pub expands: bool,
@@ -133,7 +135,7 @@ pub fn uses_p(form: Form, text: &[u8]) -> bool
 }
 
 // What an expansion answers: the written length, or a refusal's number.
-#[derive(Drop)]
+#[derive(Clone, Copy)]
 pub enum Expanded {
     Written(usize),
     Refused(u8),

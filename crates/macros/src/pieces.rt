@@ -11,7 +11,7 @@ use text::{bytes, decimal, words};
 
 // A macro in braces at the front of a text: its letter; the end of its digits, which begin at 3; whether r stands; its delimiters, up to the
 // place of the closing brace.
-#[derive(Drop)]
+#[derive(Clone, Copy)]
 pub struct Braces {
     pub letter: u8,
     pub digits: usize,
@@ -21,7 +21,7 @@ pub struct Braces {
 }
 
 // What stands at the front of a text.
-#[derive(Drop)]
+#[derive(Clone, Copy)]
 pub enum Found {
     End,
     Literal(u8),
@@ -62,7 +62,7 @@ fn is_explanation_byte(b: u8) -> bool
     b == 32
 }
 
-// Whether a byte is the second one of `%%`, `%◌` or `%-`.
+// Whether a byte is the second one of `%%`, `%_` or `%-`.
 fn is_escape(b: u8) -> bool
     ensures { result ≡ is_escape b }
 {

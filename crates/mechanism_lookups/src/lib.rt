@@ -1,4 +1,6 @@
 // The questions of a, mx, ptr and exists once their target is known, and whether their answers match.
+#![tactic(auto)]
+
 ghost use Rattle.std.specs.Prelude.{◌≤◌, ◌≡◌, take};
 ghost use Rattle.rules.specs.Tree.{run};
 ghost use Rattle.rules.specs.Tables.{table_in};
@@ -16,7 +18,7 @@ mod replies;
 
 // What a question comes to: a step, for want of an entry or of items; a failed answer; or items, which stand in the table from a place to another. With
 // the lifetime after it.
-#[derive(Drop)]
+#[derive(Clone, Copy)]
 enum Asked {
     Ended(Stepped),
     Failed(Life),

@@ -26,6 +26,7 @@ fn missing(kind: u16, name: &[u8], counts: Counts, life: Life, out: &mut [u8]) -
 }
 
 // A void answer is counted, and the third ends the check.
+#[tactic(auto, using(crate::proofs::Laws::Replies::void_few, crate::proofs::Laws::Replies::void_third))]
 fn void(counts: Counts, life: Life) -> Stepped
     requires { counts.voids ≤ 2 }
     ensures { result ≡ void_answer counts life }

@@ -1,4 +1,6 @@
 // The mechanisms: what a term comes to that is no include.
+#![tactic(auto)]
+
 ghost use Rattle.std.specs.Prelude.{◌≤◌, ◌≡◌, true, false, cond, eqb, length};
 ghost use Rattle.rules.specs.Tree.{run};
 ghost use Rattle.rules.specs.Tables.{table_in};
@@ -13,7 +15,7 @@ use rules::{Counts, Ending, Life, Matched, Stepped, Target};
 use text::bytes;
 
 // A mechanism that asks for a name.
-#[derive(Drop)]
+#[derive(Clone, Copy)]
 pub enum Question {
     A,
     Mx,
@@ -22,7 +24,7 @@ pub enum Question {
 }
 
 // What a term comes to: its step; or it is an include, whose domain-spec stands in the term's text from a place to another.
-#[derive(Drop)]
+#[derive(Clone, Copy)]
 pub enum Tried {
     Step(Stepped),
     Include { from: usize, to: usize },

@@ -10,7 +10,7 @@ use address::Address;
 use text::bytes;
 
 // An octet and the place after it, or that none was read.
-#[derive(Drop)]
+#[derive(Clone, Copy)]
 enum Octet {
     Ends(u8, usize),
     NoOctet,

@@ -15,14 +15,14 @@ use text::bytes::Class;
 use text::{bytes, words, writing};
 
 // The number of a group (RFC 3986's h16), or that a text is no group.
-#[derive(Drop)]
+#[derive(Clone, Copy)]
 enum H16 {
     Value(u16),
     NoValue,
 }
 
 // The place after the octets of a row, or that a text is no row.
-#[derive(Drop)]
+#[derive(Clone, Copy)]
 enum RowEnd {
     At(usize),
     NoRow,

@@ -1,4 +1,6 @@
 // A table of the old layout rewritten in the new one: each entry gains a lifetime of 0.
+#![tactic(auto)]
+
 ghost use Rattle.text.specs.Writing.{Wrote};
 ghost use Rattle.old_layout.specs.Rewriting.{Rewrites};
 ghost use Rattle.old_layout.specs.Numbers.{outcome_of};
@@ -9,7 +11,7 @@ use answer_table::{Layout, MOST_BYTES, TableAnswer, items};
 use text::{bytes, writing};
 
 // What the rewriting of a table answers.
-#[derive(Drop)]
+#[derive(Clone, Copy)]
 pub enum Added {
     // Rewritten, with the length of the new table.
     Written(usize),

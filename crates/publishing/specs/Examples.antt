@@ -69,7 +69,7 @@ pub record Cases : Type 0 where
   pub both_short : breaches (a_at 7 18 7 ∷ all_at 45 15 ∷ []) 19 ≡ entry 8 7 ∷ []
   pub just_long : breaches (a_at 8 19 7 ∷ all_at 45 15 ∷ []) 19 ≡ []
   -- H9: `v=spf1 ip4:10.0.0.1/24 -ip4:10.0.0.2/24 -all`: 9 at 23
-  pub same_network_lem : breaches (ip4_at 43 one 24 7 ∷ ip4_at 45 two 24 23 ∷ all_at 45 40 ∷ []) 44 ≡ entry 9 23 ∷ []
+  pub equal_network : breaches (ip4_at 43 one 24 7 ∷ ip4_at 45 two 24 23 ∷ all_at 45 40 ∷ []) 44 ≡ entry 9 23 ∷ []
   -- H9: /24 and /25 of one network: not equal
   pub other_length : breaches (ip4_at 43 one 24 7 ∷ ip4_at 45 one 25 23 ∷ all_at 45 40 ∷ []) 44 ≡ []
   -- H9: `ip4:10.0.0.1 ip6:::ffff:10.0.0.1`: not equal
@@ -93,7 +93,7 @@ cases = record {
   implied_plus = refl;
   both_short = refl;
   just_long = refl;
-  same_network_lem = refl;
+  equal_network = refl;
   other_length = refl;
   mapped = refl;
   fits = refl;

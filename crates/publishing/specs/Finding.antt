@@ -15,7 +15,7 @@ use Rattle.records.specs.Grammar.{sign_plus}
 use Rattle.records.specs.Reader.{Reads}
 use Rattle.records.specs.declared.Term.{Term}
 use Rattle.publishing.specs.House.{least_4, least_6, too_many_bytes}
-use Rattle.publishing.specs.Listing.{Entry, entry, entry_bytes_lem, encoded, most_breaches, NoRoom}
+use Rattle.publishing.specs.Listing.{Entry, entry, breach_bytes, encoded, most_breaches, NoRoom}
 use Rattle.publishing.specs.Rows.{network_rows, Holds, Marked}
 use Rattle.publishing.specs.declared.offences.Facts.{Facts}
 use Rattle.publishing.specs.declared.offences.Seen.{Seen}
@@ -213,7 +213,7 @@ pub record PutsOrdered (buffer : List ℕ) (size : ℕ) (before after : List ℕ
 -- entries written into a list, or 70
 pub data Lists (es : List Entry) (before after : List ℕ) : HouseAnswer → Type 0 where
   no_room : NoRoom es before → after ≡ before → Lists es before after (HouseAnswer.Refused 70)
-  listed : length es ≤ most_breaches → entry_bytes_lem * length es ≤ length before → after ≡ encoded es ++ drop (entry_bytes_lem * length es) before
+  listed : length es ≤ most_breaches → breach_bytes * length es ≤ length before → after ≡ encoded es ++ drop (breach_bytes * length es) before
       → Lists es before after (HouseAnswer.Listed (length es))
 
 pub record ListsBreaches (s : List ℕ) (first name : ℕ) (before after : List ℕ) (r : HouseAnswer) : Type 0 where

@@ -116,6 +116,6 @@ pub data Breach (ts : List Placed) (size name : ℕ) : ℕ → ℕ → Type 0 wh
   -- "(8) no a, mx or network length below /8 for IPv4 or /19 for IPv6"
   short : {before : List Placed} {t : Placed} → Among ts before t → Short t → Breach ts size name 8 t.place
   -- "(9) no ip4 or ip6 network equal, length included, to an earlier one after clearing the bits below it"
-  same_network_lem : {before : List Placed} {t : Placed} → Among ts before t → Some (SameNetwork t) before → Breach ts size name 9 t.place
+  equal_network : {before : List Placed} {t : Placed} → Among ts before t → Some (SameNetwork t) before → Breach ts size name 9 t.place
   -- "(10) name and text together under 450 bytes"
   long : too_many_bytes ≤ name + size → Breach ts size name 10 size

@@ -1,4 +1,6 @@
 // The house rules: what customers may publish.
+#![tactic(auto)]
+
 ghost use Rattle.publishing.specs.Listing.{HouseAnswers};
 ghost use Rattle.publishing.specs.Finding.{ListsBreaches};
 
@@ -10,7 +12,7 @@ mod offences;
 mod rows;
 
 // What holding a record against the house rules answers: the number of breaches; 22 or 70; or a refusal of record reading with its place.
-#[derive(Drop)]
+#[derive(Clone, Copy)]
 pub enum HouseAnswer {
     Listed(usize),
     Refused(u8),

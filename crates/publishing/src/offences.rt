@@ -17,7 +17,7 @@ use records::{Term, TermAnswer};
 use text::bytes;
 
 // What a term is, as the rules ask.
-#[derive(Drop)]
+#[derive(Clone, Copy)]
 pub struct Facts {
     pub all: bool,
     pub plus: bool,
@@ -30,7 +30,7 @@ pub struct Facts {
 }
 
 // What has been seen so far: an `all`, a redirect, a redirect or an exp, and how many networks.
-#[derive(Drop)]
+#[derive(Clone, Copy)]
 pub struct Seen {
     pub all: bool,
     pub redirect: bool,

@@ -8,7 +8,7 @@ use duplicates::{MOST_ROWS, mark_duplicates};
 use records::Term;
 
 // A row: a number that tells family and length, and the words of the cleared address.
-#[derive(Drop)]
+#[derive(Clone, Copy)]
 pub struct Words {
     pub kind: u64,
     pub high: u64,

@@ -5,42 +5,45 @@
 //
 // LIST is the lent list's length. `touched` comes after an answer if the call changed a byte that it doesn't say it wrote. Any other line is printed as it
 // is.
+#![tactic(auto)]
+
 use case_support::{Line, is_kept};
 use publishing::HouseAnswer;
+use std::io;
 use text::bytes::part;
 use text::words;
 
 // Prints the end of an answer, and whether a buffer is kept from a place on.
-fn print_rest(out: &[u8], from: usize) {
+fn print_rest(rt: &impl Print, out: &[u8], from: usize) -> io::Result<()> {
     if is_kept(out, from) {
-        return case_support::print_line(b"");
+        return case_support::print_line(rt, b"");
     }
-    case_support::print_line(b" touched");
+    case_support::print_line(rt, b" touched")
 }
 
 // Prints a refusal's number.
-fn print_refusal(number: u8) {
-    io::write_all(1, b"refused ");
-    io::print_decimal(1, number as u64);
+fn print_refusal(rt: &impl Print, number: u8) -> io::Result<()> {
+    rt.write_all(b"refused ")?;
+    rt.print(number)
 }
 
-fn print_answer(answer: HouseAnswer, out: &[u8]) {
+fn print_answer(rt: &impl Print, answer: HouseAnswer, out: &[u8]) -> io::Result<()> {
     match answer {
         HouseAnswer::Listed(n) => {
-            io::write_all(1, b"ok ");
-            case_support::print_bytes(part(out, 0, 3 * (n % 1000)));
-            print_rest(out, 3 * (n % 1000));
+            rt.write_all(b"ok ")?;
+            case_support::print_bytes(rt, part(out, 0, 3 * (n % 1000)))?;
+            print_rest(rt, out, 3 * (n % 1000))
         }
         HouseAnswer::Refused(number) => {
-            print_refusal(number);
-            io::write_all(1, b" .");
-            print_rest(out, 0);
+            print_refusal(rt, number)?;
+            rt.write_all(b" .")?;
+            print_rest(rt, out, 0)
         }
         HouseAnswer::RefusedAt { number, at } => {
-            print_refusal(number);
-            io::write_all(1, b" ");
-            io::print_decimal(1, at as u64);
-            print_rest(out, 0);
+            print_refusal(rt, number)?;
+            rt.write_all(b" ")?;
+            rt.print(at)?;
+            print_rest(rt, out, 0)
         }
     }
 }
@@ -53,7 +56,7 @@ fn hold(domain: &[u8], record: &[u8], room: usize, out: &mut [u8]) -> HouseAnswe
     HouseAnswer::Refused(0)
 }
 
-fn run_house(line: &[u8]) {
+fn run_house(rt: &impl Print, line: &[u8]) -> io::Result<()> {
     let mut domain = [0u8; 512];
     let mut record = [0u8; 5000];
     let mut out = [0u8; 5000];
@@ -62,39 +65,41 @@ fn run_house(line: &[u8]) {
     let room = case_support::number_of(case_support::word(line, 3)) as usize;
     case_support::fill(&mut out);
     let answer = hold(part(&domain, 0, d), part(&record, 0, r), room, &mut out);
-    print_answer(answer, &out);
+    print_answer(rt, answer, &out)
 }
 
-fn run_lint(line: &[u8]) {
+fn run_lint(rt: &impl Print, line: &[u8]) -> io::Result<()> {
     let mut input = [0u8; 5000];
     let mut out = breach_listing::buffer();
     let n = case_support::unhex(case_support::word(line, 1), &mut input);
     case_support::fill(&mut out);
     let size = breach_listing::answer_input(part(&input, 0, n), &mut out);
-    case_support::print_bytes(part(&out, 0, size));
-    print_rest(&out, size);
+    case_support::print_bytes(rt, part(&out, 0, size))?;
+    print_rest(rt, &out, size)
 }
 
-fn run_line(line: &[u8]) {
+fn run_line(rt: &impl Print, line: &[u8]) -> io::Result<()> {
     let kind = case_support::word(line, 0);
     if words::equal(kind, b"house") {
-        return run_house(line);
+        return run_house(rt, line);
     }
     if words::equal(kind, b"lint") {
-        return run_lint(line);
+        return run_lint(rt, line);
     }
-    case_support::print_line(line);
+    case_support::print_line(rt, line)
 }
 
 // At most as many lines as the budget says.
-fn main() {
+fn main(rt: HostRuntime) -> io::Result<()> {
+    let mut input = rt.reader();
     let mut line = [0u8; 12000];
     let mut budget: usize = 1000000;
     while 0 < budget {
-        let Line::Of(n) = case_support::read_line(&mut line) else {
-            return;
+        let Line::Of(n) = case_support::read_line(&mut input, &mut line)? else {
+            return Ok(());
         };
-        run_line(part(&line, 0, n));
+        run_line(&rt, part(&line, 0, n))?;
         budget -= 1;
     }
+    Ok(())
 }

@@ -6,7 +6,7 @@ use address::Address;
 use text::words;
 
 // What stands before a byte: an address's two halves, and the number since the last dot or colon.
-#[derive(Drop)]
+#[derive(Clone, Copy)]
 pub struct Sum {
     pub high: u64,
     pub low: u64,

@@ -1,4 +1,6 @@
 // The Received-SPF line (RFC 7208 section 9.1): written, read back to the parts of its values, and a part's value.
+#![tactic(auto)]
+
 ghost use Rattle.std.specs.Prelude.{◌≤◌, ◌≡◌, length};
 ghost use Rattle.received.specs.Numbers.{Says};
 ghost use Rattle.received.specs.Answers.{given, WritesLine, ReadsLine, UnquotesPart};
@@ -29,28 +31,28 @@ pub const MOST_HOST: usize = 255;
 pub const MOST_CLIENT: usize = 39;
 
 // Which identity was checked.
-#[derive(Drop)]
+#[derive(Clone, Copy)]
 pub enum Identity {
     MailFrom,
     Helo,
 }
 
 // What was written at the front of the lent buffer, by its length, or the number of a refusal.
-#[derive(Drop)]
+#[derive(Clone, Copy)]
 pub enum Written {
     Length(usize),
     Refused(u8),
 }
 
 // A part of the line: from a place up to another.
-#[derive(Drop)]
+#[derive(Clone, Copy)]
 pub struct Part {
     pub from: usize,
     pub to: usize,
 }
 
 // The result's number, and the part of each value: without quotes, with its backslashes.
-#[derive(Drop)]
+#[derive(Clone, Copy)]
 pub struct Parts {
     pub result: u8,
     pub receiver: Part,
@@ -61,7 +63,7 @@ pub struct Parts {
 }
 
 // What a line is read as, or 51.
-#[derive(Drop)]
+#[derive(Clone, Copy)]
 pub enum LineAnswer {
     Read(Parts),
     Refused(u8),

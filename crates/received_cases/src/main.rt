@@ -8,60 +8,63 @@
 //
 // A refusal is `refused` and its number. CLIENT is the address's octets, IDENTITY 0 for mailfrom and 1 for helo, BUFFER the lent buffer's length. `touched`
 // comes after an answer if the call changed a byte that it doesn't say it wrote. Any other line is printed as it is.
+#![tactic(auto)]
+
 use case_support::{Line, is_kept};
 use received::{Identity, LineAnswer, Part, Parts, Written};
+use std::io;
 use text::bytes::part;
 use text::words;
 
 // Prints a number after a space.
-fn print_next(n: usize) {
-    io::write_all(1, b" ");
-    io::print_decimal(1, n as u64);
+fn print_next(rt: &impl Print, n: usize) -> io::Result<()> {
+    rt.write_all(b" ")?;
+    rt.print(n)
 }
 
 // Prints the end of an answer, and whether a buffer is kept from a place on.
-fn print_rest(out: &[u8], from: usize) {
+fn print_rest(rt: &impl Print, out: &[u8], from: usize) -> io::Result<()> {
     if is_kept(out, from) {
-        return case_support::print_line(b"");
+        return case_support::print_line(rt, b"");
     }
-    case_support::print_line(b" touched");
+    case_support::print_line(rt, b" touched")
 }
 
 // Prints a refusal's number.
-fn print_refusal(number: u8) {
-    io::write_all(1, b"refused");
-    print_next(number as usize);
+fn print_refusal(rt: &impl Print, number: u8) -> io::Result<()> {
+    rt.write_all(b"refused")?;
+    print_next(rt, number as usize)
 }
 
 // Prints what a call wrote at the front of a buffer.
-fn print_written(answer: Written, out: &[u8]) {
+fn print_written(rt: &impl Print, answer: Written, out: &[u8]) -> io::Result<()> {
     match answer {
         Written::Length(n) => {
-            io::write_all(1, b"ok ");
-            case_support::print_bytes(part(out, 0, n));
-            print_rest(out, n);
+            rt.write_all(b"ok ")?;
+            case_support::print_bytes(rt, part(out, 0, n))?;
+            print_rest(rt, out, n)
         }
         Written::Refused(number) => {
-            print_refusal(number);
-            print_rest(out, 0);
+            print_refusal(rt, number)?;
+            print_rest(rt, out, 0)
         }
     }
 }
 
 // Prints where a part begins and ends.
-fn print_part(p: Part) {
-    print_next(p.from);
-    print_next(p.to);
+fn print_part(rt: &impl Print, p: Part) -> io::Result<()> {
+    print_next(rt, p.from)?;
+    print_next(rt, p.to)
 }
 
-fn print_parts(parts: Parts) {
-    io::write_all(1, b"ok");
-    print_next(parts.result as usize);
-    print_part(parts.receiver);
-    print_part(parts.client);
-    print_part(parts.sender);
-    print_part(parts.helo);
-    print_part(parts.identity);
+fn print_parts(rt: &impl Print, parts: Parts) -> io::Result<()> {
+    rt.write_all(b"ok")?;
+    print_next(rt, parts.result as usize)?;
+    print_part(rt, parts.receiver)?;
+    print_part(rt, parts.client)?;
+    print_part(rt, parts.sender)?;
+    print_part(rt, parts.helo)?;
+    print_part(rt, parts.identity)
 }
 
 // The result's number that a word writes.
@@ -103,7 +106,7 @@ fn write_front(
     Written::Refused(0)
 }
 
-fn run_write(line: &[u8]) {
+fn run_write(rt: &impl Print, line: &[u8]) -> io::Result<()> {
     let mut sender = [0u8; 1024];
     let mut helo = [0u8; 1024];
     let mut receiver = [0u8; 1024];
@@ -119,17 +122,17 @@ fn run_write(line: &[u8]) {
         part(&receiver, 0, r),
         &mut out,
     );
-    print_written(answer, &out);
+    print_written(rt, answer, &out)
 }
 
-fn run_read(line: &[u8]) {
+fn run_read(rt: &impl Print, line: &[u8]) -> io::Result<()> {
     let mut s = [0u8; 4097];
     let n = case_support::unhex(case_support::word(line, 1), &mut s);
     match received::read_line(part(&s, 0, n)) {
-        LineAnswer::Read(parts) => print_parts(parts),
-        LineAnswer::Refused(number) => print_refusal(number),
+        LineAnswer::Read(parts) => print_parts(rt, parts)?,
+        LineAnswer::Refused(number) => print_refusal(rt, number)?,
     }
-    case_support::print_line(b"");
+    case_support::print_line(rt, b"")
 }
 
 // Writes a part's value into the front of a buffer.
@@ -141,13 +144,13 @@ fn unquote_front(line: &[u8], s: &[u8], out: &mut [u8]) -> Written {
     Written::Refused(0)
 }
 
-fn run_unquote(line: &[u8]) {
+fn run_unquote(rt: &impl Print, line: &[u8]) -> io::Result<()> {
     let mut s = [0u8; 1024];
     let mut out = [0u8; 5000];
     let n = case_support::unhex(case_support::word(line, 1), &mut s);
     case_support::fill(&mut out);
     let answer = unquote_front(line, part(&s, 0, n), &mut out);
-    print_written(answer, &out);
+    print_written(rt, answer, &out)
 }
 
 // Writes what is printed of an input into the front of a buffer, the 1,500 bytes that are enough.
@@ -158,42 +161,44 @@ fn answer_front(s: &[u8], out: &mut [u8]) -> usize {
     0
 }
 
-fn run_print(line: &[u8]) {
+fn run_print(rt: &impl Print, line: &[u8]) -> io::Result<()> {
     let mut s = [0u8; 4097];
     let mut out = [0u8; 5000];
     let n = case_support::unhex(case_support::word(line, 1), &mut s);
     case_support::fill(&mut out);
     let size = answer_front(part(&s, 0, n), &mut out);
-    case_support::print_bytes(part(&out, 0, size));
-    print_rest(&out, size);
+    case_support::print_bytes(rt, part(&out, 0, size))?;
+    print_rest(rt, &out, size)
 }
 
-fn run_line(line: &[u8]) {
+fn run_line(rt: &impl Print, line: &[u8]) -> io::Result<()> {
     let kind = case_support::word(line, 0);
     if words::equal(kind, b"write") {
-        return run_write(line);
+        return run_write(rt, line);
     }
     if words::equal(kind, b"read") {
-        return run_read(line);
+        return run_read(rt, line);
     }
     if words::equal(kind, b"unquote") {
-        return run_unquote(line);
+        return run_unquote(rt, line);
     }
     if words::equal(kind, b"print") {
-        return run_print(line);
+        return run_print(rt, line);
     }
-    case_support::print_line(line);
+    case_support::print_line(rt, line)
 }
 
 // At most as many lines as the budget says.
-fn main() {
+fn main(rt: HostRuntime) -> io::Result<()> {
+    let mut input = rt.reader();
     let mut line = [0u8; 10000];
     let mut budget: usize = 1000000;
     while 0 < budget {
-        let Line::Of(n) = case_support::read_line(&mut line) else {
-            return;
+        let Line::Of(n) = case_support::read_line(&mut input, &mut line)? else {
+            return Ok(());
         };
-        run_line(part(&line, 0, n));
+        run_line(&rt, part(&line, 0, n))?;
         budget -= 1;
     }
+    Ok(())
 }

@@ -8,213 +8,229 @@
 //     address TEXT                      the address that a text writes, or `none`
 //
 // Any other line is printed as it is.
+#![tactic(auto)]
+
 use address::Address;
 use case_support::Line;
 use networks::Network;
 use record_listing::Column;
 use records::{Term, TermAnswer};
+use std::io;
 use text::bytes::part;
 use text::decimal::Number;
 use text::{decimal, words};
 
-fn run_record(line: &[u8]) {
+fn run_record(rt: &impl Print, line: &[u8]) -> io::Result<()> {
     let mut s = [0u8; 8192];
     let n = case_support::unhex(case_support::word(line, 1), &mut s);
     let mut out = [0u8; 64];
     let size = record_listing::put_reading(part(&s, 0, n), &mut out);
-    io::write_all(1, part(&out, 0, size));
+    rt.write_all(part(&out, 0, size))
 }
 
 // Prints a prefix length with a space before it.
-fn print_length(length: u8) {
+fn print_length(rt: &impl Print, length: u8) -> io::Result<()> {
     let mut out = [0u8; 8];
     let size = record_listing::put_length(Column::Of(length), &mut out, 0);
-    io::write_all(1, part(&out, 0, size));
+    rt.write_all(part(&out, 0, size))
 }
 
 // Prints a byte string in hex with a space before it.
-fn print_spaced(s: &[u8]) {
-    io::write_all(1, b" ");
-    case_support::print_bytes(s);
+fn print_spaced(rt: &impl Print, s: &[u8]) -> io::Result<()> {
+    rt.write_all(b" ")?;
+    case_support::print_bytes(rt, s)
 }
 
 // Prints a sign with a space before it.
-fn print_sign(sign: u8) {
+fn print_sign(rt: &impl Print, sign: u8) -> io::Result<()> {
     let one = [sign];
-    print_spaced(&one);
+    print_spaced(rt, &one)
 }
 
 // An argument that may be absent.
-fn print_optional(s: &[u8]) {
+fn print_optional(rt: &impl Print, s: &[u8]) -> io::Result<()> {
     if s.len() == 0 {
-        io::write_all(1, b" .");
-        return;
+        return rt.write_all(b" .");
     }
-    print_spaced(s);
+    print_spaced(rt, s)
 }
 
-fn print_plain(name: &[u8], sign: u8, argument: &[u8]) {
-    print_spaced(name);
-    print_sign(sign);
-    print_optional(argument);
-    io::write_all(1, b" . . .");
+fn print_plain(rt: &impl Print, name: &[u8], sign: u8, argument: &[u8]) -> io::Result<()> {
+    print_spaced(rt, name)?;
+    print_sign(rt, sign)?;
+    print_optional(rt, argument)?;
+    rt.write_all(b" . . .")
 }
 
-fn print_hosts(name: &[u8], sign: u8, argument: &[u8], four: u8, six: u8) {
-    print_spaced(name);
-    print_sign(sign);
-    print_optional(argument);
-    print_length(four);
-    print_length(six);
-    io::write_all(1, b" .");
+fn print_hosts(
+    rt: &impl Print,
+    name: &[u8],
+    sign: u8,
+    argument: &[u8],
+    four: u8,
+    six: u8,
+) -> io::Result<()> {
+    print_spaced(rt, name)?;
+    print_sign(rt, sign)?;
+    print_optional(rt, argument)?;
+    print_length(rt, four)?;
+    print_length(rt, six)?;
+    rt.write_all(b" .")
 }
 
-fn print_network(sign: u8, argument: &[u8], address: Address, length: u8) {
+fn print_network(
+    rt: &impl Print,
+    sign: u8,
+    argument: &[u8],
+    address: Address,
+    length: u8,
+) -> io::Result<()> {
     match address {
         Address::IPv4(v) => {
-            print_spaced(b"ip4");
-            print_sign(sign);
-            print_spaced(argument);
-            print_length(length);
-            io::write_all(1, b" .");
-            print_spaced(&address::octets4(v));
+            print_spaced(rt, b"ip4")?;
+            print_sign(rt, sign)?;
+            print_spaced(rt, argument)?;
+            print_length(rt, length)?;
+            rt.write_all(b" .")?;
+            print_spaced(rt, &address::octets4(v))
         }
         Address::IPv6(high, low) => {
-            print_spaced(b"ip6");
-            print_sign(sign);
-            print_spaced(argument);
-            io::write_all(1, b" .");
-            print_length(length);
-            print_spaced(&address::octets16(high, low));
+            print_spaced(rt, b"ip6")?;
+            print_sign(rt, sign)?;
+            print_spaced(rt, argument)?;
+            rt.write_all(b" .")?;
+            print_length(rt, length)?;
+            print_spaced(rt, &address::octets16(high, low))
         }
     }
 }
 
-fn print_modifier(name: &[u8], argument: &[u8]) {
-    print_spaced(name);
-    io::write_all(1, b" .");
-    print_spaced(argument);
-    io::write_all(1, b" . . .");
+fn print_modifier(rt: &impl Print, name: &[u8], argument: &[u8]) -> io::Result<()> {
+    print_spaced(rt, name)?;
+    rt.write_all(b" .")?;
+    print_spaced(rt, argument)?;
+    rt.write_all(b" . . .")
 }
 
 // All of a term but its places; w is its text.
-fn print_term(term: Term, w: &[u8], argument: &[u8]) {
+fn print_term(rt: &impl Print, term: Term, w: &[u8], argument: &[u8]) -> io::Result<()> {
     match term {
-        Term::All { sign } => print_plain(b"all", sign, argument),
-        Term::Include { sign, .. } => print_plain(b"include", sign, argument),
+        Term::All { sign } => print_plain(rt, b"all", sign, argument),
+        Term::Include { sign, .. } => print_plain(rt, b"include", sign, argument),
         Term::A {
             sign,
             four,
             six,
             ..
-        } => print_hosts(b"a", sign, argument, four, six),
+        } => print_hosts(rt, b"a", sign, argument, four, six),
         Term::Mx {
             sign,
             four,
             six,
             ..
-        } => print_hosts(b"mx", sign, argument, four, six),
-        Term::Ptr { sign, .. } => print_plain(b"ptr", sign, argument),
+        } => print_hosts(rt, b"mx", sign, argument, four, six),
+        Term::Ptr { sign, .. } => print_plain(rt, b"ptr", sign, argument),
         Term::Network {
             sign,
             address,
             length,
             ..
-        } => print_network(sign, argument, address, length),
-        Term::Exists { sign, .. } => print_plain(b"exists", sign, argument),
-        Term::Redirect { .. } => print_modifier(b"redirect", argument),
-        Term::Explanation { .. } => print_modifier(b"exp", argument),
-        Term::Unknown { name, .. } => print_modifier(part(w, 0, name), argument),
+        } => print_network(rt, sign, argument, address, length),
+        Term::Exists { sign, .. } => print_plain(rt, b"exists", sign, argument),
+        Term::Redirect { .. } => print_modifier(rt, b"redirect", argument),
+        Term::Explanation { .. } => print_modifier(rt, b"exp", argument),
+        Term::Unknown { name, .. } => print_modifier(rt, part(w, 0, name), argument),
     }
 }
 
 // Prints the end or a refusal.
-fn print_no_term(s: &[u8], answer: TermAnswer) {
+fn print_no_term(rt: &impl Print, s: &[u8], answer: TermAnswer) -> io::Result<()> {
     let mut out = [0u8; 64];
     let size = record_listing::put_term_answer(s, answer, &mut out);
-    io::write_all(1, part(&out, 0, size));
+    rt.write_all(part(&out, 0, size))
 }
 
-fn print_term_answer(s: &[u8], answer: TermAnswer) {
+fn print_term_answer(rt: &impl Print, s: &[u8], answer: TermAnswer) -> io::Result<()> {
     let TermAnswer::Is { at, next, term } = answer else {
-        return print_no_term(s, answer);
+        return print_no_term(rt, s, answer);
     };
-    io::write_all(1, b"term ");
-    io::print_decimal(1, at as u64);
-    io::write_all(1, b" ");
-    io::print_decimal(1, next as u64);
+    rt.write_all(b"term ")?;
+    rt.print(at)?;
+    rt.write_all(b" ")?;
+    rt.print(next)?;
     print_term(
+        rt,
         term,
         part(s, at, next),
         records::argument(s, at, next, term),
-    );
-    case_support::print_line(b"");
+    )?;
+    case_support::print_line(rt, b"")
 }
 
-fn run_term(line: &[u8]) {
+fn run_term(rt: &impl Print, line: &[u8]) -> io::Result<()> {
     let mut s = [0u8; 8192];
     let n = case_support::unhex(case_support::word(line, 1), &mut s);
     let Number::Value(at) = decimal::read_decimal(case_support::word(line, 2), 18446744073709551615)
     else {
-        case_support::print_line(b"no place");
-        return;
+        return case_support::print_line(rt, b"no place");
     };
     let text = part(&s, 0, n);
-    print_term_answer(text, records::read_term(text, at as usize));
+    print_term_answer(rt, text, records::read_term(text, at as usize))
 }
 
 // Prints a record.
-fn print_record(record: &[u8]) {
+fn print_record(rt: &impl Print, record: &[u8]) -> io::Result<()> {
     let mut out = record_listing::buffer();
     let size = record_listing::list_record(record, &mut out);
-    io::write_all(1, part(&out, 0, size));
+    rt.write_all(part(&out, 0, size))
 }
 
-fn run_print(line: &[u8]) {
+fn run_print(rt: &impl Print, line: &[u8]) -> io::Result<()> {
     let mut s = [0u8; 8192];
     let n = case_support::unhex(case_support::word(line, 1), &mut s);
-    print_record(part(&s, 0, n));
+    print_record(rt, part(&s, 0, n))
 }
 
-fn run_address(line: &[u8]) {
+fn run_address(rt: &impl Print, line: &[u8]) -> io::Result<()> {
     let mut s = [0u8; 8192];
     let n = case_support::unhex(case_support::word(line, 1), &mut s);
     let Network::Is(a) = networks::read_address(part(&s, 0, n)) else {
-        case_support::print_line(b"none");
-        return;
+        return case_support::print_line(rt, b"none");
     };
-    case_support::print_address(a);
+    case_support::print_address(rt, a)
 }
 
-fn run_line(line: &[u8]) {
+fn run_line(rt: &impl Print, line: &[u8]) -> io::Result<()> {
     let kind = case_support::word(line, 0);
     if words::equal(kind, b"record") {
-        return run_record(line);
+        return run_record(rt, line);
     }
     if words::equal(kind, b"term") {
-        return run_term(line);
+        return run_term(rt, line);
     }
     if words::equal(kind, b"print") {
-        return run_print(line);
+        return run_print(rt, line);
     }
     if words::equal(kind, b"text") {
-        return print_record(part(line, 5, line.len()));
+        return print_record(rt, part(line, 5, line.len()));
     }
     if words::equal(kind, b"address") {
-        return run_address(line);
+        return run_address(rt, line);
     }
-    case_support::print_line(line);
+    case_support::print_line(rt, line)
 }
 
 // At most as many lines as the budget says.
-fn main() {
+fn main(rt: HostRuntime) -> io::Result<()> {
+    let mut input = rt.reader();
     let mut line = [0u8; 32768];
     let mut budget: usize = 1000000;
     while 0 < budget {
-        let Line::Of(n) = case_support::read_line(&mut line) else {
-            return;
+        let Line::Of(n) = case_support::read_line(&mut input, &mut line)? else {
+            return Ok(());
         };
-        run_line(part(&line, 0, n));
+        run_line(&rt, part(&line, 0, n))?;
         budget -= 1;
     }
+    Ok(())
 }

@@ -1,4 +1,6 @@
 // What the record printer prints, written into a lent buffer: a header and a line for each term, or a refusal; and the answers alone.
+#![tactic(auto)]
+
 ghost use Rattle.std.specs.Prelude.{◌≤◌, length, List, ◌++◌, ◌≡◌};
 ghost use Rattle.text.specs.Bytes.{part};
 ghost use Rattle.text.specs.Texts.{bytes};
@@ -15,7 +17,7 @@ use records::{RecordAnswer, Term, TermAnswer};
 use text::{bytes, writing};
 
 // A column that may be absent: a sign or a prefix length.
-#[derive(Drop)]
+#[derive(Clone, Copy)]
 pub enum Column {
     Of(u8),
     Absent,

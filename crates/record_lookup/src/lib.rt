@@ -1,4 +1,6 @@
 // Record lookup: the one record of a domain, by its place in the table.
+#![tactic(auto)]
+
 ghost use Rattle.std.specs.Prelude.{◌≡◌};
 ghost use Rattle.text.specs.Bytes.{part};
 ghost use Rattle.answer_table.specs.Reader.{items_of};
@@ -11,7 +13,7 @@ use rules::{Life, LookedUp, Selected, Span};
 use text::bytes;
 
 // Which of some texts are records: none; several; or one, by its place in the table.
-#[derive(Drop)]
+#[derive(Clone, Copy)]
 pub enum Picked {
     Nothing,
     Several,

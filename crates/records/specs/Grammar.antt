@@ -18,7 +18,7 @@ pub record Literal (word w : List ℕ) : Type 0 where
 -- [ ":" domain-spec ]
 pub data OptionalSpec : List ℕ → Optional (List ℕ) → Type 0 where
   without : OptionalSpec [] absent
-  with_spec_lem : {d : List ℕ} {ps : List Piece} → DomainSpec d ps → OptionalSpec (bytes ":" ++ d) (present d)
+  has_spec : {d : List ℕ} {ps : List Piece} → DomainSpec d ps → OptionalSpec (bytes ":" ++ d) (present d)
 
 -- mechanism = ( all / include / a / mx / ptr / ip4 / ip6 / exists ); sign is what stands before it, "`+` if unwritten"
 pub data Mechanism (sign : ℕ) : List ℕ → Said → Type 0 where

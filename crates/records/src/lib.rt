@@ -1,4 +1,6 @@
 // Records and their terms.
+#![tactic(auto)]
+
 ghost use Rattle.std.specs.Prelude.{◌≡◌, ◌+◌, ◌≤◌, ◌<◌, length};
 ghost use Rattle.text.specs.Bytes.{part};
 ghost use Rattle.records.specs.Answers.{most_bytes, ReadsRecord, ReadsTerm, ReadsArgument};
@@ -17,7 +19,7 @@ pub mod terms;
 
 // A term. `from` and `to` are places in the term's own text: where its argument stands, and equal where `a`, `mx` or `ptr` has none. An unknown
 // modifier's name ends at `name`, where its `=` stands.
-#[derive(Drop)]
+#[derive(Clone, Copy)]
 pub enum Term {
     All {
         sign: u8,
@@ -73,14 +75,14 @@ pub enum Term {
 }
 
 // A run of non-spaces: a term, or outside the grammar.
-#[derive(Drop)]
+#[derive(Clone, Copy)]
 pub enum Token {
     Is(Term),
     Outside,
 }
 
 // What reading a term answers: a term with its first byte's place and the next place; the end; or a refusal with its number and place.
-#[derive(Drop)]
+#[derive(Clone, Copy)]
 pub enum TermAnswer {
     Is { at: usize, next: usize, term: Term },
     End,
@@ -88,7 +90,7 @@ pub enum TermAnswer {
 }
 
 // What reading a record answers: the place just after the version, or a refusal with its number and place.
-#[derive(Drop)]
+#[derive(Clone, Copy)]
 pub enum RecordAnswer {
     Accepted(usize),
     Refused { number: u8, at: usize },

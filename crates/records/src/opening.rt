@@ -6,7 +6,7 @@ use crate::{AFTER_VERSION, MOST_BYTES, Term, TermAnswer, has_version, next_term}
 use address::Address;
 
 // What a term says of a client without a lookup: that it matches, with its sign; that it doesn't; or nothing.
-#[derive(Drop)]
+#[derive(Clone, Copy)]
 pub enum Unaided {
     Matches(u8),
     Passes,
@@ -15,7 +15,7 @@ pub enum Unaided {
 
 // What the leading terms of a record say to a client: the sign of the first term that doesn't pass, if that term matches without a lookup; otherwise
 // the place after the leading terms that pass; or a refusal with its number and place.
-#[derive(Drop)]
+#[derive(Clone, Copy)]
 pub enum Opening {
     Matched { sign: u8 },
     Open { at: usize },
@@ -23,35 +23,35 @@ pub enum Opening {
 }
 
 // Where the argument of a modifier stands, in its record or in a table that has the record; or that the record has no such modifier.
-#[derive(Drop)]
+#[derive(Clone, Copy)]
 pub enum Modifier {
     Absent,
     Part { from: usize, to: usize },
 }
 
 // Where the arguments of a record's redirect and exp stand.
-#[derive(Drop)]
+#[derive(Clone, Copy)]
 pub struct Modifiers {
     pub redirect: Modifier,
     pub exp: Modifier,
 }
 
 // Where the argument of a modifier that was met stands, as two numbers; both are 0 where none was met.
-#[derive(Drop)]
+#[derive(Clone, Copy)]
 pub struct Place {
     pub from: usize,
     pub to: usize,
 }
 
 // Where those of the redirect and the exp that were met stand: what the walk over the terms carries, numbers alone.
-#[derive(Drop)]
+#[derive(Clone, Copy)]
 pub struct Met {
     pub redirect: Place,
     pub exp: Place,
 }
 
 // What reading a record for a client answers; a refused record has no modifiers.
-#[derive(Drop)]
+#[derive(Clone, Copy)]
 pub struct Reading {
     pub opening: Opening,
     pub modifiers: Modifiers,

@@ -11,7 +11,7 @@ use text::bytes::Class;
 use text::{bytes, words};
 
 // Which mechanism a name is.
-#[derive(Drop)]
+#[derive(Clone, Copy)]
 pub enum Kind {
     All,
     Include,
@@ -25,7 +25,7 @@ pub enum Kind {
 }
 
 // A domain-spec after its colon, by where it begins; absent; or neither.
-#[derive(Drop)]
+#[derive(Clone, Copy)]
 pub enum Spec {
     From(usize),
     Absent,
@@ -33,7 +33,7 @@ pub enum Spec {
 }
 
 // The domain-spec and the prefix lengths of an `a` or `mx` term.
-#[derive(Drop)]
+#[derive(Clone, Copy)]
 pub enum Hosts {
     Of {
         from: usize,

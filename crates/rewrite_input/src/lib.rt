@@ -1,4 +1,6 @@
 // What the program add_lifetimes prints, written into a lent buffer: the new table of an old one, or a refusal.
+#![tactic(auto)]
+
 ghost use Rattle.std.specs.Prelude.{◌≤◌, length};
 ghost use Rattle.answer_table.specs.Answers.{most_bytes};
 ghost use Rattle.rewrite_input.specs.Printing.{Printed};

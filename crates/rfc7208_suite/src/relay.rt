@@ -5,6 +5,7 @@ use answer_entry::{AppendAnswer, append_entry};
 use answer_table::Found;
 use evaluation::explaining::{Explanation, explain};
 use evaluation::{Answer, evaluate};
+use std::io;
 use text::bytes::part;
 
 // The status of what the zone has for a question; a name that it lacks doesn't exist.
@@ -41,39 +42,40 @@ fn append_answer(zone: &[u8], kind: u16, name: &[u8], table: &mut [u8], size: us
     end
 }
 
-fn print(s: &[u8]) {
-    io::write_all(1, s);
+fn print(rt: &impl Print, s: &[u8]) -> io::Result<()> {
+    rt.write_all(s)
 }
 
-fn print_result(value: u8) {
+fn print_result(rt: &impl Print, value: u8) -> io::Result<()> {
     match value {
-        0 => print(b"none"),
-        1 => print(b"neutral"),
-        2 => print(b"pass"),
-        3 => print(b"fail"),
-        4 => print(b"softfail"),
-        5 => print(b"temperror"),
-        _ => print(b"permerror"),
+        0 => print(rt, b"none"),
+        1 => print(rt, b"neutral"),
+        2 => print(rt, b"pass"),
+        3 => print(rt, b"fail"),
+        4 => print(rt, b"softfail"),
+        5 => print(rt, b"temperror"),
+        _ => print(rt, b"permerror"),
     }
 }
 
 // Prints a result and its text, if there is one.
-fn print_decided(value: u8, text: &[u8]) {
-    print_result(value);
+fn print_decided(rt: &impl Print, value: u8, text: &[u8]) -> io::Result<()> {
+    print_result(rt, value)?;
     if 0 < text.len() {
-        print(b" ");
+        print(rt, b" ")?;
     }
-    case_support::print_line(text);
+    case_support::print_line(rt, text)
 }
 
-fn print_refused(number: u8) {
-    print(b"refused ");
-    case_support::print_number_line(number as usize);
+fn print_refused(rt: &impl Print, number: u8) -> io::Result<()> {
+    print(rt, b"refused ")?;
+    case_support::print_number_line(rt, number as usize)
 }
 
 // Asks for the text of a fail over the table that decided it, adds the zone's answer to each question that is missing, and prints the fail and its text.
 // 12 questions are all that an explanation puts: eleven for the p macro and one for the text.
 fn explain_fail(
+    rt: &impl Print,
     zone: &[u8],
     client: Address,
     domain: &[u8],
@@ -83,7 +85,7 @@ fn explain_fail(
     length: usize,
     table: &mut [u8],
     decided: usize,
-) {
+) -> io::Result<()> {
     let mut name = [0u8; 253];
     let mut text = [0u8; 500];
     let mut size = decided;
@@ -101,15 +103,15 @@ fn explain_fail(
             &mut name,
             &mut text,
         ) {
-            Explanation::Text(n) => return print_decided(3, part(&text, 0, n)),
+            Explanation::Text(n) => return print_decided(rt, 3, part(&text, 0, n)),
             Explanation::Wanting { kind, length: n } => {
                 size = append_answer(zone, kind, part(&name, 0, n), table, size);
             }
-            Explanation::Refused(number) => return print_refused(number),
-            Explanation::RefusedAt { number, at: _ } => return print_refused(number),
+            Explanation::Refused(number) => return print_refused(rt, number),
+            Explanation::RefusedAt { number, at: _ } => return print_refused(rt, number),
         }
     }
-    case_support::print_line(b"undecided");
+    case_support::print_line(rt, b"undecided")
 }
 
 // Fills an empty table with the zone's answer to each question that the check wants; answers the table's size. 130 questions are more than any check of
@@ -149,7 +151,14 @@ fn collect_answers(
 }
 
 // Checks over the answers that the zone has for it, and prints what the check comes to.
-pub fn run(zone: &[u8], client: Address, domain: &[u8], sender: &[u8], helo: &[u8]) {
+pub fn run(
+    rt: &impl Print,
+    zone: &[u8],
+    client: Address,
+    domain: &[u8],
+    sender: &[u8],
+    helo: &[u8],
+) -> io::Result<()> {
     let mut table = [0u8; 8192];
     let mut name = [0u8; 253];
     let size = collect_answers(zone, client, domain, sender, helo, &mut table);
@@ -159,7 +168,7 @@ pub fn run(zone: &[u8], client: Address, domain: &[u8], sender: &[u8], helo: &[u
             value,
             counts: _,
             lifetime: _,
-        } => print_decided(value, b""),
+        } => print_decided(rt, value, b""),
         Answer::Fail {
             counts: _,
             lifetime: _,
@@ -167,6 +176,7 @@ pub fn run(zone: &[u8], client: Address, domain: &[u8], sender: &[u8], helo: &[u
             place,
             length,
         } => explain_fail(
+            rt,
             zone,
             client,
             part(&name, 0, n),
@@ -182,8 +192,8 @@ pub fn run(zone: &[u8], client: Address, domain: &[u8], sender: &[u8], helo: &[u
             length: _,
             counts: _,
             lifetime: _,
-        } => case_support::print_line(b"undecided"),
-        Answer::Refused(number) => print_refused(number),
-        Answer::RefusedAt { number, at: _ } => print_refused(number),
+        } => case_support::print_line(rt, b"undecided"),
+        Answer::Refused(number) => print_refused(rt, number),
+        Answer::RefusedAt { number, at: _ } => print_refused(rt, number),
     }
 }

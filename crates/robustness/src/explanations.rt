@@ -8,7 +8,7 @@ use robustness_inputs::{arguments, random, tables, tally};
 use text::bytes::part;
 
 // What stays the same while questions are wanted: the place and length of an exp argument, and the seed of the time and of the buffers' lengths.
-#[derive(Drop)]
+#[derive(Clone, Copy)]
 struct Told {
     place: usize,
     length: usize,

@@ -3,6 +3,8 @@
 // It shows that every call returns, that a call keeps every byte that it does not write, and that an evaluation's lifetime is 0 or that of an entry. The
 // stored output is the program's own: it says nothing of whether an answer is right, and guards against a change of behaviour that was not meant. Numbers
 // come from a fixed seed, so each run is the same.
+#![tactic(auto)]
+
 mod checks;
 mod explanations;
 mod readings;
@@ -10,6 +12,7 @@ mod turns;
 
 use address::Address;
 use robustness_inputs::{arguments, random, tally};
+use std::io;
 use text::bytes::part;
 
 // The calls on a record, and the evaluations, with the same arguments.
@@ -71,62 +74,76 @@ fn run_round(seed: u64, table: &mut [u8], counts: &mut [u64], digest: u64) -> u6
 }
 
 // Prints a count.
-fn print_place(counts: &[u64], at: usize) {
-    io::write_all(1, b" ");
+fn print_place(rt: &impl Print, counts: &[u64], at: usize) -> io::Result<()> {
+    rt.write_all(b" ")?;
     if at < counts.len() {
-        io::print_decimal(1, counts[at]);
+        rt.print(counts[at])?;
     }
-    io::write_all(1, b"\n");
+    rt.write_all(b"\n")
 }
 
 // Prints a count with its words.
-fn print_count(words: &[u8], counts: &[u64], at: u8) {
-    io::write_all(1, words);
-    print_place(counts, at as usize);
+fn print_count(rt: &impl Print, words: &[u8], counts: &[u64], at: u8) -> io::Result<()> {
+    rt.write_all(words)?;
+    print_place(rt, counts, at as usize)
 }
 
 // Prints the count of an answer's number, with the call's name.
-fn print_number(call: &[u8], number: u8, counts: &[u64], start: u8) {
-    io::write_all(1, call);
-    io::write_all(1, b" ");
-    io::print_decimal(1, number as u64);
-    print_place(counts, start as usize + number as usize);
+fn print_number(
+    rt: &impl Print,
+    call: &[u8],
+    number: u8,
+    counts: &[u64],
+    start: u8,
+) -> io::Result<()> {
+    rt.write_all(call)?;
+    rt.write_all(b" ")?;
+    rt.print(number)?;
+    print_place(rt, counts, start as usize + number as usize)
 }
 
 // Prints the counts of a call's answers from one number up to another.
-fn print_numbers(call: &[u8], from: u8, to: u8, counts: &[u64], start: u8) {
+fn print_numbers(
+    rt: &impl Print,
+    call: &[u8],
+    from: u8,
+    to: u8,
+    counts: &[u64],
+    start: u8,
+) -> io::Result<()> {
     let mut n = from;
     while n < to {
-        print_number(call, n, counts, start);
+        print_number(rt, call, n, counts, start)?;
         n += 1;
     }
+    Ok(())
 }
 
-fn print_counts(counts: &[u64]) {
-    print_numbers(b"evaluate", 0, 8, counts, tally::EVALUATE);
-    print_numbers(b"evaluate", 20, 27, counts, tally::EVALUATE);
-    print_count(b"permerrors after 10 lookups", counts, tally::TENTHS);
-    print_count(b"permerrors after 3 voids", counts, tally::VOIDS);
-    print_count(b"lifetimes of 0", counts, tally::ZEROS);
-    print_count(b"lifetimes of an entry", counts, tally::LIVES);
-    print_count(b"lifetimes of no entry", counts, tally::STRAYS);
-    print_number(b"explain", 3, counts, tally::EXPLAIN);
-    print_number(b"explain", 7, counts, tally::EXPLAIN);
-    print_numbers(b"explain", 20, 27, counts, tally::EXPLAIN);
-    print_number(b"explain", 28, counts, tally::EXPLAIN);
-    print_count(b"explanations with a text", counts, tally::TEXTS);
-    print_count(b"read_record accepted", counts, tally::RECORD);
-    print_numbers(b"read_record", 30, 34, counts, tally::RECORD);
-    print_count(b"read_term a term", counts, tally::TERM);
-    print_count(b"read_term the end", counts, tally::ENDS);
-    print_number(b"read_term", 30, counts, tally::TERM);
-    print_number(b"read_term", 32, counts, tally::TERM);
-    print_number(b"read_term", 34, counts, tally::TERM);
-    print_count(b"expand written", counts, tally::EXPAND);
-    print_numbers(b"expand", 20, 23, counts, tally::EXPAND);
-    print_numbers(b"expand", 40, 42, counts, tally::EXPAND);
-    print_count(b"buffers kept", counts, tally::KEPT);
-    print_count(b"buffers changed", counts, tally::CHANGED);
+fn print_counts(rt: &impl Print, counts: &[u64]) -> io::Result<()> {
+    print_numbers(rt, b"evaluate", 0, 8, counts, tally::EVALUATE)?;
+    print_numbers(rt, b"evaluate", 20, 27, counts, tally::EVALUATE)?;
+    print_count(rt, b"permerrors after 10 lookups", counts, tally::TENTHS)?;
+    print_count(rt, b"permerrors after 3 voids", counts, tally::VOIDS)?;
+    print_count(rt, b"lifetimes of 0", counts, tally::ZEROS)?;
+    print_count(rt, b"lifetimes of an entry", counts, tally::LIVES)?;
+    print_count(rt, b"lifetimes of no entry", counts, tally::STRAYS)?;
+    print_number(rt, b"explain", 3, counts, tally::EXPLAIN)?;
+    print_number(rt, b"explain", 7, counts, tally::EXPLAIN)?;
+    print_numbers(rt, b"explain", 20, 27, counts, tally::EXPLAIN)?;
+    print_number(rt, b"explain", 28, counts, tally::EXPLAIN)?;
+    print_count(rt, b"explanations with a text", counts, tally::TEXTS)?;
+    print_count(rt, b"read_record accepted", counts, tally::RECORD)?;
+    print_numbers(rt, b"read_record", 30, 34, counts, tally::RECORD)?;
+    print_count(rt, b"read_term a term", counts, tally::TERM)?;
+    print_count(rt, b"read_term the end", counts, tally::ENDS)?;
+    print_number(rt, b"read_term", 30, counts, tally::TERM)?;
+    print_number(rt, b"read_term", 32, counts, tally::TERM)?;
+    print_number(rt, b"read_term", 34, counts, tally::TERM)?;
+    print_count(rt, b"expand written", counts, tally::EXPAND)?;
+    print_numbers(rt, b"expand", 20, 23, counts, tally::EXPAND)?;
+    print_numbers(rt, b"expand", 40, 42, counts, tally::EXPAND)?;
+    print_count(rt, b"buffers kept", counts, tally::KEPT)?;
+    print_count(rt, b"buffers changed", counts, tally::CHANGED)
 }
 
 // Runs the rounds; answers the digest.
@@ -140,18 +157,18 @@ fn run_rounds(table: &mut [u8], counts: &mut [u64]) -> u64 {
     digest
 }
 
-fn print_digest(digest: u64) {
-    io::write_all(1, b"digest ");
-    io::print_hex(1, digest, 16);
-    io::write_all(1, b"\n");
+fn print_digest(rt: &impl Print, digest: u64) -> io::Result<()> {
+    rt.write_all(b"digest ")?;
+    print!(rt; "{digest:016x}")?;
+    rt.write_all(b"\n")
 }
 
 // The table's space is one byte more than a table may have.
-fn main() {
+fn main(rt: HostRuntime) -> io::Result<()> {
     let mut table = [0u8; 65536];
     let mut counts = [0u64; 256];
     let digest = run_rounds(&mut table, &mut counts);
-    io::write_all(1, b"rounds 20000\n");
-    print_counts(&counts);
-    print_digest(digest);
+    rt.write_all(b"rounds 20000\n")?;
+    print_counts(&rt, &counts)?;
+    print_digest(&rt, digest)
 }

@@ -1,5 +1,5 @@
 // What a turn of calls over a growing table leaves: the digest, the table's size, and whether a question was wanting.
-#[derive(Drop)]
+#[derive(Clone, Copy)]
 pub struct Turn {
     pub digest: u64,
     pub size: usize,

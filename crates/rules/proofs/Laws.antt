@@ -41,3 +41,5 @@ pub mod Reached
 pub mod Exp
 -- Listed: no check that has a part in an evaluation is left out of those reached.
 pub mod Listed
+-- ScopeCases: the paper's cases, proved as a single statement.
+pub mod ScopeCases

@@ -1,8 +1,9 @@
 -- The cases that are to be "proved as a single statement": those about records, macros and addresses, and with them those computed about evaluation.
-use Rattle.address.specs.Examples.{Cases as AddressCases, cases as address-cases}
-use Rattle.macros.specs.Examples.{Cases as MacroCases, cases as macro-cases}
-use Rattle.records.specs.Examples.{Cases as RecordCases, cases as record-cases}
-use Rattle.rules.specs.Examples.{Cases as EvaluationCases, computed}
+-- `scope_cases` proves it (proofs/Laws/ScopeCases.antt).
+use Rattle.address.specs.Examples.{Cases as AddressCases}
+use Rattle.macros.specs.Examples.{Cases as MacroCases}
+use Rattle.records.specs.Examples.{Cases as RecordCases}
+use Rattle.rules.specs.Examples.{Cases as EvaluationCases}
 
 pub record ScopeCases : Type 0 where
   -- `v=spf1`; `v=spf10 -all`; ip4 /32 and /33; ip6 /128 and /129; `ip4=192.0.2.1`; redirect, exp, redirect
@@ -13,6 +14,3 @@ pub record ScopeCases : Type 0 where
   pub of_addresses : AddressCases
   -- besides: ten and eleven redirects, two and three void answers, "Errors that look right"
   pub of_evaluation : EvaluationCases
-
-pub scope_cases : ScopeCases
-scope_cases = record { of_records = record-cases; of_macros = macro-cases; of_addresses = address-cases; of_evaluation = computed.scope }

@@ -9,25 +9,26 @@ use evaluation::explaining::Explanation;
 use evaluation::{Answer, evaluate, explaining};
 use networks::Network;
 use rules::Counts;
+use std::io;
 use text::bytes::part;
 use text::decimal;
 use text::decimal::Number;
 use text::fields::{after_fields, field};
 
 // Prints the answer to what is held.
-fn print_held(input: &[u8]) {
+fn print_held(rt: &impl Print, input: &[u8]) -> io::Result<()> {
     let mut out = [0u8; 640];
     let size = check_input::answer_input(input, &mut out);
-    io::write_all(1, part(&out, 0, size));
+    rt.write_all(part(&out, 0, size))
 }
 
 // Runs the input that a word writes in hex.
-pub fn run(word: &[u8]) {
+pub fn run(rt: &impl Print, word: &[u8]) -> io::Result<()> {
     let mut held = [0u8; 132234];
     let mut input = [0u8; 16384];
     let n = case_support::unhex(word, &mut input);
     let size = hold(&mut held, 0, &input, n);
-    print_held(part(&held, 0, size));
+    print_held(rt, part(&held, 0, size))
 }
 
 // Adds so many of a byte to what is held, in chunks of 4,096.
@@ -47,7 +48,13 @@ fn hold_many(held: &mut [u8], n: usize, byte: u8, count: usize) -> usize
 }
 
 // Runs the input that two words write in hex, with so many of a byte between them.
-pub fn run_wide(front: &[u8], rest: &[u8], byte: u8, count: usize) {
+pub fn run_wide(
+    rt: &impl Print,
+    front: &[u8],
+    rest: &[u8],
+    byte: u8,
+    count: usize,
+) -> io::Result<()> {
     let mut held = [0u8; 132234];
     let mut before = [0u8; 8192];
     let mut after = [0u8; 8192];
@@ -56,7 +63,7 @@ pub fn run_wide(front: &[u8], rest: &[u8], byte: u8, count: usize) {
     let first = hold(&mut held, 0, &before, n);
     let middle = hold_many(&mut held, first, byte, count);
     let size = hold(&mut held, middle, &after, m);
-    print_held(part(&held, 0, size));
+    print_held(rt, part(&held, 0, size))
 }
 
 // Prints the second call's answer with the counts and the lifetime of the first, from buffers of some length; `domain` is the failing record's.
@@ -179,52 +186,62 @@ fn read_lent(
 }
 
 // Prints both calls' lines.
-fn print_lent(input: &[u8], name: &mut [u8], question: &mut [u8], text: &mut [u8]) {
+fn print_lent(
+    rt: &impl Print,
+    input: &[u8],
+    name: &mut [u8],
+    question: &mut [u8],
+    text: &mut [u8],
+) -> io::Result<()> {
     let mut out = [0u8; 2048];
     let size = read_lent(input, name, question, text, &mut out);
-    io::write_all(1, part(&out, 0, size));
+    rt.write_all(part(&out, 0, size))
 }
 
 // The check with the front of the text buffer.
 fn check_text(
+    rt: &impl Print,
     input: &[u8],
     name: &mut [u8],
     question: &mut [u8],
     text: &mut [u8],
     text_room: usize,
-) {
+) -> io::Result<()> {
     if text_room <= text.len() {
-        return print_lent(input, name, question, &mut text[..text_room]);
+        return print_lent(rt, input, name, question, &mut text[..text_room]);
     }
-    case_support::print_line(b"too long");
+    case_support::print_line(rt, b"too long")
 }
 
 // The check with the front of the second call's name buffer.
 fn check_question(
+    rt: &impl Print,
     input: &[u8],
     name: &mut [u8],
     question: &mut [u8],
     text: &mut [u8],
     name_room: usize,
     text_room: usize,
-) {
+) -> io::Result<()> {
     if name_room <= question.len() {
-        return check_text(input, name, &mut question[..name_room], text, text_room);
+        return check_text(rt, input, name, &mut question[..name_room], text, text_room);
     }
-    case_support::print_line(b"too long");
+    case_support::print_line(rt, b"too long")
 }
 
 // The check with the fronts of all buffers.
 fn check_front(
+    rt: &impl Print,
     input: &[u8],
     name: &mut [u8],
     question: &mut [u8],
     text: &mut [u8],
     name_room: usize,
     text_room: usize,
-) {
+) -> io::Result<()> {
     if name_room <= name.len() {
         return check_question(
+            rt,
             input,
             &mut name[..name_room],
             question,
@@ -233,11 +250,17 @@ fn check_front(
             text_room,
         );
     }
-    case_support::print_line(b"too long");
+    case_support::print_line(rt, b"too long")
 }
 
 // Runs the check that a word writes in hex, with buffers of at most 1,024 bytes and so many zero bytes after its table.
-pub fn run_lent(word: &[u8], name_room: usize, text_room: usize, zeros: usize) {
+pub fn run_lent(
+    rt: &impl Print,
+    word: &[u8],
+    name_room: usize,
+    text_room: usize,
+    zeros: usize,
+) -> io::Result<()> {
     let mut input = [0u8; 73728];
     let mut name = [0u8; 1024];
     let mut question = [0u8; 1024];
@@ -245,6 +268,7 @@ pub fn run_lent(word: &[u8], name_room: usize, text_room: usize, zeros: usize) {
     let n = case_support::unhex(word, &mut input);
     if zeros <= 65536 {
         return check_front(
+            rt,
             part(&input, 0, n + zeros),
             &mut name,
             &mut question,
@@ -253,5 +277,5 @@ pub fn run_lent(word: &[u8], name_room: usize, text_room: usize, zeros: usize) {
             text_room,
         );
     }
-    case_support::print_line(b"too long");
+    case_support::print_line(rt, b"too long")
 }

@@ -15,51 +15,55 @@
 //     lent LABEL NAME TEXT ZEROS INPUT  the same with buffers of these lengths and so many zero bytes after the table
 //
 // FORM is `domain-spec` or `explanation`. Any other line is printed as it is.
+#![tactic(auto)]
+
 mod checks;
 
 use case_support::Line;
 use macros::{Expanded, Form};
+use std::io;
 use text::bytes::part;
 use text::words;
 
-fn run_record(line: &[u8]) {
+fn run_record(rt: &impl Print, line: &[u8]) -> io::Result<()> {
     let mut s = [0u8; 8192];
     let mut out = [0u8; 64];
     let n = case_support::unhex(case_support::word(line, 2), &mut s);
     let size = record_listing::put_reading(part(&s, 0, n), &mut out);
-    io::write_all(1, part(&out, 0, size));
+    rt.write_all(part(&out, 0, size))
 }
 
 // Runs the record printer.
-fn run_listing(line: &[u8]) {
+fn run_listing(rt: &impl Print, line: &[u8]) -> io::Result<()> {
     let mut input = [0u8; 8192];
     let mut out = record_listing::buffer();
     let n = case_support::unhex(case_support::word(line, 2), &mut input);
     let size = record_listing::list_input(&input, n, &mut out);
-    io::write_all(1, part(&out, 0, size));
+    rt.write_all(part(&out, 0, size))
 }
 
 // Reads the term of a record at a place and prints what is answered.
-fn print_term_at(s: &[u8], place: usize) {
+fn print_term_at(rt: &impl Print, s: &[u8], place: usize) -> io::Result<()> {
     let mut out = [0u8; 16384];
     let size = record_listing::put_term_answer(s, records::read_term(s, place), &mut out);
-    io::write_all(1, part(&out, 0, size));
+    rt.write_all(part(&out, 0, size))
 }
 
-fn run_term(line: &[u8]) {
+fn run_term(rt: &impl Print, line: &[u8]) -> io::Result<()> {
     let mut s = [0u8; 8192];
     let n = case_support::unhex(case_support::word(line, 2), &mut s);
     print_term_at(
+        rt,
         part(&s, 0, n),
         case_support::number_of(case_support::word(line, 3)) as usize,
-    );
+    )
 }
 
-fn run_match(line: &[u8]) {
+fn run_match(rt: &impl Print, line: &[u8]) -> io::Result<()> {
     let client = case_support::address_of(case_support::word(line, 2));
     let network = case_support::address_of(case_support::word(line, 3));
     let length = case_support::number_of(case_support::word(line, 4)) as usize;
-    case_support::print_test(address::matches(client, network, length));
+    case_support::print_test(rt, address::matches(client, network, length))
 }
 
 // The form that a word names.
@@ -71,28 +75,28 @@ fn form_of(word: &[u8]) -> Form {
 }
 
 // Prints a text with a space before it, if there is one, and the line's end.
-fn print_rest(text: &[u8]) {
+fn print_rest(rt: &impl Print, text: &[u8]) -> io::Result<()> {
     if 0 < text.len() {
-        io::write_all(1, b" ");
+        rt.write_all(b" ")?;
     }
-    case_support::print_line(text);
+    case_support::print_line(rt, text)
 }
 
 // Prints what an expansion answered.
-fn print_expanded(answer: Expanded, out: &[u8]) {
+fn print_expanded(rt: &impl Print, answer: Expanded, out: &[u8]) -> io::Result<()> {
     match answer {
         Expanded::Written(n) => {
-            io::write_all(1, b"ok");
-            print_rest(part(out, 0, n));
+            rt.write_all(b"ok")?;
+            print_rest(rt, part(out, 0, n))
         }
         Expanded::Refused(n) => {
-            io::write_all(1, b"refused ");
-            case_support::print_number_line(n as usize);
+            rt.write_all(b"refused ")?;
+            case_support::print_number_line(rt, n as usize)
         }
     }
 }
 
-fn run_expand(line: &[u8]) {
+fn run_expand(rt: &impl Print, line: &[u8]) -> io::Result<()> {
     let mut domain = [0u8; 1024];
     let mut sender = [0u8; 1024];
     let mut p = [0u8; 1024];
@@ -114,7 +118,7 @@ fn run_expand(line: &[u8]) {
         7,
         &mut out,
     );
-    print_expanded(answer, &out);
+    print_expanded(rt, answer, &out)
 }
 
 // A number that a word writes, as a length.
@@ -122,52 +126,53 @@ fn length_of(word: &[u8]) -> usize {
     (case_support::number_of(word) % 65537) as usize
 }
 
-fn run_check(line: &[u8]) {
-    checks::run(case_support::word(line, 2));
+fn run_check(rt: &impl Print, line: &[u8]) -> io::Result<()> {
+    checks::run(rt, case_support::word(line, 2))
 }
 
-fn run_wide(line: &[u8]) {
+fn run_wide(rt: &impl Print, line: &[u8]) -> io::Result<()> {
     let count = case_support::number_of(case_support::word(line, 2)) % 1000000;
     let byte = case_support::number_of(case_support::word(line, 3)) % 256;
     checks::run_wide(
+        rt,
         case_support::word(line, 4),
         case_support::word(line, 5),
         byte as u8,
         count as usize,
-    );
+    )
 }
 
-fn run_lent(line: &[u8]) {
+fn run_lent(rt: &impl Print, line: &[u8]) -> io::Result<()> {
     let name = length_of(case_support::word(line, 2));
     let text = length_of(case_support::word(line, 3));
     let zeros = length_of(case_support::word(line, 4));
-    checks::run_lent(case_support::word(line, 5), name, text, zeros);
+    checks::run_lent(rt, case_support::word(line, 5), name, text, zeros)
 }
 
 // Runs a case of a kind, once its label is printed.
-fn run_case(kind: &[u8], line: &[u8]) {
+fn run_case(rt: &impl Print, kind: &[u8], line: &[u8]) -> io::Result<()> {
     if words::equal(kind, b"record") {
-        return run_record(line);
+        return run_record(rt, line);
     }
     if words::equal(kind, b"listing") {
-        return run_listing(line);
+        return run_listing(rt, line);
     }
     if words::equal(kind, b"term") {
-        return run_term(line);
+        return run_term(rt, line);
     }
     if words::equal(kind, b"expand") {
-        return run_expand(line);
+        return run_expand(rt, line);
     }
     if words::equal(kind, b"match") {
-        return run_match(line);
+        return run_match(rt, line);
     }
     if words::equal(kind, b"wide") {
-        return run_wide(line);
+        return run_wide(rt, line);
     }
     if words::equal(kind, b"lent") {
-        return run_lent(line);
+        return run_lent(rt, line);
     }
-    run_check(line);
+    run_check(rt, line)
 }
 
 // Whether a word is the kind of a case.
@@ -196,25 +201,27 @@ fn is_kind(kind: &[u8]) -> bool {
     words::equal(kind, b"match")
 }
 
-fn run_line(line: &[u8]) {
+fn run_line(rt: &impl Print, line: &[u8]) -> io::Result<()> {
     let kind = case_support::word(line, 0);
     if is_kind(kind) {
-        io::write_all(1, case_support::word(line, 1));
-        io::write_all(1, b" ");
-        return run_case(kind, line);
+        rt.write_all(case_support::word(line, 1))?;
+        rt.write_all(b" ")?;
+        return run_case(rt, kind, line);
     }
-    case_support::print_line(line);
+    case_support::print_line(rt, line)
 }
 
 // At most as many lines as the budget says.
-fn main() {
+fn main(rt: HostRuntime) -> io::Result<()> {
+    let mut input = rt.reader();
     let mut line = [0u8; 20000];
     let mut budget: usize = 1000000;
     while 0 < budget {
-        let Line::Of(n) = case_support::read_line(&mut line) else {
-            return;
+        let Line::Of(n) = case_support::read_line(&mut input, &mut line)? else {
+            return Ok(());
         };
-        run_line(part(&line, 0, n));
+        run_line(&rt, part(&line, 0, n))?;
         budget -= 1;
     }
+    Ok(())
 }

@@ -139,7 +139,7 @@ pub record UnquoteAnswers (s numbers before after : List ℕ) : Type 0 where
   pub answers : Unquotes s (length before) outcome
   pub says : WriteSays outcome numbers before after
 
--- holding a record with its domain name against the house rules (W-211), into a list (`Answers-one`, publishing/proofs/Laws/Deciding.antt)
+-- holding a record with its domain name against the house rules (W-211), into a list (`answers_one`, publishing/proofs/Laws/Deciding.antt)
 pub record HouseSays (domain s numbers before after : List ℕ) : Type 0 where
   pub answer : HouseAnswer
   pub answers : HouseAnswers domain s before after answer

@@ -1,5 +1,7 @@
 // The calls for programs in C and in other languages: numbers and byte slices go in, a number comes back, and all else is written into lent arrays
 // and buffers. embed/talavorn.h says in C what the contracts here say. No call keeps anything, and none has a `requires`.
+#![tactic(auto)]
+
 ghost use Rattle.std.specs.Prelude.{[], ◌∷◌, length};
 ghost use Rattle.address.specs.Octets.{from_octets};
 ghost use Rattle.macros.specs.Expansion.{given};
@@ -18,8 +20,7 @@ use records::{RecordAnswer, TermAnswer};
 pub mod numbers;
 
 // Evaluates a domain for a client of 4 or 16 octets: 90 for any other client, then as evaluation::evaluate.
-#[unsafe(no_mangle)]
-pub extern "C" fn talavorn_evaluate(
+pub fn talavorn_evaluate(
     client: &[u8],
     domain: &[u8],
     sender: &[u8],
@@ -42,8 +43,7 @@ pub extern "C" fn talavorn_evaluate(
 
 // Makes the text of a fail from the failing record's domain and the place and length of its exp argument, as talavorn_evaluate gave them: 90 for a client
 // that is not 4 or 16 octets, then as evaluation::explaining::explain.
-#[unsafe(no_mangle)]
-pub extern "C" fn talavorn_explain(
+pub fn talavorn_explain(
     client: &[u8],
     domain: &[u8],
     sender: &[u8],
@@ -70,8 +70,7 @@ pub extern "C" fn talavorn_explain(
 }
 
 // Reads a record: 0 and the place just after the version, or 30 to 33 and the place that is to blame.
-#[unsafe(no_mangle)]
-pub extern "C" fn talavorn_read_record(s: &[u8], place: &mut usize) -> u8
+pub fn talavorn_read_record(s: &[u8], place: &mut usize) -> u8
     ensures { RecordSays s.now (result ∷ place.new ∷ []) }
 {
     match records::read_record(s) {
@@ -87,8 +86,7 @@ pub extern "C" fn talavorn_read_record(s: &[u8], place: &mut usize) -> u8
 }
 
 // Reads one term from a place on: 1 and the term, 0 for the end, or 30, 34 or 32 and the place. A network's octets are written.
-#[unsafe(no_mangle)]
-pub extern "C" fn talavorn_read_term(
+pub fn talavorn_read_term(
     s: &[u8],
     place: usize,
     values: &mut [usize; 8],
@@ -115,8 +113,7 @@ pub extern "C" fn talavorn_read_term(
 
 // Expands a macro string: 91 for a form that is neither 0, a domain-spec, nor 1, an explanation text; 90 for a client that is not 4 or 16 octets; then
 // as macros::expand.
-#[unsafe(no_mangle)]
-pub extern "C" fn talavorn_expand(
+pub fn talavorn_expand(
     form: u8,
     text: &[u8],
     client: &[u8],
@@ -146,8 +143,7 @@ pub extern "C" fn talavorn_expand(
 
 // Writes the Received-SPF line at the front of a buffer: 92 for an identity that is neither 0, `mailfrom`, nor 1, `helo`; 90 for a client that is not 4 or
 // 16 octets; then as received::write_line.
-#[unsafe(no_mangle)]
-pub extern "C" fn talavorn_write_line(
+pub fn talavorn_write_line(
     res: u8,
     client: &[u8],
     sender: &[u8],
@@ -172,16 +168,14 @@ pub extern "C" fn talavorn_write_line(
 }
 
 // Reads a Received-SPF line: 0, its result and where the parts of its five values stand, or 51.
-#[unsafe(no_mangle)]
-pub extern "C" fn talavorn_read_line(line: &[u8], values: &mut [usize; 11]) -> u8
+pub fn talavorn_read_line(line: &[u8], values: &mut [usize; 11]) -> u8
     ensures { LineSays line.now (result ∷ values.new) }
 {
     numbers::put_line(received::read_line(line), values)
 }
 
 // Takes the backslashes out of a part of a Received-SPF line: 0 and the value's length, the value at the front of a buffer; or 51, 50.
-#[unsafe(no_mangle)]
-pub extern "C" fn talavorn_unquote(part: &[u8], out: &mut [u8], size: &mut usize) -> u8
+pub fn talavorn_unquote(part: &[u8], out: &mut [u8], size: &mut usize) -> u8
     ensures { UnquoteAnswers part.now (result ∷ size.new ∷ []) out.old out.new }
 {
     numbers::put_written(received::unquote(part, out), size)
@@ -189,21 +183,14 @@ pub extern "C" fn talavorn_unquote(part: &[u8], out: &mut [u8], size: &mut usize
 
 // Holds a record with its domain name against the house rules: 0 and the number of breaches, which are listed at the front of a lent list; or 22, 30 to 33
 // or 70 and the place, 0 for 22 and 70.
-#[unsafe(no_mangle)]
-pub extern "C" fn talavorn_house_rules(
-    domain: &[u8],
-    s: &[u8],
-    list: &mut [u8],
-    value: &mut usize,
-) -> u8
+pub fn talavorn_house_rules(domain: &[u8], s: &[u8], list: &mut [u8], value: &mut usize) -> u8
     ensures { HouseSays domain.now s.now (result ∷ value.new ∷ []) list.old list.new }
 {
     numbers::put_house(publishing::house_rules(domain, s, list), value)
 }
 
 // Whether a client matches a network at a prefix length: 1 or 0; 90 where one of the two is not 4 or 16 octets.
-#[unsafe(no_mangle)]
-pub extern "C" fn talavorn_matches(client: &[u8], network: &[u8], bits: usize) -> u8
+pub fn talavorn_matches(client: &[u8], network: &[u8], bits: usize) -> u8
     ensures { MatchSays (from_octets client.now) (from_octets network.now) bits result }
 {
     let FromOctets::Is(a) = address::from_octets(client) else {
@@ -219,8 +206,7 @@ pub extern "C" fn talavorn_matches(client: &[u8], network: &[u8], bits: usize) -
 }
 
 // Checks a table: 0 and the number of its entries, or 24 to 26 and the place.
-#[unsafe(no_mangle)]
-pub extern "C" fn talavorn_check_table(table: &[u8], place: &mut usize) -> u8
+pub fn talavorn_check_table(table: &[u8], place: &mut usize) -> u8
     ensures { TableSays table.now (result ∷ place.new ∷ []) }
 {
     match answer_table::check_table(table) {
@@ -245,8 +231,7 @@ pub extern "C" fn talavorn_check_table(table: &[u8], place: &mut usize) -> u8
 
 // Appends an entry to the table in the first bytes of a lent buffer: 0 and the new length; or 24 to 26, 64 or 65 with the buffer and the length as
 // they were. The place is that of 25 and 26, else 0.
-#[unsafe(no_mangle)]
-pub extern "C" fn talavorn_append_entry(
+pub fn talavorn_append_entry(
     kind: u16,
     status: u8,
     lifetime: u32,
@@ -264,16 +249,14 @@ pub extern "C" fn talavorn_append_entry(
 
 // Rewrites a table of the layout without lifetimes into a lent buffer, with a lifetime of 0 in each entry: 0 and the new length; or 24 to 26 and the
 // place in the old table, 0 for 24.
-#[unsafe(no_mangle)]
-pub extern "C" fn talavorn_add_lifetimes(old: &[u8], new: &mut [u8], value: &mut usize) -> u8
+pub fn talavorn_add_lifetimes(old: &[u8], new: &mut [u8], value: &mut usize) -> u8
     ensures { AddSays old.now (result ∷ value.new ∷ []) new.old new.new }
 {
     numbers::put_added(old_layout::add_lifetimes(old, new), value)
 }
 
 // Reads an address, written as for ip4 or ip6: 4 or 16, with as many octets written, or 0.
-#[unsafe(no_mangle)]
-pub extern "C" fn talavorn_read_address(text: &[u8], octets: &mut [u8; 16]) -> u8
+pub fn talavorn_read_address(text: &[u8], octets: &mut [u8; 16]) -> u8
     ensures { AddressSays text.now result octets.old octets.new }
 {
     let Network::Is(a) = networks::read_address(text) else {

@@ -18,21 +18,21 @@ use records::Term;
 use text::writing;
 
 // The form of a number, or that it is none.
-#[derive(Drop)]
+#[derive(Clone, Copy)]
 pub enum FormAnswer {
     Is(Form),
     NoForm,
 }
 
 // The identity of a number, or that it is none.
-#[derive(Drop)]
+#[derive(Clone, Copy)]
 pub enum IdentityAnswer {
     Is(Identity),
     NoIdentity,
 }
 
 // The numbers of a term: its kind, its sign or 0, where its argument stands in the term's own text, and its prefix lengths or 0.
-#[derive(Drop)]
+#[derive(Clone, Copy)]
 pub struct Shape {
     pub kind: u8,
     pub sign: u8,

@@ -1,4 +1,6 @@
 // The value of p, and the name that a domain-spec makes.
+#![tactic(auto)]
+
 ghost use Rattle.std.specs.Prelude.{◌≤◌, ◌≡◌, cond, length};
 ghost use Rattle.text.specs.Bytes.{part};
 ghost use Rattle.answer_table.specs.Reader.{items_of};
@@ -21,7 +23,7 @@ use text::{bytes, words, writing};
 
 // Which of the names that are validated so far p takes: the current domain, the first below it, the first, or none yet. A name is given by its
 // places in the table.
-#[derive(Drop)]
+#[derive(Clone, Copy)]
 enum Choice {
     Current,
     Below { from: usize, to: usize },
@@ -30,7 +32,7 @@ enum Choice {
 }
 
 // Whether a name is validated, with the lifetime after it; or the question of its addresses without an entry.
-#[derive(Drop)]
+#[derive(Clone, Copy)]
 enum Validity {
     Yes(Life),
     No(Life),

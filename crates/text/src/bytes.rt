@@ -5,7 +5,7 @@ ghost use Rattle.text.specs.Runs.{is_in, run_end, trailing_start};
 ghost use Rattle.text.specs.Sets.{byte_set, Holds, has_bit};
 
 // A class of bytes.
-#[derive(Drop)]
+#[derive(Clone, Copy)]
 pub enum Class {
     Space,
     NotSpace,
@@ -31,7 +31,7 @@ pub enum Class {
 
 // Bytes as a set: those from `first` to `last`, those from `from` to `to`, and those whose bit is set, below 64 in
 // `low`, from 64 to 127 in `high`.
-#[derive(Drop)]
+#[derive(Clone, Copy)]
 pub struct ByteSet {
     pub first: u8,
     pub last: u8,

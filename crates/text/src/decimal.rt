@@ -4,7 +4,7 @@ ghost use Rattle.text.specs.Decimal.{pushed, read_decimal, read_number};
 
 use crate::bytes;
 
-#[derive(Drop)]
+#[derive(Clone, Copy)]
 pub enum Number {
     Value(u64),
     Refused,

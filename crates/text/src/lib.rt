@@ -1,4 +1,6 @@
 // Bytes in a slice: what the other crates share.
+#![tactic(auto)]
+
 pub mod bytes;
 pub mod decimal;
 pub mod fields;

@@ -1,5 +1,5 @@
 -- A macro's transformers: "Split at the listed delimiters (default dot), reverse for r, keep the right-most parts, join by dots. An upper-case
--- letter escapes all but letters, digits and `-.◌~`, with upper-case hex."
+-- letter escapes all but letters, digits and `-._~`, with upper-case hex."
 use Rattle.std.specs.Prelude.{ℕ, ◌+◌, ◌/◌, ◌%◌, List, [], ◌∷◌, ◌++◌, reverse, Bool, true, false, cond, ◌||◌, length, ltb, eqb}
 use Rattle.text.specs.Bytes.{is_dot, is_alphanumeric}
 use Rattle.text.specs.Decimal.{decimal}
@@ -18,7 +18,7 @@ reversed_if false xs = xs
 unfoldable pub kept : List ℕ → List (List ℕ) → List (List ℕ)
 kept digits xs = cond (eqb (length digits) 0) xs (rightmost (decimal digits) xs)
 
--- letters, digits and `-.◌~`
+-- letters, digits and `-._~`
 unfoldable pub is_unreserved : ℕ → Bool
 is_unreserved b = is_alphanumeric b || (eqb b 45 || (eqb b 46 || (eqb b 95 || eqb b 126)))
 

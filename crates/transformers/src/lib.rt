@@ -1,5 +1,7 @@
 // A macro's transformers: a value split at delimiters, its parts reversed, kept and joined by dots, and its bytes escaped; written into a lent
 // buffer.
+#![tactic(auto)]
+
 ghost use Rattle.std.specs.Prelude.{◌<◌, ◌≤◌, ◌+◌, ◌-◌, ◌*◌, min, ◌≡◌, reverse, cond, not, eqb, length, drop};
 ghost use Rattle.text.specs.Decimal.{decimal};
 ghost use Rattle.text.specs.Lists.{split, join, rightmost};
@@ -34,7 +36,7 @@ fn first_length(s: &[u8], delimiters: &[u8]) -> usize
     i
 }
 
-// Letters, digits and `-.◌~`.
+// Letters, digits and `-._~`.
 fn is_unreserved(b: u8) -> bool
     ensures { result ≡ is_unreserved b }
 {

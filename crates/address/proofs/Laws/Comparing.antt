@@ -2,14 +2,14 @@
 use Prim.Native.Nat.{ℕ, ◌*◌, ◌/◌, ◌%◌, ◌≤◌, ◌<◌}
 use mathlib.Core.Path.{◌≡◌, sym, ◌∙◌}
 use mathlib.Core.List.{List}
-use mathlib.Core.Bool.{Bool, true, false, not}
+use mathlib.Core.Bool.{Bool, true, false}
 use mathlib.Core.Logic.{◌↔◌}
 use native.Mathlib.Omega.{arith}
 use lib.ListN.{length, get_or, take}
 use lib.Dec.{leb, ltb, eqb}
 use mir.Syntax.{w8}
 use mir.Val.{Fits}
-use borrow.Author.Tests.{leb-true, leb-false, le-leb, ltb-true, lt-ltb, eqb-true, eq-eqb, not-true, not-false}
+use borrow.Author.Tests.{leb-true, leb-false, le-leb, ltb-true, lt-ltb, eqb-true, eq-eqb}
 use Rattle.text.specs.Lists.{same}
 use Rattle.text.proofs.Laws.Tests.{fails_test, same_tests}
 use Rattle.text.proofs.Laws.Words.{same_true, same_false}
@@ -29,9 +29,9 @@ module _ (n l : ℕ) where
       (λ e. lt-ltb (n / 8) l (omega (arith, leb-true n (8 * l) e)))
 
 -- `agrees`: what is within the width is there
-module _ (s : List ℕ) (n : ℕ) (w : Bool) (e : w ≡ leb n (8 * length s)) (h : not w ≡ false) where
+module _ (s : List ℕ) (n : ℕ) (w : Bool) (e : w ≡ leb n (8 * length s)) (h : w ≡ true) where
   within : n ≤ 8 * length s
-  within = leb-true _ _ (sym e ∙ not-false w h)
+  within = leb-true _ _ (sym e ∙ h)
 
   pub whole_inside : n / 8 ≤ length s
   whole_inside = omega (arith, within)
@@ -41,28 +41,28 @@ module _ (s : List ℕ) (n : ℕ) (w : Bool) (e : w ≡ leb n (8 * length s)) (h
 
 module _ (a b : List ℕ) (n : ℕ) where
   -- a list that is too short agrees with nothing
-  over : (l : ℕ) → (agree a b n ≡ true → n ≤ 8 * l) → (w : Bool) → w ≡ leb n (8 * l) → not w ≡ true → false ≡ agree a b n
-  over l within w e h = let beyond = leb-false n (8 * l) (sym e ∙ not-true w h) in fails_test _ (λ t. omega (arith, beyond, within t))
+  over : (l : ℕ) → (agree a b n ≡ true → n ≤ 8 * l) → (w : Bool) → w ≡ leb n (8 * l) → w ≡ false → false ≡ agree a b n
+  over l within w e h = let beyond = leb-false n (8 * l) (sym e ∙ h) in fails_test _ (λ t. omega (arith, beyond, within t))
 
-  pub agree_over_first : (w : Bool) → w ≡ leb n (8 * length a) → not w ≡ true → false ≡ agree a b n
+  pub agree_over_first : (w : Bool) → w ≡ leb n (8 * length a) → w ≡ false → false ≡ agree a b n
   agree_over_first = over (length a) (λ t. omega (arith, ((agree_iff a b n).0 t).within_first, length_bits a))
 
-  pub agree_over_second : (w : Bool) → w ≡ leb n (8 * length b) → not w ≡ true → false ≡ agree a b n
+  pub agree_over_second : (w : Bool) → w ≡ leb n (8 * length b) → w ≡ false → false ≡ agree a b n
   agree_over_second = over (length b) (λ t. omega (arith, ((agree_iff a b n).0 t).within_second, length_bits b))
 
   -- both are wide enough, and what u says of the whole bytes and t of the bits left over decides; that bytes fit into 8 bits is what a
   -- function knows of a slice that it reads
-  module _ (v w : Bool) (ev : v ≡ leb n (8 * length a)) (ew : w ≡ leb n (8 * length b)) (hv : not v ≡ false) (hw : not w ≡ false)
+  module _ (v w : Bool) (ev : v ≡ leb n (8 * length a)) (ew : w ≡ leb n (8 * length b)) (hv : v ≡ true) (hw : w ≡ true)
       (ha : (i : ℕ) → Fits w8 (get_or a i 0)) (hb : (i : ℕ) → Fits w8 (get_or b i 0)) (u : Bool) (eu : u ≡ same (take (n / 8) a) (take (n / 8) b)) where
     taught : (agree a b n ≡ true) ↔ MatchesByBytes n a b n
     taught = agree_by_bytes n a b (within a n v ev hv) (within b n w ew hw) (λ i. omega (arith, ha i)) (λ i. omega (arith, hb i)) n (omega arith)
 
-    pub agree_differs : not u ≡ true → false ≡ agree a b n
-    agree_differs h = fails_test _ (λ t. same_false _ _ (sym eu ∙ not-true u h) (taught.0 t).whole_bytes)
+    pub agree_differs : u ≡ false → false ≡ agree a b n
+    agree_differs h = fails_test _ (λ t. same_false _ _ (sym eu ∙ h) (taught.0 t).whole_bytes)
 
-    module _ (h : not u ≡ false) where
+    module _ (h : u ≡ true) where
       whole : take (n / 8) a ≡ take (n / 8) b
-      whole = same_true _ _ (sym eu ∙ not-false u h)
+      whole = same_true _ _ (sym eu ∙ h)
 
       pub agree_whole : n % 8 ≡ 0 → true ≡ agree a b n
       agree_whole none = sym (taught.1 (record { within_width = omega arith; whole_bytes = whole; bits_left_over = λ more. absurd (omega arith) }))

@@ -1,5 +1,5 @@
--- What an append comes to: one outcome and one buffer (appends-one), and a refusal keeps the buffer (refused-kept); the entries of the new table are the
--- old ones and the given one, and all other bytes are kept (appended-entries); what a lookup finds there (appended-found, appended-others). From the
+-- What an append comes to: one outcome and one buffer (appends_one), and a refusal keeps the buffer (refused_kept); the entries of the new table are the
+-- old ones and the given one, and all other bytes are kept (appended_entries); what a lookup finds there (appended_found, appended_others). From the
 -- productions of Appending, the laws of Fitting and those of `answer_table`.
 use Prim.Native.Nat.{ℕ, suc, ◌≤◌}
 use mathlib.Core.Path.{◌≡◌, refl, sym, ap, ◌∙◌}

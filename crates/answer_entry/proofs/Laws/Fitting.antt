@@ -1,6 +1,6 @@
 -- The tests of the code against the check of the new table: an entry that passes them extends the table, and no other does. From the laws of
 -- `answer_table` on entries and on the check.
-use Prim.Native.Nat.{ℕ, suc, ◌+◌, ◌≤◌}
+use Prim.Native.Nat.{ℕ, suc, ◌≤◌}
 use mathlib.Core.Path.{◌≡◌, refl, sym, subst, ◌∙◌}
 use mathlib.Core.List.{List, [], ◌∷◌, ◌++◌}
 use mathlib.Core.Bool.{true, false}

@@ -13,7 +13,7 @@ use lib.Seq.{length-take-le, take_all, take-add, take-append_seam, drop-append_s
 use lib.Dec.{ltb, eqb}
 use borrow.Author.Tests.{ltb-true, ltb-false, eqb-true, eqb-false, lt-ltb, le-ltb, eq-eqb, ne_eqb}
 use Rattle.text.proofs.Laws.Tests.{cond-elim}
-use Rattle.answer_table.specs.Layout.{Entry, EncodesIn, EntriesIn, none, more, holds, distinct}
+use Rattle.answer_table.specs.Layout.{Entry, EncodesIn, EntriesIn, none, more, distinct}
 use Rattle.answer_table.specs.Numbers.{Report, accepted, refused, byte, reported}
 use Rattle.answer_table.specs.Answers.{most_entries, EncodedIn, NoEntryIn, TableAnswersIn, too_long, malformed, repeated, whole}
 use Rattle.answer_table.specs.Reader.{header_of, is_well, name_of, entry_of, find_in, is_found, step_after, step_at, check_after, check_from, check_in}

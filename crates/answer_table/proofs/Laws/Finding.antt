@@ -1,5 +1,5 @@
 -- What `find` answers is what looking up in the list of entries says, for any bytes; and in a table that encodes entries it finds just the pairs
--- that stand among them. From header-facts (Encoding) and entries-complete.
+-- that stand among them. From header_facts (Encoding) and entries_complete.
 use Prim.Native.Nat.{ℕ, zero, suc, ◌+◌, ◌-◌, ◌≤◌}
 use mathlib.Core.Path.{◌≡◌, refl, ap, ◌∙◌}
 use mathlib.Core.List.{List, [], ◌∷◌}

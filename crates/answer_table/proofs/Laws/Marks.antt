@@ -2,7 +2,7 @@
 use Prim.Native.Nat.{ℕ, ◌+◌, ◌*◌, ◌/◌, ◌%◌, ◌^◌, ◌≤◌, ◌<◌, max}
 use mathlib.Core.Path.{◌≡◌, refl, sym, ap, ◌∙◌}
 use mathlib.Core.List.{List}
-use mathlib.Core.Bool.{Bool, true, false, ◌&&◌, and_false}
+use mathlib.Core.Bool.{Bool, true, false, ◌&&◌, and-false}
 use native.Mathlib.Omega.{arith}
 use native.Mathlib.Numerals.{add-one}
 use lib.Bits.{bit_or, or_step, or_shr, or_comm}
@@ -121,7 +121,7 @@ module _ (marks : List ℕ) (kind : ℕ) (name : List ℕ) (h : ℕ) (e : h ≡ 
     }
 
   pub second_clear : (b : Bool) → b ≡ is_marked marks (h / 262144) → b ≡ false → is_pair_marked marks kind name ≡ false
-  second_clear b r s = pair_marks marks ∙ simp (sym r ∙ s, and_false)
+  second_clear b r s = pair_marks marks ∙ simp (sym r ∙ s, and-false)
 
   pub pair_new : is_pair_marked marks kind name ≡ false → (mid after : List ℕ) → SetsMark marks (h % 16384) mid → SetsMark mid (h / 262144) after
       → NotesPair true marks kind name true after

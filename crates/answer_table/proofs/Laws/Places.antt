@@ -1,5 +1,5 @@
 -- Where what was found stands in the table: an entry's name just before its items, and each item's bytes by its place. From the definitions of
--- the reader and header-facts (Encoding).
+-- the reader and header_facts (Encoding).
 use Prim.Native.Nat.{ℕ, zero, suc, ◌+◌, ◌-◌, ◌≤◌, ◌<◌, min}
 use mathlib.Core.Path.{◌≡◌, refl, sym, ap, subst, ◌∙◌}
 use mathlib.Core.Logic.{⊎_elim}

@@ -1,5 +1,5 @@
 -- One rule for each way out of `find`, `found_items`, `stands_in`, `step_at`, `check_entries` and `check_table_in`: its premises are what the code knows
--- there. From the definitions of the reader, header-facts (Encoding), `finds`, `table_answers` and what the marks say (Covering).
+-- there. From the definitions of the reader, header_facts (Encoding), `finds`, `table_answers` and what the marks say (Covering).
 use Prim.Native.Nat.{ℕ, zero, suc, ◌+◌, ◌-◌, ◌*◌, ◌^◌, ◌≤◌, ◌<◌}
 use mathlib.Core.Path.{◌≡◌, refl, sym, ap, ◌∙◌}
 use mathlib.Core.List.{List, []}

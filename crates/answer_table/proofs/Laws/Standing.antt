@@ -1,6 +1,6 @@
--- Where the items of a table stand: the reader's place of an item is the productions' place (found-item); its bytes stand there (item-stands), also with
--- more bytes after the table (item-grown); it is one of the entry that is looked up (item-listed), and an item that alone passes a test has one place
--- (item-one). From the laws of items end to end (Items), of one entry (Encoding) and of lists of entries (Entries, Among).
+-- Where the items of a table stand: the reader's place of an item is the productions' place (found_item); its bytes stand there (item_stands), also with
+-- more bytes after the table (item_grown); it is one of the entry that is looked up (item_listed), and an item that alone passes a test has one place
+-- (item_one). From the laws of items end to end (Items), of one entry (Encoding) and of lists of entries (Entries, Among).
 use Prim.Native.Nat.{ℕ, zero, suc, ◌+◌, ◌≤◌, ◌<◌}
 use mathlib.Core.Path.{◌≡◌, refl, sym, ap, subst, ◌∙◌}
 use mathlib.Core.List.{List, [], ◌∷◌, ◌++◌, append_assoc}

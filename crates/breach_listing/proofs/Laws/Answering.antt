@@ -11,14 +11,14 @@ use Rattle.text.specs.Writing.{Wrote}
 use Rattle.text.proofs.Laws.Writing.{wrote_over, wrote_length}
 use Rattle.record_listing.specs.Lines.{refusal_line, without_newline}
 use Rattle.publishing.specs.declared.HouseAnswer.{HouseAnswer}
-use Rattle.publishing.specs.Listing.{Entry, entry_bytes_lem, most_breaches, most_list, NoRoom, HouseAnswers}
+use Rattle.publishing.specs.Listing.{Entry, breach_bytes, most_breaches, most_list, NoRoom, HouseAnswers}
 use Rattle.breach_listing.specs.Lines.{list_text, Prints, long_name, unread, many, lists, domain_of, record_of, Printed}
 use Rattle.breach_listing.specs.Writing.{PutsList, Lints}
 use Rattle.breach_listing.proofs.Laws.Room.{listed_below, prints_length}
 
 -- in a list of 768 bytes there is room for 256
 no_more : (es : List Entry) (list : List ℕ) → length list ≡ most_list → NoRoom es list → most_breaches < length es
-no_more es list h n = ⊎_elim (λ (a : most_breaches < length es). a) (λ (a : length list < entry_bytes_lem * length es). omega arith) n
+no_more es list h n = ⊎_elim (λ (a : most_breaches < length es). a) (λ (a : length list < breach_bytes * length es). omega arith) n
 
 -- `lint`
 module _ (domain s before after : List ℕ) (r : HouseAnswer) (a : HouseAnswers domain s before after r) where
@@ -45,7 +45,7 @@ module _ (domain s before after : List ℕ) (r : HouseAnswer) (a : HouseAnswers 
               text = list_text s es;
               prints = lists h k d l i;
               wrote = w.by es
-                  (record { rest = drop (entry_bytes_lem * length es) before; front = f; count = c; small = λ x y. let b = listed_below k d l x y in omega arith });
+                  (record { rest = drop (breach_bytes * length es) before; front = f; count = c; small = λ x y. let b = listed_below k d l x y in omega arith });
             }
 
     pub number_linted : length before ≡ most_list → (number : ℕ) → r ≡ HouseAnswer.Refused number → Wrote (refusal_line number 0) out 0 o m

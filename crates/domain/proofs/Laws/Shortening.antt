@@ -29,6 +29,7 @@ shorter_same (x ∷ y ∷ r) h = rw (le-leb _ _ h)
 shorter_less : (x : List ℕ) (xs : List (List ℕ)) → Some xs → 253 < length (join (x ∷ xs)) → shorter_labels (x ∷ xs) ≡ shorter_labels xs
 unfolding shorter_labels
 shorter_less x (y ∷ r) some h = rw (lt-leb _ _ h)
+shorter_less x [] x3 h = elim x3 [ ]
 
 -- one step: nothing leaves, nothing can, or the first label does
 module _ (s : List ℕ) where

@@ -33,7 +33,7 @@ use Rattle.rules.specs.declared.LookedUp.{LookedUp}
 use Rattle.rules.specs.declared.Checked.{Checked}
 use Rattle.rules.specs.Tree.{Table, Check, Settled, bind, run}
 use Rattle.rules.specs.Tables.{table_in}
-use Rattle.rules.specs.Mechanisms.{Mail, yes, no, stop, Step, target, begun, counting}
+use Rattle.rules.specs.Mechanisms.{Mail, yes, no, stop, target, begun, counting}
 use Rattle.rules.specs.Evaluation.{Result, Selection, ends, one, ended, check_target, begun_check, include_match, include_of, include_step, term_step, none_is_permerror, redirect_of, no_match, read_outcome, record_lookup, after_lookup, check_name, check, whole, no_counts}
 use Rattle.rules.specs.Outcomes.{Settles, Gives, Wants, matched_of, SaysStep, SaysTarget, span_of, SaysSelection, failing_of, FailingAt, SaysCheck}
 use Rattle.rules.proofs.Laws.Runs.{bind_is, settles_to}

@@ -24,7 +24,6 @@ use Rattle.records.specs.Opening.{unaided, Passing, Leads, Accepts, OpeningOf, a
 use Rattle.records.proofs.Laws.Terms.{read_long, read_past}
 use Rattle.rules.specs.declared.Counts.{Counts}
 use Rattle.rules.specs.declared.Life.{Life}
-use Rattle.rules.specs.declared.Matched.{Matched}
 use Rattle.rules.specs.declared.Stepped.{Stepped}
 use Rattle.rules.specs.declared.Span.{Span}
 use Rattle.rules.specs.declared.Checked.{Checked}

@@ -2,13 +2,11 @@
 -- where the productions say. From records' laws on where modifiers stand, and the laws of `rules` on the exp argument.
 use Prim.Native.Nat.{ℕ, ◌+◌, ◌-◌, ◌*◌, ◌^◌, ◌≤◌, ◌<◌}
 use mathlib.Core.Path.{◌≡◌, refl, sym, ap, subst, ◌∙◌}
-use mathlib.Core.List.{List, [], ◌∷◌, ◌++◌}
+use mathlib.Core.List.{List, ◌∷◌, ◌++◌}
 use native.Mathlib.Omega.{arith}
 use lib.ListN.{length, drop, length-take, length-drop}
 use mir.Syntax.{w64}
 use mir.Val.{Fits}
-use types.Run.{OneOf, miss}
-use denote.Enum.Declared.{tag_of, declared}
 use Rattle.text.specs.Bytes.{part}
 use Rattle.text.specs.Texts.{bytes}
 use Rattle.text.proofs.Laws.Words.{true_same, false_same}
@@ -32,7 +30,6 @@ use Rattle.rules.specs.declared.Span.{Span}
 use Rattle.rules.specs.declared.Life.{Life}
 use Rattle.rules.specs.declared.Selected.{Selected}
 use Rattle.rules.specs.declared.LookedUp.{LookedUp}
-use Rattle.rules.specs.contracts.Selected as selected-type
 use Rattle.rules.specs.Tree.{Table, settled, wanting, SettlesTo}
 use Rattle.rules.specs.Tables.{table_in}
 use Rattle.rules.specs.Evaluation.{ends, one, modifier_of, terms_of, record_lookup, no_counts}
@@ -164,18 +161,18 @@ module _ (t d : List ℕ) where
   find_single k l h p x e = omega (arith, l, exp_labels e)
 
   module _ (l : Life) (r : LookedUp) (s : SaysSelection d t l r) where
-    other_selection : (x : Selected) → r.selected ≡ x → OneOf (0 ∷ 2 ∷ []) (tag_of (declared selected-type.enum) x) → (p : ℕ) (y : List ℕ) → ExpAt t d p y → ⊥
+    other_selection : (x : Selected) → r.selected ≡ x → ((place text : Span) → x ≡ Selected.One place text → ⊥) → (p : ℕ) (y : List ℕ) → ExpAt t d p y → ⊥
     other_selection (Selected.Ends v) q h p y e =
         let g = exp_text e no_counts l in
         let i : settled (ends v) r.life ≡ settled (one e.text) g.0 = sym (lookup_ends no_counts d t _ r (s no_counts) v q) ∙ g.1 in
         let z : ◌≡◌ {A = ℕ} 0 1 = cc in omega arith
-    other_selection (Selected.One place text) q h p y e = miss (0 ∷ 2 ∷ []) 1 tt h
+    other_selection (Selected.One place text) q h p y e = h place text refl
     other_selection Selected.Missing q h p y e =
         let g = exp_text e no_counts l in
         let i : wanting kind_txt d no_counts r.life ≡ settled (one e.text) g.0 = sym (lookup_missing no_counts d t _ r (s no_counts) q) ∙ g.1 in
         let z : ◌≡◌ {A = ℕ} 0 1 = cc in omega arith
 
-    pub find_other : OneOf (0 ∷ 2 ∷ []) (tag_of (declared selected-type.enum) r.selected) → FindsExp t d Modifier.Absent
+    pub find_other : ((place text : Span) → r.selected ≡ Selected.One place text → ⊥) → FindsExp t d Modifier.Absent
     unfolding FindsExp
     find_other h p x e = other_selection r.selected refl h p x e
 

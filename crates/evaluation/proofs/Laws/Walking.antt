@@ -5,8 +5,6 @@ use mathlib.Core.Path.{◌≡◌, refl, sym, ap, subst, ◌∙◌}
 use mathlib.Core.List.{List, [], ◌∷◌}
 use mathlib.Core.Bool.{Bool, true, false, cond, ◌||◌}
 use native.Mathlib.Omega.{arith}
-use types.Run.{OneOf, miss}
-use denote.Enum.Declared.{tag_of, declared}
 use lib.Dec.{eqb, ltb}
 use lib.ListN.{length}
 use borrow.Author.Tests.{lt-ltb}
@@ -21,7 +19,6 @@ use Rattle.records.specs.declared.Term.{Term}
 use Rattle.records.specs.declared.opening.Modifier.{Modifier}
 use Rattle.records.specs.Opening.{argument_in}
 use Rattle.records.specs.declared.TermAnswer.{TermAnswer}
-use Rattle.records.specs.contracts.TermAnswer as answer-type
 use Rattle.records.proofs.Laws.Checking.{next_less}
 use Rattle.address.specs.declared.Address.TheVariants.{IPv4, IPv6}
 use Rattle.rules.specs.declared.Counts.{Counts}
@@ -138,13 +135,13 @@ module _ (t : List ℕ) (mail : Mail) (d s : List ℕ) (first : ℕ) (b : List �
   walk_past_here h o z g = left_none o z g (λ f. past_end s i (terms_from f s) h)
 
   module _ (a : TermAnswer) (p : a ≡ read_term s i) where
-    no_term : (x : TermAnswer) → OneOf (1 ∷ 2 ∷ []) (tag_of (declared answer-type.enum) x) → (rest : ℕ → List Placed) → terms_after (term_report s x) rest ≡ []
+    no_term : (x : TermAnswer) → ((at next : ℕ) (y : Term) → x ≡ TermAnswer.Is at next y → ⊥) → (rest : ℕ → List Placed) → terms_after (term_report s x) rest ≡ []
     unfolding terms_after
-    no_term (TermAnswer.Is at next x) h rest = absurd (miss (1 ∷ 2 ∷ []) 0 tt h)
+    no_term (TermAnswer.Is at next x) h rest = absurd (h at next x refl)
     no_term TermAnswer.End h rest = refl
     no_term (TermAnswer.Refused number at) h rest = refl
 
-    walk_ended_here : OneOf (1 ∷ 2 ∷ []) (tag_of (declared answer-type.enum) a) → (o : Checked) (z : List ℕ)
+    walk_ended_here : ((at next : ℕ) (y : Term) → a ≡ TermAnswer.Is at next y → ⊥) → (o : Checked) (z : List ℕ)
         → SaysCheck t (run (table_in t) l (no_match mail (whole mail) d (modifier_of (bytes "redirect") (terms_of s first)) c)) o out z
         → SaysCheck t (run (table_in t) l₀ (try_terms mail (whole mail) d (terms_of s first) (terms_of s first) c₀)) o b z
     walk_ended_here h o z g = left_none o z g (λ f. ap (λ (x : TermAnswer). terms_after (term_report s x) (terms_from f s)) (sym p) ∙ no_term a h (terms_from f s))
@@ -251,7 +248,7 @@ module _ (t : List ℕ) (mail : Mail) (d s : List ℕ) (first : ℕ) (b : List �
   walk_past h o z g = rw (← f) (walk_past_here t mail d s first b c₀ l₀ out i c l w h o z (here o z g))
 
   module _ (a : TermAnswer) (p : a ≡ read_term s i) where
-    pub walk_ended : OneOf (1 ∷ 2 ∷ []) (tag_of (declared answer-type.enum) a) → (o : Checked) (z : List ℕ)
+    pub walk_ended : ((at next : ℕ) (y : Term) → a ≡ TermAnswer.Is at next y → ⊥) → (o : Checked) (z : List ℕ)
         → SaysCheck t (run (table_in t) l (no_match mail (whole mail) d (argument_in s m) c)) o out z
         → SaysCheck t (run (table_in t) l₀ (try_terms mail (whole mail) d (terms_of y first) (terms_of y first) c₀)) o b z
     walk_ended h o z g = rw (← f) (walk_ended_here t mail d s first b c₀ l₀ out i c l w a p h o z (here o z g))

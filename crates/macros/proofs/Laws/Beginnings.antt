@@ -1,7 +1,7 @@
 -- What a macro-string or a domain-spec begins with is one once one of a few ends is put after it. A front of a macro-expand is closed by an end; so a
 -- front of a macro-string is one, or one and a macro-expand that an end closes; and a domain-spec is a macro-string. From the productions, the laws of
 -- fronts and the row of a domain-spec.
-use Prim.Native.Nat.{ℕ, zero, suc, ◌≤◌}
+use Prim.Native.Nat.{ℕ, zero, suc, ◌+◌, ◌-◌, ◌*◌, ◌≤◌}
 use mathlib.Core.Path.{◌≡◌, refl, sym, ap, subst, ◌∙◌}
 use mathlib.Core.List.{List, [], ◌∷◌, ◌++◌, append_assoc, append-nil}
 use mathlib.Core.Bool.{Bool, true, ◌||◌}
@@ -56,7 +56,7 @@ digit_1 = refl
 value_1 : (v : ℕ) (w : List ℕ) → 1 ≤ decimal_from v (w ++ bytes "1")
 unfolding decimal_from
 value_1 v [] = omega arith
-value_1 v (d ∷ w) = value_1 _ w
+value_1 v (d ∷ w) = value_1 (10 * v + (d - 48)) w
 
 count_1 : (w : List ℕ) → all is_digit w ≡ true → is_part_count (w ++ bytes "1") ≡ true
 unfolding is_part_count decimal

@@ -2,7 +2,7 @@
 use Prim.Native.Nat.{ℕ, ◌-◌, ◌≤◌, ◌<◌}
 use mathlib.Core.Path.{◌≡◌, refl, sym, ap, ◌∙◌}
 use mathlib.Core.List.{List, [], ◌∷◌, ◌++◌}
-use mathlib.Core.Bool.{Bool, true, false, not, and_false}
+use mathlib.Core.Bool.{Bool, true, false, not, and-false}
 use native.Mathlib.Omega.{arith}
 use lib.ListN.{length, take, drop}
 use borrow.Author.Tests.{not-true}
@@ -27,6 +27,7 @@ unfolding last_label
 last_label_lem (x ∷ []) y some = refl
 last_label_lem (x ∷ z ∷ []) y some = refl
 last_label_lem (x ∷ z ∷ w ∷ r) y some = last_label_lem (z ∷ w ∷ r) y some
+last_label_lem [] y x' = elim x' [ ]
 
 -- bytes without a dot are one label
 pub split_undotted : (l : List ℕ) → all is_not_dot l ≡ true → split is_dot l ≡ l ∷ []
@@ -65,7 +66,7 @@ module _ (s : List ℕ) (i : ℕ) (p : i ≡ trailing_start (is_in NotDot) s) wh
 -- the ways out of `is_toplabel`
 pub top_digits : (l : List ℕ) (x : Bool) → x ≡ false → (d : Bool) → d ≡ all (is_in Digit) l → d ≡ true → x ≡ is_toplabel l
 unfolding is_toplabel
-top_digits l x e d p q = e ∙ sym (simp (sym (class_tests Digit l) ∙ sym p ∙ q, and_false))
+top_digits l x e d p q = e ∙ sym (simp (sym (class_tests Digit l) ∙ sym p ∙ q, and-false))
 
 module _ (l : List ℕ) where
   pub top_empty : length l ≡ 0 → false ≡ is_toplabel l

@@ -4,7 +4,7 @@ use Prim.Native.Nat.{ℕ, zero, suc, ◌+◌, ◌-◌, ◌≤◌, ◌<◌, ◌^�
 use mathlib.Core.Path.{◌≡◌, refl, sym, ap, ◌∙◌}
 use mathlib.Core.List.{List, [], ◌∷◌}
 use mathlib.Core.Logic.{◌↔◌}
-use mathlib.Core.Bool.{Bool, true, false, cond, ◌||◌, or_assoc, or_false}
+use mathlib.Core.Bool.{Bool, true, false, cond, ◌||◌, or_assoc, or-false}
 use native.Mathlib.Omega.{arith}
 use lib.ListN.{length, get_or, take, drop, length-drop}
 use lib.Seq.{drop-cons, drop-drop}
@@ -240,7 +240,7 @@ module _ (form : Form) (text : List ℕ) (at : ℕ) (expands asks : Bool) (inv :
   told w e x q =
       let h : (pieces form text).whole ≡ w = sym inv.whole ∙ ap (λ (x : Pieces). x.whole) e in
       let m : ends_in_macro (pieces form text).list ≡ expands = sym inv.ending ∙ ap (λ (x : Pieces). ends_after expands x.list) e in
-      let a : any_p (pieces form text).list ≡ asks = sym inv.asking ∙ ap (λ (x : Pieces). asks || any_p x.list) e ∙ or_false asks in
+      let a : any_p (pieces form text).list ≡ asks = sym inv.asking ∙ ap (λ (x : Pieces). asks || any_p x.list) e ∙ or-false asks in
       q ∙ rw (h, m, a)
 
   pub scan_out : length text ≤ at → (x : Summary) → x ≡ record { whole = true; expands = expands; asks = asks } → x ≡ scan_of form text
@@ -253,7 +253,7 @@ module _ (form : Form) (text : List ℕ) (at : ℕ) (expands asks : Bool) (inv :
       let b = get_or text at 0 in
       let c : drop at text ≡ b ∷ drop (suc at) text = drop-cons text at 0 h in
       let f : piece_of form (b ∷ drop (suc at) text) ≡ Found.Literal b = simp (ne_eqb (suc (length (drop (suc at) text))) 0 (λ z. omega arith), plain_not_percent b l, plain_literal form b l) in
-      step 1 (literal b) false asks (ends_literal b) (sym (or_false asks)) (omega arith) (pieces_literal form (drop at text) b (rw c f))
+      step 1 (literal b) false asks (ends_literal b) (sym (or-false asks)) (omega arith) (pieces_literal form (drop at text) b (rw c f))
 
   module _ (here : at < length text) (r : Found) (p : r ≡ piece_of form (take (length text - at) (drop at text))) where
     found : {x : Found} → r ≡ x → piece_of form (drop at text) ≡ x
@@ -268,11 +268,11 @@ module _ (form : Form) (text : List ℕ) (at : ℕ) (expands asks : Bool) (inv :
     module _ (b : ℕ) where
       pub scan_literal : r ≡ Found.Literal b → Scanned form text (at + 1) false asks
       unfolding is_p
-      scan_literal q = step 1 (literal b) false asks (ends_literal b) (sym (or_false asks)) (omega arith) (pieces_literal form (drop at text) b (found q))
+      scan_literal q = step 1 (literal b) false asks (ends_literal b) (sym (or-false asks)) (omega arith) (pieces_literal form (drop at text) b (found q))
 
       pub scan_escape : r ≡ Found.Escape b → Scanned form text (at + 2) true asks
       unfolding is_p
-      scan_escape q = step 2 (escape b) true asks (ends_escape b) (sym (or_false asks)) (escape_within form text at r p b q) (pieces_escape form (drop at text) b (found q))
+      scan_escape q = step 2 (escape b) true asks (ends_escape b) (sym (or-false asks)) (escape_within form text at r p b q) (pieces_escape form (drop at text) b (found q))
 
       pub escape_room : r ≡ Found.Escape b → length text < 2 ^ 64 → at + 2 < 2 ^ 64
       escape_room q h = let w = escape_within form text at r p b q in omega arith

@@ -86,6 +86,7 @@ module _ (s : List ℕ) (i : ℕ) (inv : Unsigned s i) where
 last_empty : (xs : List (List ℕ)) → Some xs → last_part ([] ∷ xs) ≡ last_part xs
 unfolding last_part
 last_empty (x ∷ xs) some = refl
+last_empty [] x' = elim x' [ ]
 
 last_grow : (b : ℕ) (xs : List (List ℕ)) → length (last_part (grow b xs)) ≤ suc (length (last_part xs))
 unfolding last_part grow
@@ -111,6 +112,7 @@ parts_again : (xs : List (List ℕ)) → Some xs → xs ≡ front_parts xs ++ (l
 unfolding front_parts last_part
 parts_again (x ∷ []) some = refl
 parts_again (x ∷ y ∷ r) some = ap (λ (z : List (List ℕ)). x ∷ z) (parts_again (y ∷ r) some)
+parts_again [] x' = elim x' [ ]
 
 local_taken : (s : List ℕ) → local_as_written s ≡ take (length s - suc (length (sender_domain s))) s
 unfolding local_as_written sender_domain join_by separator_before

@@ -2,15 +2,12 @@
 -- stays. From Runs and Inversions.
 use Prim.Native.Nat.{ℕ}
 use mathlib.Core.Path.{◌≡◌, refl, sym, ap, subst}
-use mathlib.Core.List.{List, [], ◌∷◌}
-use types.Run.{OneOf, miss}
-use denote.Enum.Declared.{tag_of, declared}
+use mathlib.Core.List.{List}
 use Rattle.rules.specs.declared.Counts.{Counts}
 use Rattle.rules.specs.declared.Life.{Life}
 use Rattle.rules.specs.declared.Ending.{Ending}
 use Rattle.rules.specs.declared.Matched.{Matched}
 use Rattle.rules.specs.declared.Stepped.{Stepped}
-use Rattle.rules.specs.contracts.Matched as matched-type
 use Rattle.rules.specs.Tree.{Table, Check, bind, run}
 use Rattle.rules.specs.Mechanisms.{Match, yes, no, stop, Step, step, on_match, if_no_match}
 use Rattle.rules.specs.Outcomes.{Gives, matched_of, SaysStep}
@@ -19,7 +16,7 @@ use Rattle.rules.proofs.Laws.Inversions.{gives_bind, wants_bind, step_yes, step_
 
 -- the code's answer of another case than No
 abbrev pub Decided : Matched → Type 0
-Decided m = OneOf (0 ∷ 2 ∷ []) (tag_of (declared matched-type.enum) m)
+Decided m = m ≡ Matched.No → ⊥
 
 module _ (t : Table) (rest : Counts → Check Step) (l : Life) (r : Stepped) (b a : List ℕ) where
   -- No goes on
@@ -44,7 +41,7 @@ module _ (t : Table) (rest : Counts → Check Step) (l : Life) (r : Stepped) (b 
     stays_by : (x : Matched) → r.matched ≡ x → Decided x → SaysStep (run t l (bind m (if_no_match rest))) r b a
     unfolding on_match matched_of
     stays_by Matched.Yes e h = given_stays yes refl e (step_yes (run t l m) r b a w e)
-    stays_by Matched.No e h = absurd (miss (0 ∷ 2 ∷ []) 1 tt h)
+    stays_by Matched.No e h = absurd (h refl)
     stays_by (Matched.Stop (Ending.Result v)) e h = given_stays (stop v) refl e (step_result (run t l m) r b a w v e)
     stays_by (Matched.Stop (Ending.Wanting kind size)) e h = wanted_stays kind size e
 

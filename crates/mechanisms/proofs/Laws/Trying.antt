@@ -17,7 +17,7 @@ use Rattle.rules.specs.declared.Counts.{Counts}
 use Rattle.rules.specs.declared.Life.{Life}
 use Rattle.rules.specs.declared.Stepped.{Stepped}
 use Rattle.rules.specs.Tree.{Table, run}
-use Rattle.rules.specs.Mechanisms.{Mail, Step, matched, counted_step, a_step, mx_step, ptr_step, exists_step}
+use Rattle.rules.specs.Mechanisms.{Mail, matched, counted_step, a_step, mx_step, ptr_step, exists_step}
 use Rattle.rules.specs.Evaluation.{Sub, having, length_for, network_step, plain_step, mechanism_step, term_step}
 use Rattle.rules.specs.Outcomes.{SaysStep}
 use Rattle.mechanism_lookups.specs.Steps.{match_answer}

@@ -1,6 +1,6 @@
 -- Whatever a network or a prefix length begins with is one once one of a few ends is put after it: the ends of `0.0.0.0`, of `::` and of `/0`. By the
 -- productions, from the laws of Fronts, Digits and Numbers.
-use Prim.Native.Nat.{ℕ, zero, suc, ◌+◌, ◌≤◌, ◌<◌}
+use Prim.Native.Nat.{ℕ, zero, suc, ◌+◌, ◌-◌, ◌*◌, ◌≤◌, ◌<◌}
 use mathlib.Core.Path.{◌≡◌, refl, sym, subst}
 use mathlib.Core.Logic.{⊎_elim}
 use mathlib.Core.List.{List, [], ◌∷◌, ◌++◌, append_assoc}
@@ -45,7 +45,7 @@ decimal_front : (v k : ℕ) (w : List ℕ) → decimal_from v (take k w) ≤ dec
 unfolding decimal_from
 decimal_front v zero w = decimal_grows v w
 decimal_front v (suc k) [] = omega arith
-decimal_front v (suc k) (d ∷ w) = decimal_front _ k w
+decimal_front v (suc k) (d ∷ w) = decimal_front (10 * v + (d - 48)) k w
 
 number_begins : {limit : ℕ} {w : List ℕ} {n : ℕ} → LengthNumber limit w n → (k : ℕ) → Begun (LengthNumber limit) (take k w)
 unfolding decimal

@@ -10,7 +10,7 @@ use lib.ListN.{length, get_or, take}
 use lib.Seq.{take-suc, take_all}
 use lib.Dec.{ltb, eqb}
 use borrow.Author.Tests.{ltb-true, ltb-false, eqb-false, ne_eqb, le-ltb, lt-ltb}
-use Rattle.text.specs.Bytes.{at, within, is_digit, is_upper, is_hex_digit, lower}
+use Rattle.text.specs.Bytes.{within, is_digit, is_upper, is_hex_digit, lower}
 use Rattle.text.specs.Lists.{all}
 use Rattle.text.specs.Runs.{is_in}
 use Rattle.text.specs.declared.bytes.Class.TheVariants.{HexDigit}

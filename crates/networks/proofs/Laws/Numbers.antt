@@ -8,7 +8,7 @@ use native.Mathlib.Omega.{arith}
 use lib.ListN.{length}
 use lib.Dec.{leb, eqb}
 use borrow.Author.Tests.{le-leb, leb-true, leb-false, lt-leb, eq-eqb, ne_eqb, eqb-true, eqb-false}
-use Rattle.text.specs.Bytes.{at, within, is_digit}
+use Rattle.text.specs.Bytes.{within, is_digit}
 use Rattle.text.specs.Lists.{all}
 use Rattle.text.specs.Decimal.{decimal_from, decimal, is_decimal, read_decimal, has_no_leading_zero, read_number}
 use Rattle.text.specs.declared.decimal.Number.{Number}

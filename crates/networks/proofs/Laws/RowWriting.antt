@@ -74,6 +74,7 @@ module _ (out : List ℕ) (at : ℕ) where
 pub row_cons : (tail : Bool) (w : List ℕ) (ws : List (List ℕ)) → Some ws → row_of tail (w ∷ ws) ≡ push (read_h16 w) (row_of tail ws)
 unfolding row_of
 row_cons tail w (x ∷ ws) some = refl
+row_cons tail w [] x' = elim x' [ ]
 
 push_written : (g : ℕ) (x : Reading) (out : List ℕ) (at : ℕ) (o₁ : List ℕ) (n₁ : ℕ) (o₂ : List ℕ) (e : RowEnd)
     → Wrote (octet_pairs (g ∷ [])) out at o₁ n₁ → RowWritten x o₁ n₁ o₂ e → RowWritten (push (Value g) x) out at o₂ e

@@ -134,7 +134,7 @@ module _ (s : List ℕ) (first name : ℕ) (before buffer o : List ℕ) (size : 
             let w = m.by ts d in
             let l = length_encoded all in
             let g = length_ordered ts (length s) name in
-            let c : size ≡ 3 * length es = omega (arith, w.next-place, l, g) in
+            let c : size ≡ 3 * length es = omega (arith, w.next_place, l, g) in
             let q : size / 3 ≡ length es = omega arith in
             let y = f.by all (value_taken (encoded all) buffer o size w (omega (arith, l, g, c))) in
             let t : after ≡ encoded es ++ drop (3 * length es) before =

@@ -13,7 +13,7 @@ use Rattle.records.specs.Answers.{most_bytes, RecordAnswers}
 use Rattle.records.specs.Reader.{after_version}
 use Rattle.records.proofs.Laws.Records.{record_accepted, one_reading, record_answers_is}
 use Rattle.publishing.specs.declared.HouseAnswer.{HouseAnswer}
-use Rattle.publishing.specs.Listing.{Entry, encoded, entry_bytes_lem, most_breaches, NoRoom, Listing, HouseAnswers, long_name, unread, no_room, listed}
+use Rattle.publishing.specs.Listing.{Entry, encoded, breach_bytes, most_breaches, NoRoom, Listing, HouseAnswers, long_name, unread, no_room, listed}
 use Rattle.publishing.proofs.Laws.Listings.{one_listing}
 
 -- a record that is produced isn't refused
@@ -29,7 +29,7 @@ pub same_list : {s : List ℕ} {ts us : List Placed} {name : ℕ} {es fs : List 
 same_list {s} {ts} {us} {name} {es} {fs} h d c l m =
     one_listing l (subst (λ (vs : List Placed). Listing vs (length s) name fs) (sym (one_reading h d c)) m)
 
-both_fit : {es fs : List Entry} (list : List ℕ) → es ≡ fs → NoRoom es list → length fs ≤ most_breaches → entry_bytes_lem * length fs ≤ length list → ⊥
+both_fit : {es fs : List Entry} (list : List ℕ) → es ≡ fs → NoRoom es list → length fs ≤ most_breaches → breach_bytes * length fs ≤ length list → ⊥
 both_fit list e (inl a) h k = omega (arith, ap length e)
 both_fit list e (inr a) h k = omega (arith, ap length e)
 
@@ -61,4 +61,4 @@ module _ (domain s before x y : List ℕ) where
   answers_one (listed h i c j n o e) (no_room k l d m p f) = absurd (both_fit before (same_list i d c m j) p n o)
   answers_one (listed {es = es} h i c j n o e) (listed {es = fs} k l d m p q f) =
       let g = same_list i c d j m in
-      (ap (λ (us : List Entry). HouseAnswer.Listed (length us)) g, e ∙ ap (λ (us : List Entry). encoded us ++ drop (entry_bytes_lem * length us) before) g ∙ sym f)
+      (ap (λ (us : List Entry). HouseAnswer.Listed (length us)) g, e ∙ ap (λ (us : List Entry). encoded us ++ drop (breach_bytes * length us) before) g ∙ sym f)

@@ -16,7 +16,7 @@ use Rattle.records.specs.Answers.{most_bytes}
 use Rattle.records.proofs.Laws.Records.{one_reading}
 use Rattle.publishing.specs.declared.HouseAnswer.{HouseAnswer}
 use Rattle.publishing.specs.House.{Some, here, later, Among, Mechanism, Ptr, All, Redirect, RedirectOrExp, WithP, PlusAll, Short, missing, again, too_many_bytes, Breach}
-use Rattle.publishing.specs.Listing.{Entry, entry, Member, none, Listing, encoded, entry_bytes_lem, most_name, HouseAnswers, listed}
+use Rattle.publishing.specs.Listing.{Entry, entry, Member, none, Listing, encoded, breach_bytes, most_name, HouseAnswers}
 use Rattle.publishing.specs.Desk.{OneEnd, by_all, by_redirect, Publishable, rule_at, place_at, Desk}
 use Rattle.publishing.specs.Finding.{any, is_all, redirects, modifies}
 use Rattle.publishing.proofs.Laws.Listings.{some_left, some_right, nobody}
@@ -125,7 +125,7 @@ module _ (ts : List Placed) (size name : ℕ) where
           modifiers_last = λ {before} {t} a s. last_modifier a s (modifies t) refl;
           no_plus_all = no_term PlusAll 7 (λ us u a p. Breach.plus_all a p);
           no_short = no_term Short 8 (λ us u a p. Breach.short a p);
-          networks_differ = λ {before} {t} a s. n 9 t.place (Breach.same_network_lem a s);
+          networks_differ = λ {before} {t} a s. n 9 t.place (Breach.equal_network a s);
           fits = ⊎_elim (λ (h : too_many_bytes ≤ name + size). absurd (n 10 size (Breach.long h))) (λ (h : name + size < too_many_bytes). h)
               (le_or_lt too_many_bytes (name + size));
         }
@@ -160,7 +160,7 @@ module _ (ts : List Placed) (size name : ℕ) where
   no_breach p (Breach.after_modifier a h s) = h (p.modifiers_last a s)
   no_breach p (Breach.plus_all a h) = p.no_plus_all (among_some PlusAll a h)
   no_breach p (Breach.short a h) = p.no_short (among_some Short a h)
-  no_breach p (Breach.same_network_lem a s) = p.networks_differ a s
+  no_breach p (Breach.equal_network a s) = p.networks_differ a s
   no_breach p (Breach.long h) = omega (arith, p.fits)
 
 -- a record that may be published has the empty list, and only such a one
@@ -230,7 +230,7 @@ module _ (domain s before after : List ℕ) (n : ℕ) (ts : List Placed) (d : Re
             es = es;
             short = k;
             listing = subst (λ (vs : List Placed). Listing vs (length s) (length domain) es) (one_reading k c d) l;
-            rest = drop (entry_bytes_lem * length es) before;
+            rest = drop (breach_bytes * length es) before;
             bytes = e;
             count = sym m;
           }

@@ -9,8 +9,6 @@ use native.Mathlib.Omega.{arith}
 use lib.Dec.{ltb}
 use lib.ListN.{length, get_or, take, drop, set, length-append, length-set, get_or-append}
 use lib.Seq.{get_or-take, get_or-drop, get_or-append_seam, get_or-set_same, get_or-set_other}
-use types.Run.{OneOf, miss}
-use denote.Enum.Declared.{tag_of, declared}
 use borrow.Author.Tests.{ltb-true, ltb-false}
 use Rattle.address.specs.declared.Address.{Address}
 use Rattle.address.specs.declared.Address.TheVariants.{IPv4, IPv6}
@@ -18,7 +16,6 @@ use Rattle.address.specs.Clearing.{cleared}
 use Rattle.text.specs.Bytes.{at, part}
 use Rattle.records.specs.Readings.{Placed}
 use Rattle.records.specs.declared.Term.{Term}
-use Rattle.records.specs.contracts.Term as term_type
 use Rattle.duplicates.specs.Rows.{Row, row_at, Repeated, Marks, most_rows}
 use Rattle.publishing.specs.House.{Some, here, later, Among, SameNetwork}
 use Rattle.publishing.specs.Rows.{words_of, row_of, rows_of, network_rows, term_rows, table_row, no_row, Holds, StoresRow, PutsRow, MarksRows}
@@ -41,7 +38,7 @@ record Place (xs : List Row) (r : Row) : Type 0 where
   inside : place < length xs
   there : get_or xs place no_row ≡ r
 
-some_place : {xs : List Row} {r : Row} → Some (λ (q : Row). q ≡ r) xs → Place xs r
+some_place : {r : Row} {xs : List Row} → Some (λ (q : Row). q ≡ r) xs → Place xs r
 some_place (here e) = record { place = 0; inside = omega arith; there = e }
 some_place (later s) = let p = some_place s in record { place = suc p.place; inside = omega (arith, p.inside); there = p.there }
 
@@ -170,11 +167,11 @@ module _ (k h l n : ℕ) (table : List ℕ) (size : length table ≡ 3 * most_ro
 
 -- `put_row`: a term that is no network; one row more; no room for it, which the promise leaves out
 abbrev pub NoNetwork : Term → Type 0
-NoNetwork t = OneOf (0 ∷ 1 ∷ 2 ∷ 3 ∷ 4 ∷ 6 ∷ 7 ∷ 8 ∷ 9 ∷ []) (tag_of (declared term_type.enum) t)
+NoNetwork t = (sign from to : ℕ) (a : Address) (n : ℕ) → t ≡ Term.Network sign from to a n → ⊥
 
 no_rows : (t : Term) → NoNetwork t → term_rows t ≡ []
 unfolding term_rows
-no_rows (Term.Network sign from to a n) h = absurd (miss (0 ∷ 1 ∷ 2 ∷ 3 ∷ 4 ∷ 6 ∷ 7 ∷ 8 ∷ 9 ∷ []) 5 tt h)
+no_rows (Term.Network sign from to a n) h = absurd (h sign from to a n refl)
 no_rows (Term.All sign) h = refl
 no_rows (Term.Include sign from to) h = refl
 no_rows (Term.A sign from to n m) h = refl

@@ -119,6 +119,8 @@ p_is (expand m) h = IsP.p (eqb-true (lower m.letter) letter_p h)
 is_p_lem : (x : Piece) → IsP x → is_p x ≡ true
 unfolding is_p
 is_p_lem (expand m) (IsP.p e) = eq-eqb (lower m.letter) letter_p e
+is_p_lem (literal _) h = elim h [ ]
+is_p_lem (escape _) h = elim h [ ]
 
 any_p_lem : (ps : List Piece) → any_p ps ≡ any is_p ps
 unfolding any_p any
@@ -254,7 +256,7 @@ module _ (ts before : List Placed) (t : Placed) (size name : ℕ) (here : Among 
       (any_some RedirectOrExp modifies modifier_is before (and_left (any modifies before) (not (modifies t)) e)))
       (by_rule_lem Breaks rule 7 _ _ (λ e. Breach.plus_all here (plus_is t e))
       (by_rule_lem Breaks rule 8 _ _ (λ e. Breach.short here (short_is t e))
-      (by_rule_lem Breaks rule 9 _ _ (λ e. Breach.same_network_lem here (any_some (SameNetwork t) (same_network t) (network_is t) before e))
+      (by_rule_lem Breaks rule 9 _ _ (λ e. Breach.equal_network here (any_some (SameNetwork t) (same_network t) (network_is t) before e))
       (λ e. let z : ◌≡◌ {A = ℕ} 0 1 = cc in absurd (omega arith)))))))))) h
 
 -- whether the record's length is a breach of a rule
@@ -295,7 +297,7 @@ source (Breach.after_modifier {before} {t} a m s) =
     (ap not (test_fails (modifies t) (λ e. m (modifier_is t e)))))
 source (Breach.plus_all {t = t} a p) = Source.of_term (omega arith) (omega arith) a (is_plus t p)
 source (Breach.short {t = t} a s) = Source.of_term (omega arith) (omega arith) a (is_short_lem t s)
-source (Breach.same_network_lem {t = t} a s) = Source.of_term (omega arith) (omega arith) a (some_any (SameNetwork t) (same_network t) (is_network t) s)
+source (Breach.equal_network {t = t} a s) = Source.of_term (omega arith) (omega arith) a (some_any (SameNetwork t) (same_network t) (is_network t) s)
 source {name = name} {place = place} (Breach.long h) = Source.of_end (omega arith) (omega arith) (le-leb too_many_bytes (name + place) h)
 
 -- networks, by the test

@@ -9,12 +9,9 @@ use native.Mathlib.Omega.{arith}
 use native.Mathlib.Numerals.{add-one}
 use lib.Dec.{ltb, eqb}
 use lib.ListN.{length, length-append}
-use types.Run.{OneOf}
-use denote.Enum.Declared.{tag_of, declared}
 use borrow.Author.Tests.{lt-ltb, ltb-true, ne_eqb, eqb-true, eq-eqb}
 use Rattle.text.specs.Bytes.{at, part}
 use Rattle.text.specs.Writing.{Wrote}
-use Rattle.text.specs.Texts.{bytes}
 use Rattle.text.proofs.Laws.Writing.{wrote_none, length_wrote}
 use Rattle.text.proofs.Laws.Tests.{and_right, same_tests}
 use Rattle.records.specs.Readings.{Placed, absent}
@@ -22,7 +19,6 @@ use Rattle.records.specs.Numbers.{said_of}
 use Rattle.records.specs.Reader.{read_term, Reads}
 use Rattle.records.specs.declared.Term.{Term}
 use Rattle.records.specs.declared.TermAnswer.{TermAnswer}
-use Rattle.records.specs.contracts.TermAnswer as answer-type
 use Rattle.records.proofs.Laws.Arguments.{stands}
 use Rattle.records.proofs.Laws.Checking.{next_less}
 use Rattle.records.proofs.Laws.Remaining.{placed, reads_next, reads_out, reads_end}
@@ -201,7 +197,7 @@ module _ (s : List ℕ) (first : ℕ) (table₀ : List ℕ) (i : ℕ) (seen : Se
   survey_size h = w.kept ∙ h
 
   module _ (r : TermAnswer) (p : r ≡ read_term s i) where
-    pub survey_out : OneOf (1 ∷ 2 ∷ []) (tag_of (declared answer-type.enum) r) → Surveys s first table₀ table seen
+    pub survey_out : ((b e : ℕ) (t : Term) → r ≡ TermAnswer.Is b e t → ⊥) → Surveys s first table₀ table seen
     survey_out h = survey_all (λ rest d. reads_out d r p h)
 
     pub survey_next : (b e : ℕ) (t : Term) → r ≡ TermAnswer.Is b e t → (table' : List ℕ) → PutsRow t seen.networks table table'
@@ -395,7 +391,7 @@ module _ (s : List ℕ) (first : ℕ) (whole : Bool) (marks out₀ : List ℕ) (
   offences_length = w.kept
 
   module _ (r : TermAnswer) (p : r ≡ read_term s i) where
-    pub offences_out : OneOf (1 ∷ 2 ∷ []) (tag_of (declared answer-type.enum) r) → PutsOffences s first whole marks out₀ out n
+    pub offences_out : ((b e : ℕ) (t : Term) → r ≡ TermAnswer.Is b e t → ⊥) → PutsOffences s first whole marks out₀ out n
     offences_out h = offences_all (λ rest d. reads_out d r p h)
 
     pub offences_next : (b e : ℕ) (t : Term) → r ≡ TermAnswer.Is b e t → (f : Facts) → f ≡ facts_of t

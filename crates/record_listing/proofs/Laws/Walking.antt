@@ -7,9 +7,7 @@ use mathlib.Core.List.{List, [], ◌∷◌, ◌++◌, append-nil, append_assoc}
 use native.Mathlib.Omega.{arith}
 use lib.ListN.{length, get_or}
 use borrow.Author.Tests.{eq-eqb, ne_eqb}
-use types.Run.{OneOf}
-use denote.Enum.Declared.{tag_of, declared}
-use Rattle.text.specs.Bytes.{at, part}
+use Rattle.text.specs.Bytes.{part}
 use Rattle.text.specs.Texts.{bytes}
 use Rattle.text.specs.Writing.{Wrote}
 use Rattle.text.proofs.Laws.Writing.{wrote_none, wrote_then, wrote_over, wrote_length, length_wrote}
@@ -22,7 +20,6 @@ use Rattle.records.specs.Beginnings.{pointed_record}
 use Rattle.records.specs.declared.Term.{Term}
 use Rattle.records.specs.declared.TermAnswer.{TermAnswer}
 use Rattle.records.specs.declared.RecordAnswer.{RecordAnswer}
-use Rattle.records.specs.contracts.TermAnswer as answer-type
 use Rattle.records.proofs.Laws.Records.{record_complete, record_answers, accepting}
 use Rattle.records.proofs.Laws.Remaining.{placed, reads_next, reads_out, reads_end}
 use Rattle.record_listing.proofs.Laws.Room.{prints_length}
@@ -67,7 +64,7 @@ module _ (s : List ℕ) (start : ℕ) (out : List ℕ) (from i : ℕ) (o : List 
   ended k ts r = let v = w.each ts r in rw (v.whole, k v.left v.reads, append-nil) v.wrote
 
   module _ (x : TermAnswer) (p : x ≡ read_term s i) where
-    pub walked_out : OneOf (1 ∷ 2 ∷ []) (tag_of (declared answer-type.enum) x) → (ts : List Placed) → Reads s start ts → Wrote (lines_of ts) out from o n
+    pub walked_out : ((b e : ℕ) (t : Term) → x ≡ TermAnswer.Is b e t → ⊥) → (ts : List Placed) → Reads s start ts → Wrote (lines_of ts) out from o n
     walked_out h = ended (λ left d. reads_out d x p h)
 
     module _ (place next : ℕ) (t : Term) (q : x ≡ TermAnswer.Is place next t) where

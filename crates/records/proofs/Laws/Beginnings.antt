@@ -23,7 +23,7 @@ use Rattle.macros.proofs.Laws.Beginnings.{End as MacroEnd, letter_d, count_01, l
 use Rattle.networks.specs.Grammar.{octets, Side, short, Network4, of_octets, Network6, of_groups, nought, slash, OptionalLength, DualCidrLength}
 use Rattle.networks.proofs.Laws.Beginnings.{zero_octet, network4_begins, network6_begins, length_begins, Dual, dual_begins}
 use Rattle.records.specs.Readings.{Optional, absent, present, Said, mechanism}
-use Rattle.records.specs.Grammar.{Literal, OptionalSpec, without, with_spec_lem, Mechanism, Directive, unsigned, signed, Name, letters, is_reserved, Modifier}
+use Rattle.records.specs.Grammar.{Literal, OptionalSpec, without, has_spec, Mechanism, Directive, unsigned, signed, Name, letters, is_reserved, Modifier}
 use Rattle.records.specs.Grammar.{TermText, directive, modifier_term}
 use Rattle.records.proofs.Laws.Names.{literal_length, Word, literal_word, redirect_word, exp_word, literal_of}
 use Rattle.records.proofs.Laws.Endings.{Ending, end_drop, no_end, modifier_model, all_model, mx_model, ptr_model, include_model, exists_model}
@@ -66,8 +66,8 @@ domain_begins s n = with_ends macro_end (spec_begins s n)
 
 optional_begins : {u : List ℕ} {arg : Optional (List ℕ)} → OptionalSpec u arg → (n : ℕ) → Completed Ending OptionalSpec (take n u)
 optional_begins without n = rw (take-nil n) (completed_now Ending OptionalSpec no_end without)
-optional_begins (with_spec_lem s) zero = completed_now Ending OptionalSpec no_end without
-optional_begins (with_spec_lem s) (suc n) = within_larger OptionalSpec (bytes ":") (domain_begins s n) (λ d ps m. (present d, with_spec_lem m))
+optional_begins (has_spec s) zero = completed_now Ending OptionalSpec no_end without
+optional_begins (has_spec s) (suc n) = within_larger OptionalSpec (bytes ":") (domain_begins s n) (λ d ps m. (present d, has_spec m))
 
 four_begins : {w : List ℕ} {x : Address} → Network4 w x → (n : ℕ) → Completed Ending Network4 (take n w)
 four_begins m n = with_ends network_end (network4_begins m n)

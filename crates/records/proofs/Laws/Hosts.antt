@@ -23,7 +23,7 @@ use Rattle.networks.specs.declared.Dual.{Dual}
 use Rattle.networks.proofs.Laws.Lengths.{dual_sound, dual_complete}
 use Rattle.networks.proofs.Laws.Plain.{LengthText, dual_text, digit_length}
 use Rattle.records.specs.Readings.{Optional}
-use Rattle.records.specs.Grammar.{OptionalSpec, without, with_spec_lem}
+use Rattle.records.specs.Grammar.{OptionalSpec, without, has_spec}
 use Rattle.records.specs.Numbers.{optional}
 use Rattle.records.specs.Reader.{spec_at, after_dual, after_hosts, cut_of, hosts_cut, hosts_at}
 use Rattle.records.specs.declared.terms.Hosts.{Hosts}
@@ -32,7 +32,7 @@ use Rattle.records.proofs.Laws.Specs.{Ending, ending_after, spec_ending, spec_ri
 -- a domain-spec with its colon ends as a domain-spec does
 optional_ending : {u : List ℕ} {arg : Optional (List ℕ)} → OptionalSpec u arg → (u ≡ []) ⊎ Ending u
 optional_ending without = inl refl
-optional_ending (with_spec_lem {d = d} s) = inr (ending_after (58 ∷ []) d (spec_ending s))
+optional_ending (has_spec {d = d} s) = inr (ending_after (58 ∷ []) d (spec_ending s))
 
 -- where the trailing run begins
 trailing_at : (p : ℕ → Bool) (v : List ℕ) (b : ℕ) (w : List ℕ) → p b ≡ false → all p w ≡ true → trailing_start p (v ++ (b ∷ w)) ≡ suc (length v)
@@ -160,7 +160,7 @@ cut_complete {l = l} {n = n} {m = m} without d w k cut p q e = record {
   read = e ∙ simp (span_word q, dual_complete l n m d, spec_absent p);
   says = simp (eq-eqb cut cut refl);
 }
-cut_complete {l = l} {n = n} {m = m} (with_spec_lem s) d w k cut p q e =
+cut_complete {l = l} {n = n} {m = m} (has_spec s) d w k cut p q e =
     let g = spec_given s p in
     record {
       from = k + 1;

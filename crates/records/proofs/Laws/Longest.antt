@@ -1,6 +1,6 @@
 -- The longest beginning of a run with which some term begins, as the code finds it, is that of the productions: `beginnings`. From the laws of Beginnings,
 -- that the models' ends are enough, and of Tokens, that a term is what the reader takes for one.
-use Prim.Native.Nat.{ℕ, zero, suc, ◌+◌, ◌≤◌, ◌<◌}
+use Prim.Native.Nat.{ℕ, zero, suc, ◌≤◌, ◌<◌}
 use mathlib.Core.Path.{◌≡◌, refl, sym, ap, subst, ◌∙◌}
 use mathlib.Core.Logic.{⊎_elim}
 use mathlib.Core.List.{List, [], ◌++◌, append_assoc}

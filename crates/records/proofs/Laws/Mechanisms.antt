@@ -22,7 +22,7 @@ use Rattle.text.proofs.Laws.Parts.{all_none, all_join}
 use Rattle.macros.specs.Grammar.{Piece, DomainSpec}
 use Rattle.networks.proofs.Laws.Plain.{LengthText, dual_text}
 use Rattle.records.specs.Readings.{Optional, absent, present, Said, mechanism, hosts}
-use Rattle.records.specs.Grammar.{Literal, OptionalSpec, without, with_spec_lem, Mechanism}
+use Rattle.records.specs.Grammar.{Literal, OptionalSpec, without, has_spec, Mechanism}
 use Rattle.records.specs.Numbers.{optional, said_of}
 use Rattle.records.specs.Reader.{kind_of, spec_at, hosts_at, all_of, with_spec, ptr_of, with_hosts, network_by, mechanism_by, mechanism_of}
 use Rattle.records.specs.declared.terms.Kind.{Kind}
@@ -164,7 +164,7 @@ length_stops t = ⊎_elim
 
 optional_stops : {u : List ℕ} {arg : Optional (List ℕ)} → OptionalSpec u arg → (l : List ℕ) → Stops (at l 0) → Stops (at (u ++ l) 0)
 optional_stops without l h = h
-optional_stops (with_spec_lem s) l h = colon_stops
+optional_stops (has_spec s) l h = colon_stops
 
 -- what is produced is read, and the reader takes it for a mechanism
 pub record MechanismRead (w : List ℕ) (i sign : ℕ) (x : Said) : Type 0 where
@@ -215,7 +215,7 @@ ptr_after : {w u : List ℕ} {k : ℕ} {arg : Optional (List ℕ)} (sign : ℕ) 
 unfolding ptr_of said_of
 ptr_after {w} {k = k} sign without p =
     record { term = Term.Ptr sign (length w) (length w); read = simp (spec_absent p); says = simp (eq-eqb (length w) (length w) refl) }
-ptr_after {w} {k = k} sign (with_spec_lem s) p =
+ptr_after {w} {k = k} sign (has_spec s) p =
     let g = spec_given s p in
     record { term = Term.Ptr sign (k + 1) (length w); read = simp g.read; says = simp (g.some, g.says) }
 
@@ -261,7 +261,7 @@ solid_length {l} t = solid_bytes is_length_byte refl l t.bytes
 
 solid_optional : {u : List ℕ} {arg : Optional (List ℕ)} → OptionalSpec u arg → all is_not_space u ≡ true
 solid_optional without = all_none is_not_space
-solid_optional (with_spec_lem {d = d} s) = solid_one 58 d refl (solid_spec s)
+solid_optional (has_spec {d = d} s) = solid_one 58 d refl (solid_spec s)
 
 solid_hosts : {w u l : List ℕ} {arg : Optional (List ℕ)} → Word w → OptionalSpec u arg → LengthText l → all is_not_space (w ++ (u ++ l)) ≡ true
 solid_hosts {w} {u} {l} k s t = all_join is_not_space w (u ++ l) (solid_name k) (all_join is_not_space u l (solid_optional s) (solid_length t))

@@ -2,14 +2,12 @@
 -- modifiers stand. From the definitions of Opening and the laws of Standing, by whether the term is a redirect, an exp or neither.
 use Prim.Native.Nat.{ℕ, ◌+◌, ◌<◌}
 use mathlib.Core.Path.{◌≡◌, refl, sym, ap, ◌∙◌}
-use mathlib.Core.List.{List, [], ◌∷◌}
-use mathlib.Core.Bool.{Bool, true, false, ◌||◌, and_true, and_false, or_true, or_false}
+use mathlib.Core.List.{List}
+use mathlib.Core.Bool.{Bool, true, false, ◌||◌, and-true, and-false, or-true, or-false}
 use native.Mathlib.Omega.{arith}
 use mir.Syntax.{w64}
 use mir.Val.{Fits}
 use borrow.Author.Tests.{eq-eqb, ne_eqb}
-use types.Run.{OneOf, miss}
-use denote.Enum.Declared.{tag_of, declared}
 use Rattle.text.specs.Bytes.{part}
 use Rattle.text.specs.Texts.{bytes}
 use Rattle.records.specs.Numbers.{said_of}
@@ -21,7 +19,6 @@ use Rattle.records.specs.declared.opening.Modifiers.{Modifiers}
 use Rattle.records.specs.declared.opening.Place.{Place}
 use Rattle.records.specs.declared.opening.Met.{Met}
 use Rattle.records.specs.Opening.{modifier_at, modifiers_of, is_met, repeated_by, noted, NoteFits}
-use Rattle.records.specs.contracts.Term as term_type
 use Rattle.records.proofs.Laws.Tokens.{redirect_name, explanation_name}
 use Rattle.records.proofs.Laws.Arguments.{stands, redirect_argument, explanation_argument}
 use Rattle.records.proofs.Laws.Standing.{Sought, sought_other, sought_here}
@@ -52,13 +49,10 @@ case_of (Term.Exists sign from to) = neither (record { no_redirect = refl; no_ex
 case_of (Term.Unknown name to) = neither (record { no_redirect = refl; no_exp = refl; kept = λ m p. refl })
 
 -- as the code tells it
-abbrev Told : Term → Type 0
-Told t = OneOf (0 ∷ 1 ∷ 2 ∷ 3 ∷ 4 ∷ 5 ∷ 6 ∷ 9 ∷ []) (tag_of (declared term_type.enum) t)
-
-told_neither : {t : Term} → Case t → Told t → Neither t
-told_neither redirect h = absurd (miss (0 ∷ 1 ∷ 2 ∷ 3 ∷ 4 ∷ 5 ∷ 6 ∷ 9 ∷ []) 7 tt h)
-told_neither exp h = absurd (miss (0 ∷ 1 ∷ 2 ∷ 3 ∷ 4 ∷ 5 ∷ 6 ∷ 9 ∷ []) 8 tt h)
-told_neither (neither n) h = n
+told_neither : {t : Term} → Case t → ((from to : ℕ) → t ≡ Term.Redirect from to → ⊥) → ((from to : ℕ) → t ≡ Term.Explanation from to → ⊥) → Neither t
+told_neither redirect h k = absurd (h _ _ refl)
+told_neither exp h k = absurd (k _ _ refl)
+told_neither (neither n) h k = n
 
 -- a modifier by its place
 module _ (m : Place) where
@@ -81,15 +75,15 @@ module _ (m : Place) where
 module _ (m : Modifiers) (t : Term) where
   repeats_redirect : (from to : ℕ) → t ≡ Term.Redirect from to → (x : Bool) → x ≡ is_met m.redirect → x ≡ repeated_by m t
   unfolding repeated_by is_redirect is_explanation
-  repeats_redirect from to e x h = h ∙ sym (simp (e, and_true, and_false, or_false))
+  repeats_redirect from to e x h = h ∙ sym (simp (e, and-true, and-false, or-false))
 
   repeats_exp : (from to : ℕ) → t ≡ Term.Explanation from to → (x : Bool) → x ≡ is_met m.exp → x ≡ repeated_by m t
   unfolding repeated_by is_redirect is_explanation
-  repeats_exp from to e x h = h ∙ sym (simp (e, and_true, and_false))
+  repeats_exp from to e x h = h ∙ sym (simp (e, and-true, and-false))
 
-  repeats_neither : Told t → false ≡ repeated_by m t
+  repeats_neither : ((from to : ℕ) → t ≡ Term.Redirect from to → ⊥) → ((from to : ℕ) → t ≡ Term.Explanation from to → ⊥) → false ≡ repeated_by m t
   unfolding repeated_by
-  repeats_neither h = let n = told_neither (case_of t) h in sym (simp (n.no_redirect, n.no_exp, and_false))
+  repeats_neither h k = let n = told_neither (case_of t) h k in sym (simp (n.no_redirect, n.no_exp, and-false))
 
 -- `repeats`, `note`
 module _ (m : Met) (t : Term) where
@@ -99,7 +93,7 @@ module _ (m : Met) (t : Term) where
   pub met_exp : (from to : ℕ) → t ≡ Term.Explanation from to → (x : Bool) → x ≡ is_met (modifier_at m.exp) → x ≡ repeated_by (modifiers_of m) t
   met_exp = repeats_exp (modifiers_of m) t
 
-  pub met_neither : Told t → false ≡ repeated_by (modifiers_of m) t
+  pub met_neither : ((from to : ℕ) → t ≡ Term.Redirect from to → ⊥) → ((from to : ℕ) → t ≡ Term.Explanation from to → ⊥) → false ≡ repeated_by (modifiers_of m) t
   met_neither = repeats_neither (modifiers_of m) t
 
   module _ (p : ℕ) (f : NoteFits p t) where
@@ -118,8 +112,9 @@ module _ (m : Met) (t : Term) where
     note_exp from to e =
         ap (λ (x : Modifier). record { redirect = modifier_at m.redirect; exp = x }) (part_of from to (f.exp from to e).2) ∙ ap (noted (modifiers_of m) p) (sym e)
 
-    pub note_neither : Told t → modifiers_of m ≡ noted (modifiers_of m) p t
-    note_neither h = sym ((told_neither (case_of t) h).kept (modifiers_of m) p)
+    pub note_neither : ((from to : ℕ) → t ≡ Term.Redirect from to → ⊥) → ((from to : ℕ) → t ≡ Term.Explanation from to → ⊥)
+        → modifiers_of m ≡ noted (modifiers_of m) p t
+    note_neither h k = sym ((told_neither (case_of t) h k).kept (modifiers_of m) p)
 
 -- its sums
 module _ (p : ℕ) (t : Term) (f : NoteFits p t) (from to : ℕ) where
@@ -145,15 +140,15 @@ note_fits s i p n t q = record {
 module _ (m : Modifiers) (p : ℕ) where
   pub redirect_met : {t : Term} → Case t → is_met (noted m p t).redirect ≡ (is_met m.redirect || is_redirect t)
   unfolding noted is_met is_redirect
-  redirect_met redirect = sym (or_true (is_met m.redirect))
-  redirect_met exp = sym (or_false (is_met m.redirect))
-  redirect_met (neither n) = simp (n.kept m p, n.no_redirect, or_false)
+  redirect_met redirect = sym (or-true (is_met m.redirect))
+  redirect_met exp = sym (or-false (is_met m.redirect))
+  redirect_met (neither n) = simp (n.kept m p, n.no_redirect, or-false)
 
   pub exp_met : {t : Term} → Case t → is_met (noted m p t).exp ≡ (is_met m.exp || is_explanation t)
   unfolding noted is_met is_explanation
-  exp_met redirect = sym (or_false (is_met m.exp))
-  exp_met exp = sym (or_true (is_met m.exp))
-  exp_met (neither n) = simp (n.kept m p, n.no_exp, or_false)
+  exp_met redirect = sym (or-false (is_met m.exp))
+  exp_met exp = sym (or-true (is_met m.exp))
+  exp_met (neither n) = simp (n.kept m p, n.no_exp, or-false)
 
 -- and where they stand
 module _ (s : List ℕ) (i₀ i p n : ℕ) (m : Modifiers) where

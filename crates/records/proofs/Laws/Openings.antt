@@ -2,14 +2,12 @@
 -- and redirect and exp stand where the modifiers say. From the laws of Checking and of Noting, and the definitions of Opening.
 use Prim.Native.Nat.{ℕ, ◌+◌, ◌-◌, ◌≤◌, ◌<◌}
 use mathlib.Core.Path.{◌≡◌, refl, sym, ap, ◌∙◌}
-use mathlib.Core.List.{List, [], ◌∷◌}
+use mathlib.Core.List.{List}
 use mathlib.Core.Bool.{Bool, true, false, cond, ◌&&◌, ◌||◌}
 use native.Mathlib.Omega.{arith}
 use lib.ListN.{length}
 use lib.Dec.{eqb}
 use borrow.Author.Tests.{eqb-true, eq-eqb, ne_eqb}
-use types.Run.{OneOf, miss}
-use denote.Enum.Declared.{tag_of, declared}
 use Rattle.address.specs.declared.Address.{Address}
 use Rattle.address.specs.Matching.{matches_at}
 use Rattle.text.specs.Texts.{bytes}
@@ -22,9 +20,7 @@ use Rattle.records.specs.declared.opening.Modifiers.{Modifiers}
 use Rattle.records.specs.declared.opening.Reading.{Reading}
 use Rattle.records.specs.Answers.{most_bytes}
 use Rattle.records.specs.Reader.{read_term, is_redirect, is_explanation, check_after, check_from, has_version, read_record, after_version}
-use Rattle.records.specs.contracts.TermAnswer as answer-type
 use Rattle.records.specs.Opening.{modifier_at, modifiers_of, unaided, Passing, Leads, ModifiersAre, Accepts, Opened, OpeningOf, answer_of, none_met, is_met, repeated_by, noted, NoteFits, refused_of, led_by, led_on}
-use Rattle.records.specs.contracts.opening.Opening as opening-type
 use Rattle.records.proofs.Laws.Checking.{Checking, checking_start, checking_ended, checking_repeats, checking_less, checking_next, record_long, record_other, record_checked}
 use Rattle.records.proofs.Laws.Standing.{Sought, sought_start, sought_end}
 use Rattle.records.proofs.Laws.Noting.{case_of, redirect_met, exp_met, redirect_next, exp_next, note_fits}
@@ -43,9 +39,9 @@ pub unaided_by : (client : Address) (x y : Term) (r : Unaided) → x ≡ y → r
 unaided_by client x y r e h = h ∙ ap (unaided client) (sym e)
 
 -- `lead_on`
-pub lead_other : (client : Address) (o : Opening) (i n : ℕ) (x : Term) → OneOf (0 ∷ 2 ∷ []) (tag_of (declared opening-type.enum) o) → o ≡ led_on client o i n x
+pub lead_other : (client : Address) (o : Opening) (i n : ℕ) (x : Term) → ((j : ℕ) → o ≡ Opening.Open j → ⊥) → o ≡ led_on client o i n x
 unfolding led_on
-lead_other client (Opening.Open j) i n x h = absurd (miss (0 ∷ 2 ∷ []) 1 tt h)
+lead_other client (Opening.Open j) i n x h = absurd (h j refl)
 lead_other client (Opening.Matched sign) i n x h = refl
 lead_other client (Opening.Refused number p) i n x h = refl
 
@@ -166,20 +162,20 @@ module _ (client : Address) (s : List ℕ) (i₀ i : ℕ) (m : Modifiers) (o : O
   e = is_met m.exp
 
   module _ (a : TermAnswer) (p : a ≡ read_term s i) where
-    pub opens_end : OneOf (1 ∷ 2 ∷ []) (tag_of (declared answer-type.enum) a) → OneOf (0 ∷ 1 ∷ []) (tag_of (declared answer-type.enum) a)
+    pub opens_end : ((at n : ℕ) (t : Term) → a ≡ TermAnswer.Is at n t → ⊥) → ((number at : ℕ) → a ≡ TermAnswer.Refused number at → ⊥)
         → (y : Modifiers) → y ≡ m → Opened client s i₀ (record { opening = o; modifiers = y })
     unfolding check_after
     opens_end h k y f = rw f (by a p h k)
       where
-        by : (b : TermAnswer) → b ≡ read_term s i → OneOf (1 ∷ 2 ∷ []) (tag_of (declared answer-type.enum) b) → OneOf (0 ∷ 1 ∷ []) (tag_of (declared answer-type.enum) b)
+        by : (b : TermAnswer) → b ≡ read_term s i → ((at n : ℕ) (t : Term) → b ≡ TermAnswer.Is at n t → ⊥) → ((number at : ℕ) → b ≡ TermAnswer.Refused number at → ⊥)
             → Opened client s i₀ (record { opening = o; modifiers = m })
-        by (TermAnswer.Is at n t) q h k = absurd (miss (1 ∷ 2 ∷ []) 0 tt h)
+        by (TermAnswer.Is at n t) q h k = absurd (h at n t refl)
         by TermAnswer.End q h k = record {
           checks = checking_ended s i₀ i r e w.checks TermAnswer.End q (answer_of o) (λ rest. w.accepted);
           leads = led_last client s i₀ i o w.leads q;
           modifiers = λ _. record { redirect = sought_end q w.redirect; exp = sought_end q w.exp };
         }
-        by (TermAnswer.Refused number at) q h k = absurd (miss (0 ∷ 1 ∷ []) 2 tt k)
+        by (TermAnswer.Refused number at) q h k = absurd (k number at refl)
 
     pub opens_refused : (number at : ℕ) → a ≡ TermAnswer.Refused number at → (x : Reading) → x ≡ refused_of number at → Opened client s i₀ x
     unfolding check_after

@@ -3,15 +3,13 @@
 use Prim.Native.Nat.{ℕ, ◌+◌, ◌-◌, ◌/◌, ◌≤◌, ◌<◌}
 use mathlib.Core.Path.{◌≡◌, refl, sym, ap, subst, ◌∙◌}
 use mathlib.Core.Logic.{⊎_elim}
-use mathlib.Core.List.{List, [], ◌∷◌, ◌++◌}
+use mathlib.Core.List.{List, ◌++◌}
 use mathlib.Core.Bool.{Bool, true, false}
 use native.Mathlib.Omega.{arith}
 use lib.ListN.{length, take, length-take, length-drop}
 use mir.Syntax.{w64}
 use mir.Val.{Fits}
 use borrow.Author.Tests.{eq-eqb, ne_eqb}
-use types.Run.{OneOf, miss}
-use denote.Enum.Declared.{tag_of, declared}
 use Rattle.address.specs.declared.Address.{Address}
 use Rattle.text.specs.Bytes.{part}
 use Rattle.text.specs.Runs.{is_in, run_end}
@@ -30,7 +28,6 @@ use Rattle.records.specs.declared.TermAnswer.{TermAnswer}
 use Rattle.records.specs.declared.RecordAnswer.{RecordAnswer}
 use Rattle.records.specs.declared.opening.Opening.{Opening}
 use Rattle.records.specs.declared.opening.Reading.{Reading}
-use Rattle.records.specs.contracts.TermAnswer as answer-type
 use Rattle.records.proofs.Laws.Longest.{none_begins, some_begins, shorter_begins, empty_begins, longest_found, longest_halved}
 use Rattle.records.proofs.Laws.Terms.{read_long, term_answers}
 use Rattle.records.proofs.Laws.Records.{read_record_long, record_answers}
@@ -176,14 +173,14 @@ pub term_answered : (s : List ℕ) (i : ℕ) (r : TermAnswer) → r ≡ pointed_
 term_answered s i r e = (e, subst (ReadsTerm s i) (sym e) (term_answers s i))
 
 module _ (s : List ℕ) (i : ℕ) (a : TermAnswer) (e : a ≡ read_term s i) where
-  pub term_kept : OneOf (0 ∷ 1 ∷ []) (tag_of (declared answer-type.enum) a) → a ≡ pointed_term s i
+  pub term_kept : ((number at : ℕ) → a ≡ TermAnswer.Refused number at → ⊥) → a ≡ pointed_term s i
   unfolding point_term
   term_kept h = by a h ∙ ap (point_term s) e
     where
-      by : (b : TermAnswer) → OneOf (0 ∷ 1 ∷ []) (tag_of (declared answer-type.enum) b) → b ≡ point_term s b
+      by : (b : TermAnswer) → ((number at : ℕ) → b ≡ TermAnswer.Refused number at → ⊥) → b ≡ point_term s b
       by (TermAnswer.Is at next x) k = refl
       by TermAnswer.End k = refl
-      by (TermAnswer.Refused number at) k = absurd (miss (0 ∷ 1 ∷ []) 2 tt k)
+      by (TermAnswer.Refused number at) k = absurd (k number at refl)
 
   module _ (number p : ℕ) (q : a ≡ TermAnswer.Refused number p) where
     pub term_short : 30 < number → length s ≤ most_bytes

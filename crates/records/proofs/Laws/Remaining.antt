@@ -5,15 +5,12 @@ use mathlib.Core.Path.{◌≡◌, refl, sym, ap, subst, ◌∙◌}
 use mathlib.Core.List.{List, [], ◌∷◌}
 use native.Mathlib.Omega.{arith}
 use lib.ListN.{length}
-use types.Run.{OneOf, miss}
-use denote.Enum.Declared.{tag_of, declared}
 use Rattle.text.specs.Bytes.{part}
 use Rattle.records.specs.Readings.{Placed}
 use Rattle.records.specs.Numbers.{end, term, term_report, said_of}
 use Rattle.records.specs.Reader.{read_term, Reads, stop, step}
 use Rattle.records.specs.declared.Term.{Term}
 use Rattle.records.specs.declared.TermAnswer.{TermAnswer}
-use Rattle.records.specs.contracts.TermAnswer as answer-type
 use Rattle.records.proofs.Laws.Arguments.{stands}
 
 -- a term that was read
@@ -45,14 +42,9 @@ ended {s} (TermAnswer.Refused k p) q n (step {next = next} {t = u} h r) =
     let g : term_report s (TermAnswer.Refused k p) ≡ term next u = sym (ap (term_report s) q) ∙ h in let z : ◌≡◌ {A = ℕ} 0 1 = cc in absurd (omega arith)
 ended (TermAnswer.Is b e t) q n (step h r) = absurd (n b e t refl)
 
-no_term : (x : TermAnswer) → OneOf (1 ∷ 2 ∷ []) (tag_of (declared answer-type.enum) x) → (b e : ℕ) (t : Term) → x ≡ TermAnswer.Is b e t → ⊥
-no_term TermAnswer.End h b e t q = let z : ◌≡◌ {A = ℕ} 0 1 = cc in omega arith
-no_term (TermAnswer.Refused n p) h b e t q = let z : ◌≡◌ {A = ℕ} 0 1 = cc in omega arith
-no_term (TermAnswer.Is p n u) h b e t q = miss (1 ∷ 2 ∷ []) 0 tt h
-
 pub reads_out : {s : List ℕ} {i : ℕ} {rest : List Placed} → Reads s i rest → (r : TermAnswer) → r ≡ read_term s i
-    → OneOf (1 ∷ 2 ∷ []) (tag_of (declared answer-type.enum) r) → rest ≡ []
-reads_out d r p h = ended r (sym p) (no_term r h) d
+    → ((b e : ℕ) (t : Term) → r ≡ TermAnswer.Is b e t → ⊥) → rest ≡ []
+reads_out d r p h = ended r (sym p) h d
 
 pub reads_end : {s : List ℕ} {i : ℕ} {rest : List Placed} → Reads s i rest → length s ≤ i → rest ≡ []
 reads_end {s} {i} d h = ended (read_term s i) refl (λ b e t q. let k = stands s i b e t q in omega (arith, k.after, k.some, k.inside)) d

@@ -12,7 +12,6 @@ use borrow.Author.Tests.{eq-eqb, ne_eqb, eqb-true, eqb-false}
 use Rattle.text.specs.Bytes.{at, part, lower, within, is_upper, is_alpha, is_digit, is_alphanumeric, is_toplabel_byte, is_macro_literal, is_delimiter, is_length_byte, is_not_space}
 use Rattle.text.specs.Decimal.{decimal}
 use Rattle.text.specs.Lists.{all, contains}
-use Rattle.text.specs.Texts.{bytes}
 use Rattle.text.proofs.Laws.Tests.{cond-elim, and_left, test_fails, true_false}
 use Rattle.text.proofs.Laws.Classes.{apart, within_range, range_within}
 use Rattle.text.proofs.Laws.Spans.{Span, span_join, span_cut, span_byte, span_at, span_word, span_part}
@@ -24,7 +23,7 @@ use Rattle.macros.specs.Reader.{is_reverse, is_macro_string, pieces}
 use Rattle.macros.proofs.Laws.Toplabels.{passed, toplabel_complete}
 use Rattle.macros.proofs.Laws.Soundness.{sound}
 use Rattle.macros.proofs.Laws.Completeness.{complete}
-use Rattle.records.specs.Grammar.{OptionalSpec, without, with_spec_lem}
+use Rattle.records.specs.Grammar.{OptionalSpec, without, has_spec}
 use Rattle.records.specs.Numbers.{optional}
 use Rattle.records.specs.Reader.{spec_at, after_spec}
 use Rattle.records.specs.declared.terms.Spec.{Spec}
@@ -209,7 +208,7 @@ pub argument_given : (w : List ℕ) (k to from : ℕ) → Argument w k to from �
 argument_given w k to from a = record {
   word = 58 ∷ part w from to;
   span = a.span;
-  made = rw a.some (with_spec_lem a.made);
+  made = rw a.some (has_spec a.made);
 }
 
 pub argument_absent : (w : List ℕ) (k to : ℕ) → k ≡ to → Optionally w k to to to

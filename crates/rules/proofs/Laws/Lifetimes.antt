@@ -39,7 +39,7 @@ smaller_of m n ns = ⊎_elim
     (λ (q : n < m). let e : min m n ≡ n = omega arith in rw e (later first))
     (le_or_lt m n)
 
-among : {k m n : ℕ} {ns : List ℕ} → OneOf k (min m n ∷ ns) → OneOf k (m ∷ n ∷ ns)
+among : {m n k : ℕ} {ns : List ℕ} → OneOf k (min m n ∷ ns) → OneOf k (m ∷ n ∷ ns)
 among {m = m} {n = n} {ns = ns} first = smaller_of m n ns
 among (later p) = later (later p)
 
@@ -50,6 +50,7 @@ below h x (later (later p)) = h x (later p)
 
 alone : {m : ℕ} (x : ℕ) → OneOf x (m ∷ []) → m ≤ x
 alone x first = omega arith
+alone {m = m} x (later x4) = elim x4 [ ]
 
 least_from : (m : ℕ) (ns : List ℕ) → (k : ℕ) × (soonest (Life.Least m) ns ≡ Life.Least k) × OneOf k (m ∷ ns) × ((x : ℕ) → OneOf x (m ∷ ns) → k ≤ x)
 unfolding soonest sooner
@@ -69,3 +70,5 @@ life_smallest t m = rw (run_life t Life.Unmet m) (smallest_is (lifetimes t (trai
 pub smallest_one : {ns : List ℕ} {n m : ℕ} → Smallest ns n → Smallest ns m → n ≡ m
 smallest_one none none = refl
 smallest_one {n = n} {m = m} (some o h) (some p k) = omega (arith, h m p, k n o)
+smallest_one {m = m} none (some p k) = elim p [ ]
+smallest_one {n = n} (some o h) none = elim o [ ]

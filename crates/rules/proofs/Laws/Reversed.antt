@@ -69,6 +69,7 @@ plain_join : (xs : List (List ℕ)) (s : List ℕ) → Some xs → all is_plain 
 unfolding join_by
 plain_join (x ∷ xs) s some h hs =
     rw (append_assoc x (separator_before 46 xs) (46 ∷ s)) (plain_parts x xs s (all_first is_plain x xs h) (all_rest is_plain x xs h) hs)
+plain_join [] s x3 h hs = elim x3 [ ]
 
 plain_name : (xs : List (List ℕ)) (s : List ℕ) → Some xs → all is_plain xs ≡ true → is_plain s ≡ true → length (join xs ++ 46 ∷ s) ≤ 253
     → is_table_name (join xs ++ 46 ∷ s) ≡ true

@@ -86,6 +86,8 @@ settles_to {A} t m a i j e l = by (run t i m) (run t l m) (run_any t i l m) e
         inner (settled z w) = z
         inner (wanting kind n c w) = a
     by (wanting kind n c i') (wanting kind' n' c' j') lacking q = let z : ◌≡◌ {A = ℕ} 0 1 = cc in absurd (omega arith)
+    by (settled b i') (wanting kind' n' c' j') x5 q = elim x5 [ ]
+    by (wanting kind n c i') (settled b' j') x5 q = elim x5 [ ]
 
 -- one check after another
 pub bind_to : {A B : Type 0} (t : Table) (m : Check A) (f : A → Check B) (a : A) (b : B) → SettlesTo t m a → SettlesTo t (f a) b → SettlesTo t (bind m f) b

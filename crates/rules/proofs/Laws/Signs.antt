@@ -9,7 +9,7 @@ use Rattle.text.specs.Bytes.{part}
 use Rattle.records.specs.Readings.{Optional, absent, present, Said, Placed}
 use Rattle.records.specs.Grammar.{is_qualifier, Mechanism, all_term, include, a, mx, ptr, ip4, ip6, exists, Modifier, redirect, explanation, unknown, unsigned, signed, TermText, directive, modifier_term, Terms, done, term as term_made, Record, spf1, sign_plus, sign_minus, sign_tilde, sign_question}
 use Rattle.records.specs.Reader.{read_term}
-use Rattle.records.specs.Numbers.{term, term_report, said_of}
+use Rattle.records.specs.Numbers.{term_report, said_of}
 use Rattle.records.specs.declared.Term.{Term}
 use Rattle.records.specs.declared.TermAnswer.{TermAnswer}
 use Rattle.records.proofs.Laws.Terms.{found}

@@ -1,11 +1,9 @@
 -- The numbers and octets of each case of an answer: one rule for each way out of the functions that write them. From the definitions of specs/.
 use Prim.Native.Nat.{ℕ, ◌+◌, ◌-◌, ◌≤◌, ◌<◌, ◌^◌}
-use mathlib.Core.Path.{◌≡◌, sym, ap, ◌∙◌}
+use mathlib.Core.Path.{◌≡◌, refl, sym, ap, ◌∙◌}
 use mathlib.Core.List.{List, [], ◌∷◌, ◌++◌}
 use native.Mathlib.Omega.{arith}
 use lib.ListN.{length}
-use types.Run.{OneOf, miss}
-use denote.Enum.Declared.{tag_of, declared}
 use Rattle.text.specs.Writing.{Wrote, overwritten}
 use Rattle.text.proofs.Laws.Writing.{wrote_over, over_fits}
 use Rattle.address.specs.declared.Address.{Address}
@@ -17,7 +15,6 @@ use Rattle.old_layout.specs.Numbers.{outcome_of as addedOutcome}
 use Rattle.answer_entry.specs.Numbers.{outcome_of}
 use Rattle.macros.specs.declared.Expanded.{Expanded}
 use Rattle.records.specs.declared.Term.{Term}
-use Rattle.records.specs.contracts.Term as term_type
 use Rattle.received.specs.declared.Written.{Written}
 use Rattle.received.specs.declared.LineAnswer.{LineAnswer}
 use Rattle.publishing.specs.declared.HouseAnswer.{HouseAnswer}
@@ -81,9 +78,9 @@ network_written t sign from to a n e b d r h = h.1 ∙ rw e
 pub nothing_written : (b : List ℕ) → b ≡ overwritten [] b
 nothing_written b = sym (over_fits [] b (omega arith))
 
-pub no_network : (t : Term) → OneOf (0 ∷ 1 ∷ 2 ∷ 3 ∷ 4 ∷ 6 ∷ 7 ∷ 8 ∷ 9 ∷ []) (tag_of (declared term_type.enum) t) → (b : List ℕ) → b ≡ overwritten (network_of t) b
+pub no_network : (t : Term) → ((sign from to : ℕ) (a : Address) (n : ℕ) → t ≡ Term.Network sign from to a n → ⊥) → (b : List ℕ) → b ≡ overwritten (network_of t) b
 unfolding network_of
-no_network (Term.Network sign from to a n) h b = absurd (miss (0 ∷ 1 ∷ 2 ∷ 3 ∷ 4 ∷ 6 ∷ 7 ∷ 8 ∷ 9 ∷ []) 5 tt h)
+no_network (Term.Network sign from to a n) h b = absurd (h sign from to a n refl)
 no_network (Term.All sign) h b = nothing_written b
 no_network (Term.Include sign from to) h b = nothing_written b
 no_network (Term.A sign from to n m) h b = nothing_written b

@@ -2,7 +2,7 @@
 use Prim.Native.Nat.{ℕ}
 use mathlib.Core.Path.{◌≡◌, refl, sym, ap, ◌∙◌}
 use mathlib.Core.List.{List, [], ◌∷◌, ◌++◌}
-use mathlib.Core.Bool.{Bool, true, false, cond, ◌||◌, or_assoc, or_false}
+use mathlib.Core.Bool.{Bool, true, false, cond, ◌||◌, or_assoc, or-false}
 use Rattle.text.specs.Bytes.{part}
 use Rattle.text.specs.Lists.{same}
 use Rattle.text.specs.Texts.{bytes}
@@ -27,7 +27,7 @@ Picks d t Nobody found = found ≡ []
 module _ (d n : List ℕ) where
   holds_more : (ns : List (List ℕ)) → holds_name d (ns ++ (n ∷ [])) ≡ (holds_name d ns || same n d)
   unfolding holds_name
-  holds_more [] = or_false (same n d)
+  holds_more [] = or-false (same n d)
   holds_more (m ∷ ns) = ap (λ (t : Bool). same m d || t) (holds_more ns) ∙ sym (or_assoc (same m d) (holds_name d ns) (same n d))
 
   below_more : (ns : List (List ℕ)) (other : List ℕ) → first_below d (ns ++ (n ∷ [])) other ≡ first_below d ns (cond (at_or_below n d) n other)

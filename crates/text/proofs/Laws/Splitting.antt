@@ -29,10 +29,12 @@ some_cond : (t : Bool) (b : ℕ) (xs : List (List ℕ)) → Some xs → Some (co
 unfolding grow
 some_cond true b xs s = some
 some_cond false b (x ∷ xs) some = some
+some_cond false b [] s = elim s [ ]
 
 grow_append : (b : ℕ) (xs ys : List (List ℕ)) → Some xs → grow b (xs ++ ys) ≡ grow b xs ++ ys
 unfolding grow
 grow_append b (x ∷ xs) ys some = refl
+grow_append b [] ys x' = elim x' [ ]
 
 join_grow : (c b : ℕ) (xs : List (List ℕ)) → join_by c (grow b xs) ≡ b ∷ join_by c xs
 unfolding join_by grow separator_before
@@ -42,10 +44,12 @@ join_grow c b (x ∷ xs) = refl
 join_empty : (c : ℕ) (xs : List (List ℕ)) → Some xs → join_by c ([] ∷ xs) ≡ c ∷ join_by c xs
 unfolding join_by separator_before
 join_empty c (x ∷ xs) some = refl
+join_empty c [] x' = elim x' [ ]
 
 count_grow : (b : ℕ) (xs : List (List ℕ)) → Some xs → length (grow b xs) ≡ length xs
 unfolding grow
 count_grow b (x ∷ xs) some = refl
+count_grow b [] x' = elim x' [ ]
 
 module _ (p : ℕ → Bool) where
   pub split_some : (s : List ℕ) → Some (split p s)
@@ -160,6 +164,8 @@ module _ (c : ℕ) where
   pub join_append : (xs ys : List (List ℕ)) → Some xs → Some ys → join_by c (xs ++ ys) ≡ join_by c xs ++ (c ∷ join_by c ys)
   unfolding join_by separator_before
   join_append (x ∷ xs) (y ∷ ys) some some = rw (before_append xs (y ∷ ys), append_assoc)
+  join_append [] ys x'' _ = elim x'' [ ]
+  join_append (x ∷ xs) [] _ x7 = elim x7 [ ]
 
   pub join_snoc : (xs : List (List ℕ)) (x : List ℕ) → Some xs → join_by c (xs ++ (x ∷ [])) ≡ join_by c xs ++ (c ∷ x)
   unfolding join_by separator_before

@@ -3,7 +3,7 @@
 use Prim.Native.Nat.{ℕ, ◌+◌, ◌≤◌, ◌<◌, ◌/◌, ◌%◌}
 use mathlib.Core.Path.{◌≡◌, refl, ◌∙◌}
 use mathlib.Core.List.{List, [], ◌∷◌, ◌++◌, append_assoc}
-use mathlib.Core.Bool.{Bool, true, false, cond, or_false}
+use mathlib.Core.Bool.{Bool, true, false, cond, or-false}
 use borrow.Author.Tests.{lt-ltb, le-ltb}
 use Rattle.text.specs.Bytes.{within, is_upper, is_alpha, is_digit, is_alphanumeric}
 use Rattle.text.specs.Lists.{contains}
@@ -21,7 +21,7 @@ module _ (b : ℕ) (r : Bool) (p : r ≡ is_in Alphanumeric b) where
 
   pub unreserved_other : r ≡ false → (u : Bool) → u ≡ contains (45 ∷ 46 ∷ 95 ∷ 126 ∷ []) b → u ≡ is_unreserved b
   unfolding is_unreserved is_in contains
-  unreserved_other k u e = rw (← p, k) (e ∙ rw or_false)
+  unreserved_other k u e = rw (← p, k) (e ∙ rw or-false)
 
 -- `hex_digit`
 pub hex_low : (n : ℕ) → n < 10 → 48 + n ≡ hex_digit n

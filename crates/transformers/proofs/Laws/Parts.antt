@@ -55,6 +55,7 @@ one_reversed (suc (suc n)) x h = refl
 
 some_reversed : (n : ℕ) (xs : List (List ℕ)) → Some xs → Some (reverse (take (suc n) xs))
 some_reversed n (x ∷ xs) some = rw reverse-cons (some_snoc (reverse (take n xs)) x)
+some_reversed n [] x' = elim x' [ ]
 
 -- one part more, which comes last
 join_reversed : (n : ℕ) → 0 < n → (n ≡ 1 → ⊥) → (x : List ℕ) (xs : List (List ℕ)) → Some xs

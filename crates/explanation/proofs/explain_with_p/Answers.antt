@@ -1,0 +1,15 @@
+-- `explanation::explain_with_p` meets its contract. From the laws of Showing.
+use Rattle.explanation.proofs.Laws.Showing.{with_current, with_listed, with_unknown, with_wanted}
+use Rattle.explanation.proofs.explain_with_p.Goals as goal
+
+pub returns-in-Current : goal.returns-in-Current
+returns-in-Current c = search with_current
+
+pub returns-in-Listed : goal.returns-in-Listed
+returns-in-Listed c = search with_listed
+
+pub returns-in-Unknown : goal.returns-in-Unknown
+returns-in-Unknown c = search with_unknown
+
+pub returns-in-Wanting : goal.returns-in-Wanting
+returns-in-Wanting c = search with_wanted

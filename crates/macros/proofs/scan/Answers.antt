@@ -1,0 +1,40 @@
+-- `macros::scan` meets its contract. From the laws of Reading.
+use Rattle.std.proofs.Common.{rules}
+use Rattle.macros.proofs.Laws.Reading.{scan_start, scan_run, run_room, scan_literal, scan_escape, scan_expand, escape_room, brace_room, expand_room, scan_end, scan_bad, scan_out}
+use Rattle.macros.proofs.scan.Goals as goal
+
+pub loop-at-init : goal.loop-at-init
+loop-at-init c = search scan_start
+
+pub loop-at-smaller-then-at-plain : goal.loop-at-smaller-then-at-plain
+loop-at-smaller-then-at-plain c = search (rules, run_room)
+
+pub loop-at-preserved-then-at-plain : goal.loop-at-preserved-then-at-plain
+loop-at-preserved-then-at-plain c = search scan_run
+
+pub loop-at-preserved-in-Literal : goal.loop-at-preserved-in-Literal
+loop-at-preserved-in-Literal c = search scan_literal
+
+pub overflow_add-at-in-Escape : goal.overflow_add-at-in-Escape
+overflow_add-at-in-Escape c = search escape_room
+
+pub loop-at-preserved-in-Escape : goal.loop-at-preserved-in-Escape
+loop-at-preserved-in-Escape c = search scan_escape
+
+pub overflow_add-at-in-Expand : goal.overflow_add-at-in-Expand
+overflow_add-at-in-Expand c = search brace_room
+
+pub overflow_add-at-in-Expand-2 : goal.overflow_add-at-in-Expand-2
+overflow_add-at-in-Expand-2 c = search expand_room
+
+pub loop-at-preserved : goal.loop-at-preserved
+loop-at-preserved c = search scan_expand
+
+pub returns-in-End : goal.returns-in-End
+returns-in-End c = search scan_end
+
+pub returns-in-Bad : goal.returns-in-Bad
+returns-in-Bad c = search scan_bad
+
+pub returns : goal.returns
+returns c = search scan_out

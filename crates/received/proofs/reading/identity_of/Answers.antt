@@ -1,0 +1,12 @@
+-- `received::reading::identity_of` meets its contract. From the laws of Tests of the crate text.
+use Rattle.text.proofs.Laws.Tests.{ways}
+use Rattle.received.specs.Reader.{identity_of}
+use Rattle.received.proofs.reading.identity_of.Goals as goal
+
+pub returns-then-equal : goal.returns-then-equal
+unfolding identity_of
+returns-then-equal c = search ways
+
+pub returns : goal.returns
+unfolding identity_of
+returns c = search ways

@@ -1,0 +1,12 @@
+-- `records::terms::name_by` meets its contract. From the laws of Tests.
+use Rattle.records.specs.Reader.{name_by}
+use Rattle.text.proofs.Laws.Tests.{ways}
+use Rattle.records.proofs.terms.name_by.Goals as goal
+
+pub returns-then-is_qualifier : goal.returns-then-is_qualifier
+unfolding name_by
+returns-then-is_qualifier c = search ways
+
+pub returns : goal.returns
+unfolding name_by
+returns c = search ways
