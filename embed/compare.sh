@@ -8,7 +8,7 @@ cd "$(dirname "$0")/.." || exit 2
 program=$1
 shift
 proved=target/bin/$program
-[ -x "$proved" ] || { echo "compare.sh: no $proved: run 'rt check $program'" >&2; exit 2; }
+[ -x "$proved" ] || { echo "compare.sh: no $proved: run 'make programs'" >&2; exit 2; }
 dir=$(mktemp -d) || exit 2
 trap 'rm -rf "$dir"' EXIT
 

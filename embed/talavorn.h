@@ -32,8 +32,8 @@ extern "C" {
 /* ---- 2  What holds for every call ------------------------------------------------------------
  *
  * Proved, for every input, under the rules on memory below:
- * - The call does what its comment says; its contract, in crates/talavorn/src/lib.rt, says the same
- *   in the prover's language.
+ * - The call does what its comment says; its contract, in crates/talavorn_c/src/lib.rt, says the
+ *   same in the prover's language.
  * - It touches no byte outside what it was lent, and it returns.
  * - It keeps nothing between calls and allocates nothing, so threads may call at the same time,
  *   each with its own lent memory.

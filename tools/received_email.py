@@ -1,7 +1,7 @@
 #!/usr/bin/env python3
 """Received-SPF lines that were written here, read by Python's `email` package.
 
-    rt check received_line && python3 tools/received_email.py PATH/vectors-02
+    make programs && python3 tools/received_email.py PATH/vectors-02
 
 writes a line with the program received_line for each vector of write-w202.txt that a line answers, puts it before the other headers of a message, and
 parses the message. The package must find one Received-SPF field, with just the body that was written, and the other fields and the text behind it as
