@@ -149,8 +149,6 @@ def after():
         write(path, "\n".join(renamed(l, dashed) if re.match(r"(old|new):", l) else spans(l, dashed) for l in read(path).split("\n")))
     for path in glob.glob("*.md") + glob.glob("docs/**/*.md", recursive=True):
         write(path, spans_of_page(read(path), dashed))
-    with open("/tmp/port_names.txt", "w", encoding="utf-8") as f:
-        f.write("".join(f"{k} {v}\n" for k, v in sorted(to.items())))
     print(f"port_names: {len(to)} names")
 
 
