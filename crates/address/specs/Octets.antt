@@ -1,10 +1,8 @@
 -- An address as its octets, high-order first.
-use Rattle.std.specs.Prelude.{ℕ, zero, suc, ◌+◌, ◌*◌, ◌/◌, ◌%◌, ◌^◌, ◌<◌, List, [], ◌∷◌, ◌++◌, cond, ◌&&◌, length, take, drop, replicate, eqb}
+use Rattle.std.specs.Prelude.{ℕ, zero, suc, ◌+◌, ◌*◌, ◌/◌, ◌%◌, ◌^◌, ◌<◌, List, [], ◌∷◌, ◌++◌, cond, ◌&&◌, length, take, drop, replicate, eqb, None, Option, Some}
 use Rattle.text.specs.Lists.{same}
 use Rattle.address.specs.declared.Address.{Address}
 use Rattle.address.specs.declared.Address.TheVariants.{IPv4, IPv6}
-use Rattle.address.specs.declared.FromOctets.{FromOctets}
-use Rattle.address.specs.declared.FromOctets.TheVariants.{Is, NoAddress}
 
 -- the numbers of an address as its types hold them
 abbrev pub InRange : Address → Type 0
@@ -31,11 +29,11 @@ unfoldable pub value_of : List ℕ → ℕ
 value_of s = value_from 0 s
 
 -- the address of 4 or 16 octets
-unfoldable pub from_octets : List ℕ → FromOctets
+unfoldable pub from_octets : List ℕ → Option Address
 from_octets s =
-    cond (eqb (length s) 4) (Is (IPv4 (value_of s)))
-    (cond (eqb (length s) 16) (Is (IPv6 (value_of (take 8 s)) (value_of (drop 8 s))))
-    NoAddress)
+    cond (eqb (length s) 4) (Some (IPv4 (value_of s)))
+    (cond (eqb (length s) 16) (Some (IPv6 (value_of (take 8 s)) (value_of (drop 8 s))))
+    None)
 
 -- IPv4-mapped (RFC 4291 section 2.5.5.2): ten octets 0, two octets 255, and the four of the IPv4 address
 unfoldable pub mapped_prefix : List ℕ

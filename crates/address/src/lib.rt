@@ -1,122 +1,60 @@
 // Addresses and prefix lengths.
 #![tactic(auto)]
 
-ghost use Rattle.std.specs.Prelude.{◌-◌, ◌*◌, ◌≤◌, ◌<◌, ◌^◌, ◌≡◌, true, ◌++◌, ◌↔◌, length, take, leb, eqb};
+ghost use Rattle.std.specs.Prelude.{◌*◌, ◌≤◌, ◌≡◌, true, ◌++◌, ◌↔◌, length, take, leb, eqb};
 ghost use Rattle.text.specs.Lists.{same};
-ghost use Rattle.address.specs.Octets.{octets_of, octets, value_of, from_octets, client_octets, as_client};
+ghost use Rattle.address.specs.Octets.{octets_of, octets, from_octets, client_octets, as_client};
 ghost use Rattle.address.specs.Matching.{agree, matches_at, Matches, high_bits};
 ghost use Rattle.address.specs.Clearing.{cleared_low, cleared};
 
 use text::words;
 
 // An address of either family, by its number; an IPv6 address in two halves, high-order first.
-#[derive(Clone, Copy)]
+#[derive(Clone, Copy, PartialEq, Eq)]
 pub enum Address {
     IPv4(u32),
     IPv6(u64, u64),
-}
-
-// What octets are: an address, or neither 4 nor 16 of them.
-#[derive(Clone, Copy)]
-pub enum FromOctets {
-    Is(Address),
-    NoAddress,
-}
-
-// An octet as a u64.
-fn wide(x: u8) -> u64
-    ensures { (result ≡ x) × (result < 256) }
-{
-    x as u64
-}
-
-// The number that at most 8 octets write.
-fn value8(s: &[u8]) -> u64
-    requires { length s.now ≤ 8 }
-    ensures { (result ≡ value_of s.now) × (result < 256 ^ length s.now) }
-{
-    let mut v: u64 = 0;
-    let mut i = 0;
-    while i < s.len() {
-        v = 256 * v + wide(s[i]);
-        i += 1;
-    }
-    v
-}
-
-// The number that 4 octets write.
-fn value4(s: &[u8]) -> u32
-    requires { length s.now ≡ 4 }
-    ensures { result ≡ value_of s.now }
-{
-    value8(s) as u32
 }
 
 // The octets of an IPv4 address.
 pub fn octets4(v: u32) -> [u8; 4]
     ensures { result ≡ octets_of 4 v }
 {
-    [
-        (v / 256 / 256 / 256 % 256) as u8,
-        (v / 256 / 256 % 256) as u8,
-        (v / 256 % 256) as u8,
-        (v % 256) as u8,
-    ]
+    v.to_be_bytes()
 }
 
 // The octets of an IPv6 address, from its halves.
 pub fn octets16(high: u64, low: u64) -> [u8; 16]
     ensures { result ≡ octets_of 8 high ++ octets_of 8 low }
 {
-    [
-        (high / 256 / 256 / 256 / 256 / 256 / 256 / 256 % 256) as u8,
-        (high / 256 / 256 / 256 / 256 / 256 / 256 % 256) as u8,
-        (high / 256 / 256 / 256 / 256 / 256 % 256) as u8,
-        (high / 256 / 256 / 256 / 256 % 256) as u8,
-        (high / 256 / 256 / 256 % 256) as u8,
-        (high / 256 / 256 % 256) as u8,
-        (high / 256 % 256) as u8,
-        (high % 256) as u8,
-        (low / 256 / 256 / 256 / 256 / 256 / 256 / 256 % 256) as u8,
-        (low / 256 / 256 / 256 / 256 / 256 / 256 % 256) as u8,
-        (low / 256 / 256 / 256 / 256 / 256 % 256) as u8,
-        (low / 256 / 256 / 256 / 256 % 256) as u8,
-        (low / 256 / 256 / 256 % 256) as u8,
-        (low / 256 / 256 % 256) as u8,
-        (low / 256 % 256) as u8,
-        (low % 256) as u8,
-    ]
+    let mut octets = [0; 16];
+    octets[..8].copy_from_slice(&high.to_be_bytes());
+    octets[8..].copy_from_slice(&low.to_be_bytes());
+    octets
 }
 
 // The address of 4 or 16 octets, high-order first.
-pub fn from_octets(s: &[u8]) -> FromOctets
+pub fn from_octets(s: &[u8]) -> Option<Address>
     ensures { result ≡ from_octets s.now }
 {
-    if s.len() == 4 {
-        return FromOctets::Is(Address::IPv4(value4(s)));
+    if let Some(v) = s.as_array() {
+        return Some(Address::IPv4(u32::from_be_bytes(*v)));
     }
-    if s.len() == 16 {
-        return FromOctets::Is(Address::IPv6(value8(&s[..8]), value8(&s[8..])));
-    }
-    FromOctets::NoAddress
+    let (high, rest) = s.split_first_chunk()?;
+    let low = rest.as_array()?;
+    Some(Address::IPv6(u64::from_be_bytes(*high), u64::from_be_bytes(*low)))
 }
 
 // An IPv4-mapped IPv6 client counts as IPv4; every other address is itself.
 pub fn as_client(a: Address) -> Address
     ensures value { result ≡ as_client a }
-    ensures result_value { octets result ≡ client_octets (octets a) }
+    ensures octets_of_result { octets result ≡ client_octets (octets a) }
 {
     match a {
-        Address::IPv4(v) => Address::IPv4(v),
-        Address::IPv6(high, low) => {
-            if high == 0 {
-                if low / 4294967296 == 65535 {
-                    return Address::IPv4((low % 4294967296) as u32);
-                }
-                return Address::IPv6(high, low);
-            }
-            Address::IPv6(high, low)
+        Address::IPv6(0, low) if low / 4294967296 == 65535 => {
+            Address::IPv4((low % 4294967296) as u32)
         }
+        _ => a,
     }
 }
 
@@ -173,7 +111,7 @@ fn agrees(a: &[u8], b: &[u8], n: usize) -> bool
 // Whether a client matches a network at a prefix length.
 pub fn matches(client: Address, network: Address, length: usize) -> bool
     ensures value { result ≡ matches_at client network length }
-    ensures variant { (result ≡ true) ↔ Matches client network length }
+    ensures rule { (result ≡ true) ↔ Matches client network length }
 {
     match client {
         Address::IPv4(v) => match network {
@@ -191,31 +129,21 @@ pub fn matches(client: Address, network: Address, length: usize) -> bool
 fn clear_low(v: u64, n: usize) -> u64
     ensures { result ≡ cleared_low n v }
 {
-    if n >= 64 {
-        return 0;
-    }
-    (v >> n) << n
-}
-
-// What b leaves of a: 0 if b is more.
-fn left_of(a: usize, b: usize) -> usize
-    ensures { result ≡ a - b }
-{
-    if b <= a {
-        return a - b;
-    }
-    0
+    if n < 64 { (v >> n) << n } else { 0 }
 }
 
 // An address with the bits below a prefix length cleared.
+#[tactic(auto, using(crate::proofs::Laws::Clearing::cleared_fits))]
 pub fn cleared(a: Address, length: usize) -> Address
     ensures { result ≡ cleared a length }
 {
     match a {
-        Address::IPv4(v) => Address::IPv4(clear_low(v as u64, left_of(32, length)) as u32),
+        Address::IPv4(v) => {
+            Address::IPv4(clear_low(u64::from(v), 32usize.saturating_sub(length)) as u32)
+        }
         Address::IPv6(high, low) => Address::IPv6(
-            clear_low(high, left_of(64, length)),
-            clear_low(low, left_of(64, left_of(length, 64))),
+            clear_low(high, 64usize.saturating_sub(length)),
+            clear_low(low, 64usize.saturating_sub(length.saturating_sub(64))),
         ),
     }
 }

@@ -1,12 +1,12 @@
 -- The bytes of entries, written by hand from the layout, and what the check of a table answers to them.
-use Rattle.std.specs.Prelude.{ℕ, ◌≡◌, refl, List, [], ◌∷◌, ◌++◌, map, replicate}
+use Rattle.std.specs.Prelude.{ℕ, ◌≡◌, refl, List, [], ◌∷◌, ◌++◌, map, replicate, Ok, Err}
 use Rattle.text.specs.Bytes.{within, is_upper, is_not_upper, is_visible, lower}
 use Rattle.text.specs.Lists.{same, all, grow, split}
 use Rattle.text.specs.Texts.{bytes}
 use Rattle.domain.specs.Names.{labels, is_label, is_name, is_table_name}
 use Rattle.answer_table.specs.Layout.{kind_txt, kind_spf, status_answered, status_failed, status_no_such_name, is_kind, is_status, is_mail_exchange, is_item, lifetime_bytes, body}
-use Rattle.answer_table.specs.Reader.{number, first_item, other_items, items_fit_from, items_fit, header_of, name_of, item_bytes, is_entry, is_well, find_after, find_from, find_in, is_found, step_after, step_at, check_after, check_from, check_in, check_table}
-use Rattle.answer_table.specs.declared.TableAnswer.TheVariants.{Accepted, Malformed, Repeated}
+use Rattle.answer_table.specs.Reader.{number, first_item, other_items, items_fit_from, items_fit, header_of, name_of, item_bytes, is_entry, is_well, found_of, find_after, find_from, find_in, step_after, step_at, check_after, check_from, check_in, check_table}
+use Rattle.answer_table.specs.declared.TableError.TheVariants.{Malformed, Repeated}
 use Rattle.answer_entry.specs.Encoding.{two_bytes, four_bytes, entry_bytes}
 use Rattle.answer_entry.specs.Appending.{extended}
 
@@ -32,13 +32,13 @@ pub record Cases : Type 0 where
   pub long_entry : entry_bytes kind_txt status_answered 0 (bytes "a.b") (replicate 289 7)
       ≡ 44 ∷ 1 ∷ 16 ∷ 0 ∷ 0 ∷ 0 ∷ 0 ∷ 0 ∷ 0 ∷ 3 ∷ (bytes "a.b" ++ replicate 289 7)
   -- accepted, and one more of another kind; the same pair again and a name as given aren't
-  pub accepted_one : check_table one ≡ Accepted 1
-  pub accepted_two : check_table (extended one kind_spf status_answered 300 name policy) ≡ Accepted 2
-  pub same_pair : check_table (extended one kind_txt status_no_such_name 300 name []) ≡ Repeated 34
-  pub upper_case : check_table (extended one kind_txt status_no_such_name 300 (bytes "Example.COM") []) ≡ Malformed 34
+  pub accepted_one : check_table one ≡ Ok 1
+  pub accepted_two : check_table (extended one kind_spf status_answered 300 name policy) ≡ Ok 2
+  pub same_pair : check_table (extended one kind_txt status_no_such_name 300 name []) ≡ Err (Repeated 34)
+  pub upper_case : check_table (extended one kind_txt status_no_such_name 300 (bytes "Example.COM") []) ≡ Err (Malformed 34)
 
 pub cases : Cases
-unfolding within is_upper is_not_upper is_visible lower same all grow split labels is_label is_name is_table_name is_kind is_status is_mail_exchange is_item lifetime_bytes body number first_item other_items items_fit_from items_fit header_of name_of item_bytes is_entry is_well find_after find_from find_in is_found step_after step_at check_after check_from check_in two_bytes four_bytes entry_bytes
+unfolding within is_upper is_not_upper is_visible lower same all grow split labels is_label is_name is_table_name is_kind is_status is_mail_exchange is_item lifetime_bytes body number first_item other_items items_fit_from items_fit header_of name_of item_bytes is_entry is_well found_of find_after find_from find_in step_after step_at check_after check_from check_in two_bytes four_bytes entry_bytes
 cases = record {
   text_entry = refl;
   no_such_name = refl;

@@ -1,56 +1,42 @@
-// Entries put at a place of an answer table, whether they are well-formed or not.
-ghost use Rattle.text.specs.Writing.{Wrote};
+// Entries written into an answer table, whether they are well-formed or not.
+ghost use Rattle.text.specs.Writing.{Writes};
 ghost use Rattle.answer_entry.specs.Encoding.{four_bytes, low_bytes, head_bytes, written_bytes};
 
-use text::writing;
+use crate::NewEntry;
+use text::writing::Writer;
 
 // The two bytes of a number below 65,536, the lower one first; of a larger one its two low bytes.
-pub fn put_number(out: &mut [u8], at: usize, n: usize) -> usize
-    ensures { Wrote (low_bytes n) out.old at out.new result }
+#[tactic(auto, unfolding(crate::specs::Encoding::low_bytes))]
+pub fn put_number(n: usize, out: &mut Writer)
+    ensures { Writes (low_bytes n) out.old out.new }
 {
-    let next = writing::put(out, at, (n % 256) as u8);
-    writing::put(out, next, (n / 256 % 256) as u8)
+    out.put_all(&((n % 65536) as u16).to_le_bytes());
 }
 
 // The four bytes of a lifetime, the lowest one first.
-pub fn put_lifetime(out: &mut [u8], at: usize, lifetime: u32) -> usize
-    ensures { Wrote (four_bytes lifetime) out.old at out.new result }
+#[tactic(auto, unfolding(crate::specs::Encoding::four_bytes))]
+pub fn put_lifetime(lifetime: u32, out: &mut Writer)
+    ensures { Writes (four_bytes lifetime) out.old out.new }
 {
-    let next = put_number(out, at, lifetime as usize);
-    put_number(out, next, (lifetime / 65536) as usize)
+    out.put_all(&lifetime.to_le_bytes());
 }
 
 // The kind, status, lifetime and name of an entry, which stand between its length and its items.
-pub fn put_head(
-    out: &mut [u8],
-    at: usize,
-    kind: u16,
-    status: u8,
-    lifetime: u32,
-    name: &[u8],
-) -> usize
-    ensures { Wrote (head_bytes kind status lifetime name.now) out.old at out.new result }
+pub fn put_head(entry: &NewEntry, out: &mut Writer)
+    ensures { Writes (head_bytes entry.now.kind entry.now.status entry.now.lifetime entry.now.name.now) out.old out.new }
 {
-    let kinded = put_number(out, at, kind as usize);
-    let stated = writing::put(out, kinded, status);
-    let lived = put_lifetime(out, stated, lifetime);
-    let measured = writing::put(out, lived, (name.len() % 256) as u8);
-    writing::put_all(name, out, measured)
+    put_number(entry.kind as usize, out);
+    out.put(entry.status);
+    put_lifetime(entry.lifetime, out);
+    out.put((entry.name.len() % 256) as u8);
+    out.put_all(entry.name);
 }
 
-// An entry at a place of a table; answers the place after it.
-pub fn put_entry(
-    out: &mut [u8],
-    at: usize,
-    kind: u16,
-    status: u8,
-    lifetime: u32,
-    name: &[u8],
-    items: &[u8],
-) -> usize
-    ensures { Wrote (written_bytes kind status lifetime name.now items.now) out.old at out.new result }
+// An entry.
+pub fn put_entry(entry: &NewEntry, out: &mut Writer)
+    ensures { Writes (written_bytes entry.now.kind entry.now.status entry.now.lifetime entry.now.name.now entry.now.items.now) out.old out.new }
 {
-    let sized = put_number(out, at, 8 + name.len() % 256 + items.len() % 65536);
-    let headed = put_head(out, sized, kind, status, lifetime, name);
-    writing::put_all(items, out, headed)
+    put_number(8 + entry.name.len() % 256 + entry.items.len() % 65536, out);
+    put_head(entry, out);
+    out.put_all(entry.items);
 }

@@ -13,5 +13,7 @@ pub mod Standing
 pub mod Reader
 -- Marks: the bits that are set for the pairs that a check has met.
 pub mod Marks
+-- Walking: what the walk over the places of items gives.
+pub mod Walking
 -- Examples: the sentences on the table, computed.
 pub mod Examples

@@ -1,6 +1,6 @@
 -- The table as the code reads it, in either layout: total on any bytes. The laws say that on an accepted table this is what the productions say.
 -- entries_of, find_at and check_table are those of the tables that are evaluated.
-use Rattle.std.specs.Prelude.{ℕ, zero, suc, ◌+◌, ◌-◌, ◌*◌, ◌<◌, min, List, [], ◌∷◌, Bool, true, false, cond, ◌&&◌, length, take, drop, leb, ltb, eqb}
+use Rattle.std.specs.Prelude.{ℕ, zero, suc, ◌+◌, ◌-◌, ◌*◌, ◌<◌, min, List, [], ◌∷◌, Bool, true, false, cond, ◌&&◌, length, take, drop, leb, ltb, eqb, None, Option, Some, is_some, Result, Ok, Err}
 use Rattle.text.specs.Bytes.{at}
 use Rattle.text.specs.Lists.{same}
 use Rattle.domain.specs.Names.{is_table_name}
@@ -9,11 +9,9 @@ use Rattle.answer_table.specs.Answers.{most_bytes, most_entries}
 use Rattle.answer_table.specs.declared.Layout.{Layout}
 use Rattle.answer_table.specs.declared.Layout.TheVariants.{Old, New}
 use Rattle.answer_table.specs.declared.entries.Header.{Header}
-use Rattle.answer_table.specs.declared.entries.Header.TheVariants.{Whole, Broken}
 use Rattle.answer_table.specs.declared.Found.{Found}
-use Rattle.answer_table.specs.declared.Step.{Step}
-use Rattle.answer_table.specs.declared.TableAnswer.{TableAnswer}
-use Rattle.answer_table.specs.declared.TableAnswer.TheVariants.{Accepted, TooLong, Malformed, Repeated}
+use Rattle.answer_table.specs.declared.TableError.{TableError}
+use Rattle.answer_table.specs.declared.TableError.TheVariants.{TooLong, Malformed, Repeated}
 
 -- the 2-byte number at the front
 unfoldable pub number : List ℕ → ℕ
@@ -51,12 +49,12 @@ unfoldable pub items_fit : ℕ → List ℕ → Bool
 items_fit kind s = items_fit_from (length s) kind s
 
 -- the entry at the front: its header is there, its name ends within it and it within the list; not yet whether it is well-formed
-unfoldable pub header_of : Layout → List ℕ → Header
+unfoldable pub header_of : Layout → List ℕ → Option Header
 header_of lay s =
-    cond (ltb (length s) (header_size lay)) Broken
-    (cond (ltb (length s) (2 + number s)) Broken
-    (cond (ltb (2 + number s) (header_size lay + at s (5 + lifetime_bytes lay))) Broken
-    (Whole (number (drop 2 s)) (at s 4) (at s (5 + lifetime_bytes lay)) (2 + number s))))
+    cond (ltb (length s) (header_size lay)) None
+    (cond (ltb (length s) (2 + number s)) None
+    (cond (ltb (2 + number s) (header_size lay + at s (5 + lifetime_bytes lay))) None
+    (Some (record { kind = number (drop 2 s); status = at s 4; name = at s (5 + lifetime_bytes lay); size = 2 + number s }))))
 
 -- its lifetime: the number of two bytes, and that of the next two
 unfoldable pub lifetime_at : Layout → List ℕ → ℕ
@@ -64,11 +62,11 @@ lifetime_at Old s = 0
 lifetime_at New s = number (drop 5 s) + 65536 * number (drop 7 s)
 
 -- its name and its items' bytes, by the name's length and the entry's size
-unfoldable pub name_of : Layout → List ℕ → ℕ → List ℕ
-name_of lay s n = take n (drop (header_size lay) s)
+unfoldable pub name_of : Layout → List ℕ → Header → List ℕ
+name_of lay s h = take h.name (drop (header_size lay) s)
 
-unfoldable pub item_bytes : Layout → List ℕ → ℕ → ℕ → List ℕ
-item_bytes lay s n size = take (size - (header_size lay + n)) (drop (header_size lay + n) s)
+unfoldable pub item_bytes : Layout → List ℕ → Header → List ℕ
+item_bytes lay s h = take (h.size - (header_size lay + h.name)) (drop (header_size lay + h.name) s)
 
 -- whether a kind, a status, a name and items' bytes make a well-formed entry
 unfoldable pub is_entry : (kind status : ℕ) (name items : List ℕ) → Bool
@@ -77,18 +75,17 @@ is_entry kind status name items =
 
 -- whether the entry at the front, with this header, is well-formed
 unfoldable pub is_well : Layout → List ℕ → Header → Bool
-is_well lay s Broken = false
-is_well lay s (Whole kind status n size) = is_entry kind status (name_of lay s n) (item_bytes lay s n size)
+is_well lay s h = is_entry h.kind h.status (name_of lay s h) (item_bytes lay s h)
 
 -- what it holds
-unfoldable pub entry_of : Layout → List ℕ → ℕ → ℕ → ℕ → ℕ → Entry
-entry_of lay s kind status n size =
-    record { kind = kind; status = status; lifetime = lifetime_at lay s; name = name_of lay s n; items = items_of (item_bytes lay s n size) }
+unfoldable pub entry_of : Layout → List ℕ → Header → Entry
+entry_of lay s h =
+    record { kind = h.kind; status = h.status; lifetime = lifetime_at lay s; name = name_of lay s h; items = items_of (item_bytes lay s h) }
 
 -- the entries up to the first broken header, at most f of them
-unfoldable pub entries_after : Layout → List ℕ → Header → (List ℕ → List Entry) → List Entry
-entries_after lay s Broken rest = []
-entries_after lay s (Whole kind status n size) rest = entry_of lay s kind status n size ∷ rest (drop size s)
+unfoldable pub entries_after : Layout → List ℕ → Option Header → (List ℕ → List Entry) → List Entry
+entries_after lay s None rest = []
+entries_after lay s (Some h) rest = entry_of lay s h ∷ rest (drop h.size s)
 
 unfoldable pub entries_from : Layout → ℕ → List ℕ → List Entry
 entries_from lay zero s = []
@@ -101,61 +98,57 @@ abbrev pub entries_of : List ℕ → List Entry
 entries_of = entries_in New
 
 -- where `find` finds the entry of a kind and a name, from a place on
-unfoldable pub find_after : Layout → List ℕ → ℕ → List ℕ → ℕ → Header → (ℕ → Found) → Found
-find_after lay t kind name i Broken rest = Found.Missing
-find_after lay t kind name i (Whole k status n size) rest =
-    cond (eqb k kind && same (name_of lay (drop i t) n) name)
-    (Found.Entry status (lifetime_at lay (drop i t)) (i + (header_size lay + n)) (i + size))
-    (rest (i + size))
+unfoldable pub found_of : Layout → List ℕ → ℕ → Header → Found
+found_of lay t i h =
+    record { status = h.status; lifetime = lifetime_at lay (drop i t); start = i + (header_size lay + h.name); end = i + h.size }
 
-unfoldable pub find_from : Layout → ℕ → List ℕ → ℕ → List ℕ → ℕ → Found
-find_from lay zero t kind name i = Found.Missing
+unfoldable pub find_after : Layout → List ℕ → ℕ → List ℕ → ℕ → Option Header → (ℕ → Option Found) → Option Found
+find_after lay t kind name i None rest = None
+find_after lay t kind name i (Some h) rest =
+    cond (eqb h.kind kind && same (name_of lay (drop i t) h) name) (Some (found_of lay t i h)) (rest (i + h.size))
+
+unfoldable pub find_from : Layout → ℕ → List ℕ → ℕ → List ℕ → ℕ → Option Found
+find_from lay zero t kind name i = None
 find_from lay (suc f) t kind name i = find_after lay t kind name i (header_of lay (drop i t)) (find_from lay f t kind name)
 
-unfoldable pub find_in : Layout → List ℕ → ℕ → List ℕ → Found
+unfoldable pub find_in : Layout → List ℕ → ℕ → List ℕ → Option Found
 find_in lay t kind name = find_from lay (length t) t kind name 0
 
-abbrev pub find_at : List ℕ → ℕ → List ℕ → Found
+abbrev pub find_at : List ℕ → ℕ → List ℕ → Option Found
 find_at = find_in New
 
--- whether it has found
-unfoldable pub is_found : Found → Bool
-is_found (Found.Entry status life start end) = true
-is_found Found.Missing = false
-
 -- the items' bytes of what was found
-unfoldable pub found_items : List ℕ → Found → List ℕ
-found_items t (Found.Entry status life start end) = cond (leb start end && leb end (length t)) (take (end - start) (drop start t)) []
-found_items t Found.Missing = []
+unfoldable pub found_items : List ℕ → Option Found → List ℕ
+found_items t (Some e) = cond (leb e.start e.end && leb e.end (length t)) (take (e.end - e.start) (drop e.start t)) []
+found_items t None = []
 
 -- the entry at a place in the check: malformed, of a pair that stands before it, or whole, with the place after it
-unfoldable pub step_after : Layout → List ℕ → ℕ → Header → Step
-step_after lay t i Broken = Step.Malformed
-step_after lay t i (Whole kind status n size) =
-    cond (is_well lay (drop i t) (Whole kind status n size))
-    (cond (is_found (find_in lay (take i t) kind (name_of lay (drop i t) n))) Step.Repeated (Step.Next (i + size)))
-    Step.Malformed
+unfoldable pub step_after : Layout → List ℕ → ℕ → Option Header → Result ℕ TableError
+step_after lay t i None = Err (Malformed i)
+step_after lay t i (Some h) =
+    cond (is_well lay (drop i t) h)
+    (cond (is_some (find_in lay (take i t) h.kind (name_of lay (drop i t) h))) (Err (Repeated i)) (Ok (i + h.size)))
+    (Err (Malformed i))
 
-unfoldable pub step_at : Layout → List ℕ → ℕ → Step
+unfoldable pub step_at : Layout → List ℕ → ℕ → Result ℕ TableError
 step_at lay t i = step_after lay t i (header_of lay (drop i t))
 
 -- the check from a place on, after that many entries
-unfoldable pub check_after : ℕ → ℕ → Step → (ℕ → ℕ → TableAnswer) → TableAnswer
-check_after i count (Step.Next next) rest = rest next (count + 1)
-check_after i count Step.Malformed rest = Malformed i
-check_after i count Step.Repeated rest = Repeated i
+unfoldable pub check_after : ℕ → Result ℕ TableError → (ℕ → ℕ → Result ℕ TableError) → Result ℕ TableError
+check_after count (Ok next) rest = rest next (count + 1)
+check_after count (Err e) rest = Err e
 
-unfoldable pub check_from : Layout → ℕ → List ℕ → ℕ → ℕ → TableAnswer
-check_from lay zero t i count = Accepted count
+unfoldable pub check_from : Layout → ℕ → List ℕ → ℕ → ℕ → Result ℕ TableError
+check_from lay zero t i count = Ok count
 check_from lay (suc f) t i count =
     cond (ltb i (length t))
-    (cond (eqb count most_entries) (Malformed i) (check_after i count (step_at lay t i) (check_from lay f t)))
-    (Accepted count)
+    (cond (eqb count most_entries) (Err (Malformed i)) (check_after count (step_at lay t i) (check_from lay f t)))
+    (Ok count)
 
-unfoldable pub check_in : Layout → List ℕ → TableAnswer
-check_in lay t = cond (ltb most_bytes (length t)) TooLong (check_from lay (suc (length t)) t 0 0)
+unfoldable pub check_in : Layout → List ℕ → Result ℕ TableError
+check_in lay t = cond (ltb most_bytes (length t)) (Err TooLong) (check_from lay (suc (length t)) t 0 0)
 
-abbrev pub check_table : List ℕ → TableAnswer
+abbrev pub check_table : List ℕ → Result ℕ TableError
 check_table = check_in New
 
 -- the places at which the items of a list begin, one after the other; the last is the end

@@ -6,26 +6,24 @@ ghost use Rattle.answer_table.specs.Numbers.{reported};
 ghost use Rattle.answer_table.specs.Answers.{TableAnswersIn, TableAnswers};
 ghost use Rattle.answer_table.specs.Lookup.{lookup, Finds};
 ghost use Rattle.answer_table.specs.Marks.{Covered, CoveredAfter};
-ghost use Rattle.answer_table.specs.Reader.{entries_of, find_in, find_at, is_found, found_items, step_at, check_in, check_table};
+ghost use Rattle.answer_table.specs.Reader.{entries_of, find_in, find_at, found_items, step_at, check_in, check_table};
 
-use entries::Header;
+use marks::Marks;
 
 pub mod entries;
 pub mod items;
 mod marks;
 
 // The layouts of a table: 01's, without lifetimes, and 02's, in which each entry has one.
-#[derive(Clone, Copy)]
+#[derive(Clone, Copy, PartialEq, Eq)]
 pub enum Layout {
     Old,
     New,
 }
 
-// What a check of a table answers.
-#[derive(Clone, Copy)]
-pub enum TableAnswer {
-    // Accepted, with the number of entries.
-    Accepted(usize),
+// Why a table is refused.
+#[derive(Clone, Copy, PartialEq, Eq)]
+pub enum TableError {
     // 24: over 65,535 bytes.
     TooLong,
     // 25: the place of an entry that is malformed, or the 513th.
@@ -34,24 +32,14 @@ pub enum TableAnswer {
     Repeated(usize),
 }
 
-// What looking up a kind and a name answers: the entry's status, its lifetime in seconds and where its items stand, or that there is no entry.
-#[derive(Clone, Copy)]
-pub enum Found {
-    Entry {
-        status: u8,
-        lifetime: u32,
-        start: usize,
-        end: usize,
-    },
-    Missing,
-}
-
-// What the check finds at a place: a whole entry of a new pair, with the place after it; none; or one whose pair stands before.
-#[derive(Clone, Copy)]
-pub enum Step {
-    Next(usize),
-    Malformed,
-    Repeated,
+// The entry of a kind and a name: its status, its lifetime in seconds and where its items stand. Kinds and statuses are numbers, as in the table, in the
+// DNS and for C.
+#[derive(Clone, Copy, PartialEq, Eq)]
+pub struct Found {
+    pub status: u8,
+    pub lifetime: u32,
+    pub start: usize,
+    pub end: usize,
 }
 
 // A longer table is refused with 24.
@@ -60,165 +48,121 @@ pub const MOST_BYTES: usize = 65535;
 // One entry more is refused with 25.
 pub const MOST_ENTRIES: usize = 512;
 
-// The bytes of a table that is searched for each pair; in a larger one pairs are marked.
+// In a table of more bytes pairs are marked; a smaller one is searched for each.
 const SMALL: usize = 512;
 
 // The entry of a kind and a name.
-pub fn find(table: &[u8], kind: u16, name: &[u8]) -> Found
+pub fn find(table: &[u8], kind: u16, name: &[u8]) -> Option<Found>
     ensures value { result ≡ find_at table.now kind name.now }
     ensures finds { Finds table.now (lookup kind name.now (entries_of table.now)) result }
 {
-    let head = entries::header_size(Layout::New);
+    find_in(Layout::New, table, kind, name)
+}
+
+// The entry of a kind and a name in a table of a layout. `find` is the hot path, for which the layout is known.
+#[inline]
+fn find_in(layout: Layout, table: &[u8], kind: u16, name: &[u8]) -> Option<Found>
+    ensures { result ≡ find_in layout table.now kind name.now }
+{
+    let head = entries::header_size(layout);
+    // By places and not `for`: a step is an entry's own size.
     let mut at = 0;
     while at < table.len() {
         let rest = &table[at..];
-        let Header::Whole {
-            kind: k,
-            status,
-            name: n,
-            size,
-        } = entries::read_header(Layout::New, rest)
-        else {
-            return Found::Missing;
-        };
-        let named = head + n as usize;
-        if entries::is_pair(k, &rest[head..named], kind, name) {
-            return Found::Entry {
-                status,
-                lifetime: entries::lifetime(Layout::New, rest),
+        let header = entries::read_header(layout, rest)?;
+        let named = head + header.name as usize;
+        if entries::is_pair(header.kind, &rest[head..named], kind, name) {
+            return Some(Found {
+                status: header.status,
+                lifetime: entries::lifetime(layout, rest),
                 start: at + named,
-                end: at + size,
-            };
+                end: at + header.size,
+            });
         }
-        at += size;
+        at += header.size;
     }
-    Found::Missing
+    None
 }
 
 // The items of the entry that was found, as a part of the table; nothing where none was found.
-pub fn found_items(table: &[u8], found: Found) -> &[u8]
+pub fn found_items(table: &[u8], found: Option<Found>) -> &[u8]
     ensures { result.now ≡ found_items table.now found }
 {
-    let Found::Entry {
-        status: _,
-        lifetime: _,
-        start,
-        end,
-    } = found
-    else {
-        return &table[..0];
-    };
-    if start <= end {
-        if end <= table.len() {
-            return &table[start..end];
-        }
-        return &table[..0];
+    match found {
+        Some(entry) => table.get(entry.start..entry.end).unwrap_or(&[]),
+        None => &[],
     }
-    &table[..0]
 }
 
-// Whether an entry of a kind and a name stands in a table of a layout.
-fn stands_in(layout: Layout, table: &[u8], kind: u16, name: &[u8]) -> bool
-    ensures { result ≡ is_found (find_in layout table.now kind name.now) }
-{
-    let head = entries::header_size(layout);
-    let mut at = 0;
-    while at < table.len() {
-        let rest = &table[at..];
-        let Header::Whole {
-            kind: k,
-            status: _,
-            name: n,
-            size,
-        } = entries::read_header(layout, rest)
-        else {
-            return false;
-        };
-        let named = head + n as usize;
-        if entries::is_pair(k, &rest[head..named], kind, name) {
-            return true;
-        }
-        at += size;
-    }
-    false
-}
-
-// The entry at a place in the check. The marks are of the entries before it, and then of it too.
-fn step_at(layout: Layout, table: &[u8], at: usize, marks: &mut [u64]) -> Step
+// The entry at a place in the check: the place after it, or why the table is refused. The marks are of the entries before it, and then of it too.
+fn step_at(
+    layout: Layout,
+    table: &[u8],
+    at: usize,
+    marks: &mut Option<Marks>,
+) -> Result<usize, TableError>
     requires { (at ≤ length table.now) × Covered layout table.now at marks.old }
     ensures value { result ≡ step_at layout table.now at }
     ensures covered_after { CoveredAfter layout table.now result marks.new }
 {
     let rest = &table[at..];
-    let Header::Whole {
-        kind,
-        status,
-        name: n,
-        size,
-    } = entries::read_header(layout, rest)
-    else {
-        return Step::Malformed;
+    let Some(header) = entries::read_header(layout, rest) else {
+        return Err(TableError::Malformed(at));
     };
     let head = entries::header_size(layout);
-    let named = head + n as usize;
+    let named = head + header.name as usize;
     let name = &rest[head..named];
-    if entries::is_entry(kind, status, name, &rest[named..size]) {
-        if marks::is_new(SMALL < table.len(), marks, kind, name) {
-            return Step::Next(at + size);
-        }
-        if stands_in(layout, &table[..at], kind, name) {
-            return Step::Repeated;
-        }
-        return Step::Next(at + size);
+    if !entries::is_entry(header.kind, header.status, name, &rest[named..header.size]) {
+        return Err(TableError::Malformed(at));
     }
-    Step::Malformed
+    if !marks::is_new(marks, header.kind, name)
+        && find_in(layout, &table[..at], header.kind, name).is_some()
+    {
+        return Err(TableError::Repeated(at));
+    }
+    Ok(at + header.size)
 }
 
-// The entries of a table, one after the other: the earlier of 25 and 26 with its place, or accepted. Marks are made in a table of over 512 bytes.
-fn check_entries(layout: Layout, table: &[u8], marks: &mut [u64]) -> TableAnswer
-    requires { (length table.now ≤ 65535) × (512 < length table.now → length marks.old ≡ 256) }
+// The entries of a table, one after the other: how many there are, or the earlier of 25 and 26 with its place.
+fn check_entries(
+    layout: Layout,
+    table: &[u8],
+    marks: &mut Option<Marks>,
+) -> Result<usize, TableError>
+    requires { (length table.now ≤ 65535) × Covered layout table.now 0 marks.old }
     ensures { result ≡ check_in layout table.now }
 {
+    // By places and not `for`: a step is an entry's own size.
     let mut at = 0;
     let mut count = 0;
     while at < table.len() {
         if count == MOST_ENTRIES {
-            return TableAnswer::Malformed(at);
+            return Err(TableError::Malformed(at));
         }
-        match step_at(layout, table, at, marks) {
-            Step::Next(next) => {
-                at = next;
-                count += 1;
-            }
-            Step::Malformed => {
-                return TableAnswer::Malformed(at);
-            }
-            Step::Repeated => {
-                return TableAnswer::Repeated(at);
-            }
-        }
+        at = step_at(layout, table, at, marks)?;
+        count += 1;
     }
-    TableAnswer::Accepted(count)
+    Ok(count)
 }
 
-// Checks a table of a layout: 24, then the earlier of 25 and 26 with its place, or accepted.
-pub fn check_table_in(layout: Layout, table: &[u8]) -> TableAnswer
+// Checks a table of a layout: the number of its entries; or 24, then the earlier of 25 and 26 with its place. The pairs of a table of over 512 bytes are marked.
+pub fn check_table_in(layout: Layout, table: &[u8]) -> Result<usize, TableError>
     ensures value { result ≡ check_in layout table.now }
     ensures table_answers_in { TableAnswersIn layout table.now (reported result) }
 {
     if MOST_BYTES < table.len() {
-        return TableAnswer::TooLong;
+        return Err(TableError::TooLong);
     }
-    if SMALL < table.len() {
-        let mut marks = [0u64; marks::WORDS];
-        return check_entries(layout, table, &mut marks);
-    }
-    let mut none = [0u64; 1];
-    check_entries(layout, table, &mut none)
+    let mut marks = if SMALL < table.len() {
+        Some(Marks::new())
+    } else {
+        None
+    };
+    check_entries(layout, table, &mut marks)
 }
 
 // Checks a table.
-pub fn check_table(table: &[u8]) -> TableAnswer
+pub fn check_table(table: &[u8]) -> Result<usize, TableError>
     ensures value { result ≡ check_table table.now }
     ensures table_answers { TableAnswers table.now (reported result) }
 {

@@ -10,21 +10,26 @@
 // stays; `touched` comes after an answer if the call changed a byte that it doesn't say it wrote. Any other line is printed as it is.
 #![tactic(auto)]
 
-use address::Address;
-use case_support::{Line, is_kept};
+use case_support::{is_kept, unhexed};
 use evaluation::explaining::{Explanation, explain};
-use evaluation::{Answer, evaluate};
+use evaluation::{Answer, Refusal, evaluate};
 use rules::Counts;
 use std::io;
 use text::bytes::part;
-use text::words;
+
+// The arguments that both calls have, but the client and the time.
+#[derive(Clone, Copy)]
+struct Arguments<'a> {
+    domain: &'a [u8],
+    sender: &'a [u8],
+    helo: &'a [u8],
+    receiver: &'a [u8],
+    table: &'a [u8],
+}
 
 // Whether two buffers are as they were before the call, each from a place on.
 fn are_kept(a: &[u8], a_end: usize, b: &[u8], b_end: usize) -> bool {
-    if is_kept(a, a_end) {
-        return is_kept(b, b_end);
-    }
-    false
+    is_kept(a, a_end) && is_kept(b, b_end)
 }
 
 // Prints a number after a space.
@@ -61,31 +66,47 @@ fn print_front(rt: &impl Print, out: &[u8], n: usize) -> io::Result<()> {
 // Prints the rest of an answer, and whether the buffers are kept.
 fn print_rest(rt: &impl Print, rest: &[u8], kept: bool) -> io::Result<()> {
     rt.write_all(rest)?;
-    if kept {
-        return case_support::print_line(rt, b"");
+    case_support::print_line(rt, if kept { b"" } else { b" touched" })
+}
+
+// Prints a refusal's number and its place; 0 without a place for a call that isn't made.
+fn print_refusal(rt: &impl Print, refusal: Option<Refusal>) -> io::Result<()> {
+    let Some(refusal) = refusal else {
+        return print_number(rt, 0);
+    };
+    match refusal.place() {
+        Some(at) => print_placed(rt, refusal.number(), at),
+        None => print_number(rt, refusal.number()),
     }
-    case_support::print_line(rt, b" touched")
 }
 
 // Prints what the first call answered.
-fn print_answer(rt: &impl Print, answer: Answer, name: &[u8]) -> io::Result<()> {
+fn print_answer(
+    rt: &impl Print,
+    answer: Result<Answer, Option<Refusal>>,
+    name: &[u8],
+) -> io::Result<()> {
     match answer {
-        Answer::Decided {
-            value,
-            counts,
-            lifetime,
-        } => {
+        Ok(
+            Answer::Decided {
+                value,
+                counts,
+                lifetime,
+            },
+        ) => {
             print_number(rt, value)?;
             print_counts(rt, counts, lifetime)?;
             print_rest(rt, b" . 0 0", is_kept(name, 0))
         }
-        Answer::Fail {
-            counts,
-            lifetime,
-            domain: n,
-            place,
-            length,
-        } => {
+        Ok(
+            Answer::Fail {
+                counts,
+                lifetime,
+                domain: n,
+                place,
+                length,
+            },
+        ) => {
             print_number(rt, 3)?;
             print_counts(rt, counts, lifetime)?;
             print_front(rt, name, n)?;
@@ -93,23 +114,20 @@ fn print_answer(rt: &impl Print, answer: Answer, name: &[u8]) -> io::Result<()> 
             print_next(rt, length)?;
             print_rest(rt, b"", is_kept(name, n))
         }
-        Answer::Wanting {
-            kind,
-            length: n,
-            counts,
-            lifetime,
-        } => {
-            print_placed(rt, 7, kind as usize)?;
+        Ok(
+            Answer::Wanting {
+                question,
+                counts,
+                lifetime,
+            },
+        ) => {
+            print_placed(rt, 7, question.kind as usize)?;
             print_counts(rt, counts, lifetime)?;
-            print_front(rt, name, n)?;
-            print_rest(rt, b" 0 0", is_kept(name, n))
+            print_front(rt, name, question.length)?;
+            print_rest(rt, b" 0 0", is_kept(name, question.length))
         }
-        Answer::Refused(number) => {
-            print_number(rt, number)?;
-            print_rest(rt, b" 0 0 0 . 0 0", is_kept(name, 0))
-        }
-        Answer::RefusedAt { number, at } => {
-            print_placed(rt, number, at)?;
+        Err(refusal) => {
+            print_refusal(rt, refusal)?;
             print_rest(rt, b" 0 0 0 . 0 0", is_kept(name, 0))
         }
     }
@@ -118,27 +136,23 @@ fn print_answer(rt: &impl Print, answer: Answer, name: &[u8]) -> io::Result<()> 
 // Prints what the second call answered.
 fn print_explanation(
     rt: &impl Print,
-    answer: Explanation,
+    answer: Result<Explanation, Option<Refusal>>,
     name: &[u8],
     text: &[u8],
 ) -> io::Result<()> {
     match answer {
-        Explanation::Text(n) => {
+        Ok(Explanation::Text(n)) => {
             print_number(rt, 3)?;
             print_front(rt, text, n)?;
             print_rest(rt, b"", are_kept(name, 0, text, n))
         }
-        Explanation::Wanting { kind, length: n } => {
-            print_placed(rt, 7, kind as usize)?;
-            print_front(rt, name, n)?;
-            print_rest(rt, b"", are_kept(name, n, text, 0))
+        Ok(Explanation::Wanting(question)) => {
+            print_placed(rt, 7, question.kind as usize)?;
+            print_front(rt, name, question.length)?;
+            print_rest(rt, b"", are_kept(name, question.length, text, 0))
         }
-        Explanation::Refused(number) => {
-            print_number(rt, number)?;
-            print_rest(rt, b" .", are_kept(name, 0, text, 0))
-        }
-        Explanation::RefusedAt { number, at } => {
-            print_placed(rt, number, at)?;
+        Err(refusal) => {
+            print_refusal(rt, refusal)?;
             print_rest(rt, b" .", are_kept(name, 0, text, 0))
         }
     }
@@ -147,98 +161,65 @@ fn print_explanation(
 // The first call, which is lent the front of a buffer.
 fn evaluate_front(
     line: &[u8],
-    domain: &[u8],
-    sender: &[u8],
-    helo: &[u8],
-    receiver: &[u8],
-    table: &[u8],
+    given: Arguments,
     name: &mut [u8],
-) -> Answer {
+) -> Result<Answer, Option<Refusal>> {
     let room = case_support::number_of(case_support::word(line, 1)) as usize;
-    let client = case_support::address_of(case_support::word(line, 2));
-    let seconds = case_support::number_of(case_support::word(line, 7));
-    if room <= name.len() {
-        return evaluate(
-            client,
-            domain,
-            sender,
-            helo,
-            receiver,
-            seconds,
-            table,
-            &mut name[..room],
-        );
+    if name.len() < room {
+        return Err(None);
     }
-    Answer::Refused(0)
+    evaluate(
+        case_support::address_of(case_support::word(line, 2)),
+        given.domain,
+        given.sender,
+        given.helo,
+        given.receiver,
+        case_support::number_of(case_support::word(line, 7)),
+        given.table,
+        &mut name[..room],
+    )
+    .map_err(Some)
 }
 
 // The second call on the fronts of two buffers of these lengths.
 fn explain_front(
     line: &[u8],
-    client: Address,
-    domain: &[u8],
-    sender: &[u8],
-    helo: &[u8],
-    receiver: &[u8],
-    table: &[u8],
+    given: Arguments,
     name: &mut [u8],
     text: &mut [u8],
-) -> Explanation {
+) -> Result<Explanation, Option<Refusal>> {
     let name_room = case_support::number_of(case_support::word(line, 1)) as usize;
     let text_room = case_support::number_of(case_support::word(line, 2)) as usize;
-    let place = case_support::number_of(case_support::word(line, 3)) as usize;
-    let length = case_support::number_of(case_support::word(line, 4)) as usize;
-    let seconds = case_support::number_of(case_support::word(line, 10));
-    if name_room <= name.len() {
-        if text_room <= text.len() {
-            return explain(
-                client,
-                domain,
-                sender,
-                helo,
-                receiver,
-                seconds,
-                table,
-                place,
-                length,
-                &mut name[..name_room],
-                &mut text[..text_room],
-            );
-        }
-        return Explanation::Refused(0);
+    if name.len() < name_room || text.len() < text_room {
+        return Err(None);
     }
-    Explanation::Refused(0)
+    explain(
+        case_support::address_of(case_support::word(line, 5)),
+        given.domain,
+        given.sender,
+        given.helo,
+        given.receiver,
+        case_support::number_of(case_support::word(line, 10)),
+        given.table,
+        case_support::number_of(case_support::word(line, 3)) as usize,
+        case_support::number_of(case_support::word(line, 4)) as usize,
+        &mut name[..name_room],
+        &mut text[..text_room],
+    )
+    .map_err(Some)
 }
 
 // The call that a line names, once the arguments are read.
-fn run_call(
-    rt: &impl Print,
-    line: &[u8],
-    domain: &[u8],
-    sender: &[u8],
-    helo: &[u8],
-    receiver: &[u8],
-    table: &[u8],
-) -> io::Result<()> {
+fn run_call(rt: &impl Print, line: &[u8], given: Arguments) -> io::Result<()> {
     let mut name = [0u8; 512];
     case_support::fill(&mut name);
-    if words::equal(case_support::word(line, 0), b"first") {
-        let answer = evaluate_front(line, domain, sender, helo, receiver, table, &mut name);
+    if case_support::word(line, 0) == b"first".as_slice() {
+        let answer = evaluate_front(line, given, &mut name);
         return print_answer(rt, answer, &name);
     }
     let mut text = [0u8; 1024];
     case_support::fill(&mut text);
-    let explanation = explain_front(
-        line,
-        case_support::address_of(case_support::word(line, 5)),
-        domain,
-        sender,
-        helo,
-        receiver,
-        table,
-        &mut name,
-        &mut text,
-    );
+    let explanation = explain_front(line, given, &mut name, &mut text);
     print_explanation(rt, explanation, &name, &text)
 }
 
@@ -249,44 +230,34 @@ fn run_arguments(rt: &impl Print, line: &[u8], at: u8) -> io::Result<()> {
     let mut helo = [0u8; 1024];
     let mut receiver = [0u8; 1024];
     let mut table = [0u8; 65536];
-    let d = case_support::unhex(case_support::word(line, at as usize), &mut domain);
-    let s = case_support::unhex(case_support::word(line, at as usize + 1), &mut sender);
-    let h = case_support::unhex(case_support::word(line, at as usize + 2), &mut helo);
-    let r = case_support::unhex(case_support::word(line, at as usize + 3), &mut receiver);
-    let t = case_support::unhex(case_support::word(line, at as usize + 5), &mut table);
-    run_call(
-        rt,
-        line,
-        part(&domain, 0, d),
-        part(&sender, 0, s),
-        part(&helo, 0, h),
-        part(&receiver, 0, r),
-        part(&table, 0, t),
-    )
+    let at = at as usize;
+    let given = Arguments {
+        domain: unhexed(case_support::word(line, at), &mut domain),
+        sender: unhexed(case_support::word(line, at + 1), &mut sender),
+        helo: unhexed(case_support::word(line, at + 2), &mut helo),
+        receiver: unhexed(case_support::word(line, at + 3), &mut receiver),
+        table: unhexed(case_support::word(line, at + 5), &mut table),
+    };
+    run_call(rt, line, given)
 }
 
 fn run_line(rt: &impl Print, line: &[u8]) -> io::Result<()> {
-    let kind = case_support::word(line, 0);
-    if words::equal(kind, b"first") {
-        return run_arguments(rt, line, 3);
+    match case_support::word(line, 0) {
+        b"first" => run_arguments(rt, line, 3),
+        b"second" => run_arguments(rt, line, 6),
+        _ => case_support::print_line(rt, line),
     }
-    if words::equal(kind, b"second") {
-        return run_arguments(rt, line, 6);
-    }
-    case_support::print_line(rt, line)
 }
 
 // At most as many lines as the budget says.
 fn main(rt: HostRuntime) -> io::Result<()> {
     let mut input = rt.reader();
     let mut line = [0u8; 140000];
-    let mut budget: usize = 1000000;
-    while 0 < budget {
-        let Line::Of(n) = case_support::read_line(&mut input, &mut line)? else {
-            return Ok(());
+    for _ in 0..1000000 {
+        let Some(n) = case_support::read_line(&mut input, &mut line)? else {
+            break;
         };
         run_line(&rt, part(&line, 0, n))?;
-        budget -= 1;
     }
     Ok(())
 }

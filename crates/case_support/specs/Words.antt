@@ -1,14 +1,10 @@
 -- What the words of a case write: bytes in hex, numbers in decimal, addresses by their octets.
-use Rattle.std.specs.Prelude.{ℕ, ◌+◌, ◌-◌, ◌*◌, List, [], ◌∷◌, cond, take}
+use Rattle.std.specs.Prelude.{ℕ, ◌+◌, ◌-◌, ◌*◌, List, [], ◌∷◌, cond, take, None, Option, Some}
 use Rattle.text.specs.Bytes.{within, is_digit}
 use Rattle.text.specs.Decimal.{read_decimal}
-use Rattle.text.specs.declared.decimal.Number.{Number}
-use Rattle.text.specs.declared.decimal.Number.TheVariants.{Value, Refused}
 use Rattle.address.specs.Octets.{from_octets}
 use Rattle.address.specs.declared.Address.{Address}
 use Rattle.address.specs.declared.Address.TheVariants.{IPv4}
-use Rattle.address.specs.declared.FromOctets.{FromOctets}
-use Rattle.address.specs.declared.FromOctets.TheVariants.{Is, NoAddress}
 
 -- the value of a digit 0 to 9 or a to f; any other byte counts as 0
 unfoldable pub hex_value : ℕ → ℕ
@@ -25,18 +21,18 @@ hex_bytes (high ∷ []) = []
 hex_bytes (high ∷ low ∷ s) = hex_byte high low ∷ hex_bytes s
 
 -- a number that was read, 0 where there is none
-abbrev pub or_zero : Number → ℕ
-or_zero (Value v) = v
-or_zero Refused = 0
+abbrev pub or_zero : Option ℕ → ℕ
+or_zero (Some v) = v
+or_zero None = 0
 
 -- the number below 2 ^ 64 that a word writes in decimal, or 0
 unfoldable pub number_of : List ℕ → ℕ
 number_of word = or_zero (read_decimal 18446744073709551615 word)
 
 -- an address that was read, 0.0.0.0 where there is none
-abbrev pub or_unspecified : FromOctets → Address
-or_unspecified (Is a) = a
-or_unspecified NoAddress = IPv4 0
+abbrev pub or_unspecified : Option Address → Address
+or_unspecified (Some a) = a
+or_unspecified None = IPv4 0
 
 -- the address whose octets a word writes in hex, of which no more than 16 are read, or 0.0.0.0
 unfoldable pub address_of : List ℕ → Address

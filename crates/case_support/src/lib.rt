@@ -1,49 +1,35 @@
 // What the programs that run cases share: lines of the input, their words, what the words write, answers printed, and which bytes a call kept.
 #![tactic(auto)]
 
-ghost use Rattle.std.specs.Prelude.{◌<◌, min, ◌≡◌, IfOk, OnErr, length};
+ghost use Rattle.std.specs.Prelude.{◌<◌, min, ◌≡◌, IfOk, OnErr, length, take};
 ghost use Rattle.text.specs.Writing.{overwritten};
 ghost use Rattle.text.specs.Fields.{field};
 ghost use Rattle.case_support.specs.Lines.{LineRead};
 ghost use Rattle.case_support.specs.Words.{hex_value, hex_byte, hex_bytes, number_of, address_of};
 
-use address::{Address, FromOctets};
+use address::Address;
 use std::io;
 use std::io::Read;
-use text::decimal::Number;
-use text::{bytes, decimal, writing};
-
-// A line that was read, with its length, or the end of the input.
-#[derive(Clone, Copy)]
-pub enum Line {
-    Of(usize),
-    End,
-}
+use text::decimal;
 
 // Reads a line of an input into a lent buffer, without its newline. A line that is longer than the buffer is cut there, and the rest is read
 // as a line of its own. A failed read is the error, and leaves the buffer its length.
-pub fn read_line(input: &mut impl Read, line: &mut [u8]) -> io::Result<Line>
+pub fn read_line(input: &mut impl Read, line: &mut [u8]) -> io::Result<Option<usize>>
     ensures read { IfOk result (λ r. LineRead r line.old line.new) }
     ensures err { OnErr result (length line.new ≡ length line.old) }
 {
     let mut byte = [0u8; 1];
-    let mut i = 0;
-    while i < line.len() {
+    for i in 0..line.len() {
         let got = input.read(&mut byte)?;
         if got == 0 {
-            if i == 0 {
-                return Ok(Line::End);
-            }
-            return Ok(Line::Of(i));
+            return Ok(if i == 0 { None } else { Some(i) });
         }
-        let b = byte[0];
-        if b == 10 {
-            return Ok(Line::Of(i));
+        if byte[0] == b'\n' {
+            return Ok(Some(i));
         }
-        line[i] = b;
-        i += 1;
+        line[i] = byte[0];
     }
-    Ok(Line::Of(i))
+    Ok(Some(line.len()))
 }
 
 // The k-th word of a line, counted from 0; words are parted by one space.
@@ -54,17 +40,16 @@ pub fn word(line: &[u8], k: usize) -> &[u8]
 }
 
 // The value of a hex digit, and 0 for any other byte.
+#[tactic(auto, using(std::proofs::lemmas::Bool::Decides::nat_tests), unfolding(crate::specs::Words::hex_value, text::specs::Bytes::is_digit, text::specs::Bytes::within))]
 fn hex_value(b: u8) -> u8
     ensures value { result ≡ hex_value b }
     ensures upper_bound { result < 16 }
 {
-    if bytes::is_within(b, 48, 57) {
-        return b - 48;
+    match b {
+        b'0'..=b'9' => b - b'0',
+        b'a'..=b'f' => b - b'a' + 10,
+        _ => 0,
     }
-    if bytes::is_within(b, 97, 102) {
-        return b - 87;
-    }
-    0
 }
 
 // The byte that two hex digits write.
@@ -79,42 +64,38 @@ pub fn unhex(text: &[u8], out: &mut [u8]) -> usize
     ensures value { result ≡ min (length (hex_bytes text.now)) (length out.old) }
     ensures out_after { out.new ≡ overwritten (hex_bytes text.now) out.old }
 {
-    let n = text.len() / 2;
-    let mut i = 0;
-    while i < n {
-        i = writing::put(out, i, hex_byte(text[2 * i], text[2 * i + 1]));
+    let n = out.len().min(text.len() / 2);
+    for i in 0..n {
+        out[i] = hex_byte(text[2 * i], text[2 * i + 1]);
     }
-    if n <= out.len() {
-        return n;
-    }
-    out.len()
+    n
+}
+
+// The same, but answers the bytes.
+pub fn unhexed<'a>(text: &[u8], out: &'a mut [u8]) -> &'a [u8]
+    ensures { result.now ≡ take (length out.old) (hex_bytes text.now) }
+{
+    let n = unhex(text, out);
+    &out[..n]
 }
 
 // The number that a word writes, or 0.
 pub fn number_of(word: &[u8]) -> u64
     ensures { result ≡ number_of word.now }
 {
-    let Number::Value(v) = decimal::read_decimal(word, 18446744073709551615) else {
-        return 0;
-    };
-    v
+    decimal::read_decimal(word, u64::MAX).unwrap_or(0)
 }
 
 // The address whose octets a word writes, or 0.0.0.0.
 pub fn address_of(word: &[u8]) -> Address
     ensures { result ≡ address_of word.now }
 {
-    let mut octets = [0u8; 16];
-    let n = unhex(word, &mut octets);
-    let FromOctets::Is(a) = address::from_octets(bytes::part(&octets, 0, n)) else {
-        return Address::IPv4(0);
-    };
-    a
+    address::from_octets(unhexed(word, &mut [0; 16])).unwrap_or(Address::IPv4(0))
 }
 
 // Prints bytes in hex, `-` for none.
 pub fn print_bytes(rt: &impl Print, s: &[u8]) -> io::Result<()> {
-    if s.len() == 0 {
+    if s.is_empty() {
         return rt.write_all(b"-");
     }
     for b in s {
@@ -137,10 +118,7 @@ pub fn print_number_line(rt: &impl Print, n: usize) -> io::Result<()> {
 
 // Prints a test's answer.
 pub fn print_test(rt: &impl Print, yes: bool) -> io::Result<()> {
-    if yes {
-        return print_line(rt, b"1");
-    }
-    print_line(rt, b"0")
+    print_line(rt, if yes { b"1" } else { b"0" })
 }
 
 // Prints an address's octets and the line's end.
@@ -159,21 +137,12 @@ fn pattern(i: usize) -> u8 {
 
 // Fills a buffer before a call.
 pub fn fill(out: &mut [u8]) {
-    let mut i = 0;
-    while i < out.len() {
-        out[i] = pattern(i);
-        i += 1;
+    for (i, b) in out.iter_mut().enumerate() {
+        *b = pattern(i);
     }
 }
 
 // Whether a buffer is as it was filled from a place on.
 pub fn is_kept(out: &[u8], from: usize) -> bool {
-    let mut i = from;
-    while i < out.len() {
-        if out[i] != pattern(i) {
-            return false;
-        }
-        i += 1;
-    }
-    true
+    (from..out.len()).all(|i| out[i] == pattern(i))
 }

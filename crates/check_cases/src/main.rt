@@ -5,7 +5,6 @@
 ghost use Rattle.std.specs.Prelude.{◌≤◌, length};
 ghost use Rattle.check_input.specs.Keeping.{most_kept, held_room};
 
-use case_support::Line;
 use check_input::keeping::hold;
 use std::io;
 use std::io::Read;
@@ -35,9 +34,8 @@ fn run_line(rt: &impl Print, input: &mut impl Read, held: &mut [u8]) -> io::Resu
 {
     let mut piece = [0u8; 4096];
     let mut at: usize = 0;
-    let mut budget: usize = 1000;
-    while 0 < budget {
-        let Line::Of(n) = case_support::read_line(input, &mut piece)? else {
+    for _ in 0..1000 {
+        let Some(n) = case_support::read_line(input, &mut piece)? else {
             return Ok(false);
         };
         at = hold_piece(part(&piece, 0, n), held, at);
@@ -45,7 +43,6 @@ fn run_line(rt: &impl Print, input: &mut impl Read, held: &mut [u8]) -> io::Resu
             run_input(rt, part(held, 0, at))?;
             return Ok(true);
         }
-        budget -= 1;
     }
     Ok(true)
 }
@@ -54,12 +51,9 @@ fn run_line(rt: &impl Print, input: &mut impl Read, held: &mut [u8]) -> io::Resu
 fn main(rt: HostRuntime) -> io::Result<()> {
     let mut input = rt.reader();
     let mut held = [0u8; 132234];
-    let mut budget: usize = 1000000;
-    while 0 < budget {
-        if run_line(&rt, &mut input, &mut held)? {
-            budget -= 1;
-        } else {
-            return Ok(());
+    for _ in 0..1000000 {
+        if !run_line(&rt, &mut input, &mut held)? {
+            break;
         }
     }
     Ok(())

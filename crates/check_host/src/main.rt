@@ -12,23 +12,21 @@ use std::io;
 use std::io::Read;
 use text::bytes::part;
 
-// Reads all of standard input, chunk by chunk, and holds what the answer depends on; answers how much that is. No input has as many chunks as the budget
-// says. A failed read is the error, and leaves the buffer its length.
+// Reads all of standard input, chunk by chunk, and holds what the answer depends on; answers how much that is. No input has as many chunks as the loop
+// has turns. A failed read is the error, and leaves the buffer its length.
 fn read_input(input: &mut impl Read, held: &mut [u8]) -> io::Result<usize>
     requires { held_room ≤ length held.old }
     ensures read { IfOk result (λ n. HoldsChunks held.new n) }
     ensures err { OnErr result (length held.new ≡ length held.old) }
 {
     let mut chunk = [0u8; 65536];
-    let mut n: usize = 0;
-    let mut budget: usize = 18446744073709551615;
-    while 0 < budget {
+    let mut n = 0;
+    for _ in 0..usize::MAX {
         let got = read_full(input, &mut chunk)?;
         if got == 0 {
             return Ok(n);
         }
         n = hold(held, n, &chunk, got);
-        budget -= 1;
     }
     Ok(n)
 }

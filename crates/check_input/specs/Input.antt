@@ -1,13 +1,9 @@
 -- What an input of the check program means: "The other program reads client (written as for ip4 or ip6), domain, sender, HELO, receiver and t, a line
 -- each, then the table."
-use Rattle.std.specs.Prelude.{ℕ, List}
+use Rattle.std.specs.Prelude.{ℕ, List, None, Option, Some}
 use Rattle.text.specs.Decimal.{read_decimal}
-use Rattle.text.specs.declared.decimal.Number.{Number}
-use Rattle.text.specs.declared.decimal.Number.TheVariants.{Value, Refused}
 use Rattle.address.specs.declared.Address.{Address}
 use Rattle.networks.specs.Reader6.{read_address}
-use Rattle.networks.specs.declared.Network.{Network}
-use Rattle.networks.specs.declared.Network.TheVariants.{Is, NoNetwork}
 use Rattle.evaluation.specs.Numbers.{Outcome}
 use Rattle.evaluation.specs.Evaluating.{evaluated}
 use Rattle.text.specs.Fields.{after_fields, field}
@@ -18,10 +14,10 @@ pub data InputOutcome : Type 0 where
   evaluates : Outcome → InputOutcome
 
 -- "An unreadable client or t wins over 20 to 26."
-unfoldable pub on_client_and_time : Network → Number → (Address → ℕ → Outcome) → InputOutcome
-on_client_and_time NoNetwork t f = unreadable
-on_client_and_time (Is client) Refused f = unreadable
-on_client_and_time (Is client) (Value t) f = evaluates (f client t)
+unfoldable pub on_client_and_time : Option Address → Option ℕ → (Address → ℕ → Outcome) → InputOutcome
+on_client_and_time None t f = unreadable
+on_client_and_time (Some client) None f = unreadable
+on_client_and_time (Some client) (Some t) f = evaluates (f client t)
 
 -- "client (written as for ip4 or ip6)"; t is a number in decimal below 2 ^ 64
 unfoldable pub checked_lines : (client domain sender helo receiver seconds table name text : List ℕ) → InputOutcome

@@ -2,7 +2,8 @@
 -- on a second; an unreadable client or t prints `input`." W-209 amends the house rules: it prints the lifetime "after the counts". "Every printed line, the last too, ends in a newline".
 use Rattle.std.specs.Prelude.{ℕ, ◌≡◌, List, [], ◌++◌, length, replicate}
 use Rattle.text.specs.Texts.{bytes}
-use Rattle.text.specs.Writing.{Wrote, overwritten}
+use Rattle.text.specs.Writing.{Writes, overwritten}
+use Rattle.text.specs.declared.writing.Writer.{Writer}
 use Rattle.address_text.specs.Digits.{in_decimal}
 use Rattle.records.specs.Readings.{Optional, absent, present}
 use Rattle.rules.specs.declared.Counts.{Counts}
@@ -59,7 +60,7 @@ pub record Stands (xs before after : List ℕ) (n : ℕ) : Type 0 where
   pub buffer : after ≡ overwritten xs before
 
 -- what is written after a fail: what the second call hands back, with the counts and the lifetime of the first
-pub record WritesAfterFail (a : Lent) (c : Counts) (life : ℕ) (before after : List ℕ) (n : ℕ) : Type 0 where
+pub record WritesAfterFail (a : Lent) (c : Counts) (life : ℕ) (before after : Writer) : Type 0 where
   pub second : Handed
   pub explains : Explains a second
-  pub wrote : Wrote (given_lines (after_fail c life second second.answer)) before 0 after n
+  pub writes : Writes (given_lines (after_fail c life second second.answer)) before after

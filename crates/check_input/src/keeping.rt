@@ -1,83 +1,78 @@
 // What of an input is held while it is read: of each line and of the table one byte more than its limit.
 ghost use Rattle.std.specs.Prelude.{◌≤◌, ◌≡◌, ◌++◌, length, take};
 ghost use Rattle.text.specs.Bytes.{part};
-ghost use Rattle.text.specs.Writing.{Wrote};
+ghost use Rattle.text.specs.Writing.{Writes};
 ghost use Rattle.text.specs.Fields.{first_field};
 ghost use Rattle.check_input.specs.Keeping.{line_end, without_zeros, time_front, kept_by, time_fronts, host_fronts, kept, Held, most_kept, most_chunk, held_room};
 
-use text::bytes::part;
+use text::bytes::{part, run_end_by};
 use text::fields::{after_fields, field};
-use text::writing;
+use text::writing::Writer;
 
 // A number without the zeros that lead it; its last byte stays.
 fn without_zeros(s: &[u8]) -> &[u8]
     ensures { result.now ≡ without_zeros s.now }
 {
-    let mut i = 0;
-    while i < s.len() {
-        if s.len() - i == 1 {
-            return &s[i..];
-        }
-        if s[i] == 48 {
-            i += 1;
-        } else {
-            return &s[i..];
-        }
-    }
-    &s[i..]
+    let zeros = run_end_by(s, 0, |b| b == b'0');
+    &s[zeros.min(s.len().saturating_sub(1))..]
 }
 
 // A front of the first line, and the line's end if it has one.
-fn put_front(front: &[u8], input: &[u8], out: &mut [u8], at: usize) -> usize
-    ensures { Wrote (front.now ++ line_end input.now) out.old at out.new result }
+fn put_front(front: &[u8], input: &[u8], out: &mut Writer)
+    ensures { Writes (front.now ++ line_end input.now) out.old out.new }
 {
-    let next = writing::put_all(front, out, at);
-    if field(input, 10, 0).len() < input.len() {
-        return writing::put(out, next, 10);
+    out.put_all(front);
+    if field(input, b'\n', 0).len() < input.len() {
+        out.put(b'\n');
     }
-    next
 }
 
 // As much of the first line as a limit allows.
-fn keep_line(input: &[u8], limit: usize, out: &mut [u8], at: usize) -> usize
-    ensures { Wrote (take limit (first_field 10 input.now) ++ line_end input.now) out.old at out.new result }
+fn keep_line(input: &[u8], limit: usize, out: &mut Writer)
+    ensures { Writes (take limit (first_field 10 input.now) ++ line_end input.now) out.old out.new }
 {
-    put_front(part(field(input, 10, 0), 0, limit), input, out, at)
+    put_front(part(field(input, b'\n', 0), 0, limit), input, out)
 }
 
 // The line of t.
-fn keep_time(input: &[u8], out: &mut [u8], at: usize) -> usize
-    ensures { Wrote (time_front (first_field 10 input.now) ++ line_end input.now) out.old at out.new result }
+fn keep_time(input: &[u8], out: &mut Writer)
+    ensures { Writes (time_front (first_field 10 input.now) ++ line_end input.now) out.old out.new }
 {
-    let digits = without_zeros(field(input, 10, 0));
-    put_front(part(digits, 0, 21), input, out, at)
+    put_front(
+        part(without_zeros(field(input, b'\n', 0)), 0, 21),
+        input,
+        out,
+    )
 }
 
 // The line of t and the table.
-fn keep_from_time(input: &[u8], out: &mut [u8], at: usize) -> usize
-    ensures { Wrote (kept_by time_fronts input.now) out.old at out.new result }
+fn keep_from_time(input: &[u8], out: &mut Writer)
+    ensures { Writes (kept_by time_fronts input.now) out.old out.new }
 {
-    let table = keep_time(input, out, at);
-    writing::put_all(part(after_fields(input, 10, 1), 0, 65536), out, table)
+    keep_time(input, out);
+    out.put_all(part(after_fields(input, b'\n', 1), 0, 65536))
 }
 
 // The lines of HELO and receiver, and what follows.
-fn keep_from_helo(input: &[u8], out: &mut [u8], at: usize) -> usize
-    ensures { Wrote (kept_by host_fronts input.now) out.old at out.new result }
+fn keep_from_helo(input: &[u8], out: &mut Writer)
+    ensures { Writes (kept_by host_fronts input.now) out.old out.new }
 {
-    let receiver = keep_line(input, 256, out, at);
-    let seconds = keep_line(after_fields(input, 10, 1), 256, out, receiver);
-    keep_from_time(after_fields(input, 10, 2), out, seconds)
+    let receiver = after_fields(input, b'\n', 1);
+    keep_line(input, 256, out);
+    keep_line(receiver, 256, out);
+    keep_from_time(after_fields(input, b'\n', 2), out)
 }
 
 // The lines of client, domain and sender, and what follows.
-fn keep(input: &[u8], out: &mut [u8]) -> usize
-    ensures { Wrote (kept input.now) out.old 0 out.new result }
+fn keep(input: &[u8], out: &mut Writer)
+    ensures { Writes (kept input.now) out.old out.new }
 {
-    let domain = keep_line(input, 46, out, 0);
-    let sender = keep_line(after_fields(input, 10, 1), 256, out, domain);
-    let helo = keep_line(after_fields(input, 10, 2), 321, out, sender);
-    keep_from_helo(after_fields(input, 10, 3), out, helo)
+    let domain = after_fields(input, b'\n', 1);
+    let sender = after_fields(input, b'\n', 2);
+    keep_line(input, 46, out);
+    keep_line(domain, 256, out);
+    keep_line(sender, 321, out);
+    keep_from_helo(after_fields(input, b'\n', 3), out)
 }
 
 // Room for what is kept.
@@ -95,7 +90,13 @@ pub fn hold(held: &mut [u8], n: usize, chunk: &[u8], size: usize) -> usize
     ensures { Held held.old n (part chunk.now 0 size) held.new result }
 {
     let mut space = room();
-    let end = writing::put_all(part(chunk, 0, size), held, n);
-    let kept = keep(part(held, 0, end), &mut space);
-    writing::put_all(part(&space, 0, kept), held, 0)
+    let mut more = Writer { out: held, at: n };
+    more.put_all(part(chunk, 0, size));
+    let end = more.at;
+    let mut kept = Writer::new(&mut space);
+    keep(part(held, 0, end), &mut kept);
+    let left = kept.at;
+    let mut front = Writer::new(held);
+    front.put_all(part(&space, 0, left));
+    front.at
 }

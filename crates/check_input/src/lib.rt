@@ -2,7 +2,7 @@
 #![tactic(auto)]
 
 ghost use Rattle.std.specs.Prelude.{◌≤◌, length, replicate};
-ghost use Rattle.text.specs.Writing.{Wrote};
+ghost use Rattle.text.specs.Writing.{Writes};
 ghost use Rattle.evaluation.specs.Evaluating.{evaluated};
 ghost use Rattle.evaluation.specs.Second.{lent};
 ghost use Rattle.evaluation.specs.Together.{one_gave};
@@ -13,13 +13,12 @@ use address::Address;
 use domain::MOST_NAME;
 use evaluation::explaining::Explanation;
 use evaluation::{Answer, evaluate, explaining};
-use lines::{put_line, put_named, put_number, put_placed};
-use networks::Network;
+use lines::{put_line, put_named, put_number, put_refusal};
 use rules::Counts;
 use text::bytes::part;
 use text::decimal;
-use text::decimal::Number;
 use text::fields::{after_fields, field};
+use text::writing::Writer;
 
 pub mod keeping;
 pub mod lines;
@@ -38,28 +37,27 @@ fn answer_fail(
     size: usize,
     counts: Counts,
     lifetime: u32,
-    out: &mut [u8],
-) -> usize
-    ensures { WritesAfterFail (lent client domain.now sender.now helo.now receiver.now seconds table.now place size (replicate 253 0) (replicate 500 0)) counts lifetime out.old out.new result }
+    out: &mut Writer,
+)
+    ensures { WritesAfterFail (lent client domain.now sender.now helo.now receiver.now seconds table.now place size (replicate 253 0) (replicate 500 0)) counts lifetime out.old out.new }
 {
-    let none = Counts {
-        lookups: 0,
-        voids: 0,
-    };
     let mut name = [0u8; MOST_NAME];
     let mut text = [0u8; 500];
-    match explaining::explain(
+    let explained = match explaining::explain(
         client, domain, sender, helo, receiver, seconds, table, place, size, &mut name, &mut text,
     ) {
+        Ok(explained) => explained,
+        Err(refusal) => return put_refusal(refusal, out),
+    };
+    match explained {
         Explanation::Text(n) => {
-            let next = put_number(3, counts, lifetime, out, 0);
-            put_line(part(&text, 0, n), out, next)
+            put_number(3, counts, lifetime, out);
+            put_line(part(&text, 0, n), out);
         }
-        Explanation::Wanting { kind, length: n } => {
-            put_named(kind, counts, lifetime, part(&name, 0, n), out, 0)
+        Explanation::Wanting(question) => {
+            let asked = part(&name, 0, question.length);
+            put_named(question.kind, counts, lifetime, asked, out);
         }
-        Explanation::Refused(number) => put_number(number, none, 0, out, 0),
-        Explanation::RefusedAt { number, at } => put_placed(number, at as u64, none, 0, out, 0),
     }
 }
 
@@ -72,23 +70,23 @@ fn answer_calls(
     receiver: &[u8],
     seconds: u64,
     table: &[u8],
-    out: &mut [u8],
-) -> usize
-    ensures { Wrote (given_lines (one_gave (evaluated client domain.now sender.now helo.now receiver.now seconds table.now (replicate 253 0) (replicate 500 0)))) out.old 0 out.new result }
+    out: &mut Writer,
+)
+    ensures { Writes (given_lines (one_gave (evaluated client domain.now sender.now helo.now receiver.now seconds table.now (replicate 253 0) (replicate 500 0)))) out.old out.new }
 {
-    let none = Counts {
-        lookups: 0,
-        voids: 0,
-    };
     let mut name = [0u8; MOST_NAME];
-    match evaluate(
+    let answer = match evaluate(
         client, domain, sender, helo, receiver, seconds, table, &mut name,
     ) {
+        Ok(answer) => answer,
+        Err(refusal) => return put_refusal(refusal, out),
+    };
+    match answer {
         Answer::Decided {
             value,
             counts,
             lifetime,
-        } => put_number(value, counts, lifetime, out, 0),
+        } => put_number(value, counts, lifetime, out),
         Answer::Fail {
             counts,
             lifetime,
@@ -110,13 +108,13 @@ fn answer_calls(
             out,
         ),
         Answer::Wanting {
-            kind,
-            length: n,
+            question,
             counts,
             lifetime,
-        } => put_named(kind, counts, lifetime, part(&name, 0, n), out, 0),
-        Answer::Refused(number) => put_number(number, none, 0, out, 0),
-        Answer::RefusedAt { number, at } => put_placed(number, at as u64, none, 0, out, 0),
+        } => {
+            let asked = part(&name, 0, question.length);
+            put_named(question.kind, counts, lifetime, asked, out);
+        }
     }
 }
 
@@ -129,17 +127,17 @@ fn answer_lines(
     receiver: &[u8],
     seconds: &[u8],
     table: &[u8],
-    out: &mut [u8],
-) -> usize
-    ensures { Wrote (lines_of (checked_lines client.now domain.now sender.now helo.now receiver.now seconds.now table.now (replicate 253 0) (replicate 500 0))) out.old 0 out.new result }
+    out: &mut Writer,
+)
+    ensures { Writes (lines_of (checked_lines client.now domain.now sender.now helo.now receiver.now seconds.now table.now (replicate 253 0) (replicate 500 0))) out.old out.new }
 {
-    let Network::Is(a) = networks::read_address(client) else {
-        return put_line(b"input", out, 0);
+    let Some(a) = networks::read_address(client) else {
+        return put_line(b"input", out);
     };
-    let Number::Value(t) = decimal::read_decimal(seconds, 18446744073709551615) else {
-        return put_line(b"input", out, 0);
+    let Some(t) = decimal::read_decimal(seconds, u64::MAX) else {
+        return put_line(b"input", out);
     };
-    answer_calls(a, domain, sender, helo, receiver, t, table, out)
+    answer_calls(a, domain, sender, helo, receiver, t, table, out);
 }
 
 // Checks a whole input and writes what the program prints, which never has more than 640 bytes.
@@ -147,6 +145,7 @@ pub fn answer_input(input: &[u8], out: &mut [u8]) -> usize
     requires { 640 ≤ length out.old }
     ensures { Stands (lines_of (answered input.now)) out.old out.new result }
 {
+    let mut w = Writer::new(out);
     answer_lines(
         field(input, 10, 0),
         field(input, 10, 1),
@@ -155,6 +154,7 @@ pub fn answer_input(input: &[u8], out: &mut [u8]) -> usize
         field(input, 10, 4),
         field(input, 10, 5),
         after_fields(input, 10, 6),
-        out,
-    )
+        &mut w,
+    );
+    w.at
 }

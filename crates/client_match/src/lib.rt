@@ -6,12 +6,14 @@ ghost use Rattle.text.specs.Writing.{overwritten};
 ghost use Rattle.answer_table.specs.Reader.{items_of};
 ghost use Rattle.rules.specs.Tree.{sooner};
 ghost use Rattle.rules.specs.Tables.{reply_by};
+ghost use Rattle.rules.specs.Outcomes.{LooksUp};
 ghost use Rattle.rules.specs.Mechanisms.{address_kind, width, item_matches, any_matches, includes_client};
 
-use address::{Address, FromOctets};
-use answer_table::items;
-use rules::Life;
-use text::writing;
+use address::Address;
+use answer_table::Found;
+use answer_table::items::Items;
+use rules::{Progress, Wanted};
+use text::writing::Writer;
 
 // The kind of the address question of the client's family: A or AAAA.
 pub fn address_kind(client: Address) -> u16
@@ -34,10 +36,10 @@ pub fn width(client: Address) -> usize
 }
 
 // Whether an item of an address answer matches the client at a prefix length.
-fn item_matches(client: Address, length: usize, octets: FromOctets) -> bool
+fn item_matches(client: Address, length: usize, octets: Option<Address>) -> bool
     ensures { result ≡ item_matches client length octets }
 {
-    let FromOctets::Is(network) = octets else {
+    let Some(network) = octets else {
         return false;
     };
     address::matches(client, network, length)
@@ -47,12 +49,10 @@ fn item_matches(client: Address, length: usize, octets: FromOctets) -> bool
 pub fn any_matches(client: Address, length: usize, items: &[u8]) -> bool
     ensures { result ≡ any_matches client length (items_of items.now) }
 {
-    let mut at = 0;
-    while at < items.len() {
-        if item_matches(client, length, address::from_octets(items::item(items, at))) {
+    for item in Items::new(items) {
+        if item_matches(client, length, address::from_octets(item)) {
             return true;
         }
-        at = items::next_item(items, at);
     }
     false
 }
@@ -61,28 +61,44 @@ pub fn any_matches(client: Address, length: usize, items: &[u8]) -> bool
 pub fn includes_client(client: Address, status: u8, items: &[u8]) -> bool
     ensures { result ≡ includes_client client (reply_by status (items_of items.now)) }
 {
-    if status == 2 {
-        return false;
-    }
-    any_matches(client, width(client), items)
+    status != 2 && any_matches(client, width(client), items)
 }
 
 // The smallest lifetime so far, and then that of one entry more.
-pub fn sooner(life: Life, lifetime: u32) -> Life
-    ensures { result ≡ sooner life lifetime }
+pub fn sooner(life: Option<u32>, lifetime: u32) -> u32
+    ensures { Some result ≡ sooner life lifetime }
 {
-    let Life::Least(so_far) = life else {
-        return Life::Least(lifetime);
-    };
-    if so_far < lifetime {
-        return Life::Least(so_far);
+    match life {
+        Some(so_far) => so_far.min(lifetime),
+        None => lifetime,
     }
-    Life::Least(lifetime)
 }
 
-// Writes a name at the front of a name buffer: that of a question that has no answer, or a failing record's domain.
-pub fn want(name: &[u8], out: &mut [u8])
+// Writes a name at the front of a name buffer.
+pub fn put_name(name: &[u8], out: &mut [u8])
     ensures { out.new ≡ overwritten name.now out.old }
 {
-    writing::put_all(name, out, 0);
+    let mut w = Writer::new(out);
+    w.put_all(name);
+}
+
+// Asks a question of the table: its entry, whose lifetime is taken in. Without one the question is wanted, and its name is written.
+pub fn look_up(
+    table: &[u8],
+    kind: u16,
+    name: &[u8],
+    progress: &mut Progress,
+    out: &mut [u8],
+) -> Result<Found, Wanted>
+    ensures { LooksUp table.now kind name.now progress.old progress.new result out.old out.new }
+{
+    let Some(found) = answer_table::find(table, kind, name) else {
+        put_name(name, out);
+        return Err(Wanted {
+            kind,
+            length: name.len(),
+        });
+    };
+    progress.life = Some(sooner(progress.life, found.lifetime));
+    Ok(found)
 }

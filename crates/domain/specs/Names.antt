@@ -11,6 +11,13 @@ labels s = split is_dot s
 unfoldable pub is_label : List ℕ → Bool
 is_label l = within 1 63 (length l) && all is_visible l
 
+-- a label of 1 to 63 bytes that pass a test: `is_label` is that of visible bytes; and whether every label of a name is one
+abbrev pub label_of : (ℕ → Bool) → List ℕ → Bool
+label_of q l = within 1 63 (length l) && all q l
+
+abbrev pub all_fit : (ℕ → Bool) → List ℕ → Bool
+all_fit q s = all (label_of q) (labels s)
+
 -- the longest name: "1 to 253 bytes"
 abbrev pub most_name : ℕ
 most_name = 253

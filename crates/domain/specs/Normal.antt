@@ -1,9 +1,7 @@
 -- A name outside the table: "one trailing dot is dropped and A to Z lowered before a question is put; anything else is malformed".
-use Rattle.std.specs.Prelude.{ℕ, ◌-◌, List, map, cond, length, take}
+use Rattle.std.specs.Prelude.{ℕ, ◌-◌, List, map, cond, length, take, None, Option, Some}
 use Rattle.text.specs.Bytes.{at, is_dot, lower}
 use Rattle.text.specs.Writing.{overwritten}
-use Rattle.domain.specs.declared.Name.{Name}
-use Rattle.domain.specs.declared.Name.TheVariants.{Written, Malformed}
 use Rattle.domain.specs.Names.{is_name}
 
 -- one trailing dot dropped
@@ -24,9 +22,9 @@ unfoldable pub normal : List ℕ → Naming
 normal s = lowered (without_dot s)
 
 -- the answer's case for a name: its length; or malformed
-abbrev pub name_answer : Naming → Name
-name_answer (name xs) = Written (length xs)
-name_answer malformed = Malformed
+abbrev pub name_answer : Naming → Option ℕ
+name_answer (name xs) = Some (length xs)
+name_answer malformed = None
 
 -- the lent buffer afterwards: the name at its front and all bytes after it kept; as it was if malformed
 abbrev pub name_buffer : Naming → List ℕ → List ℕ

@@ -1,179 +1,118 @@
 // The second call: the explanation of a fail, from the failing record's domain and the place and length of its exp argument, as the first call gave them.
-ghost use Rattle.std.specs.Prelude.{◌≤◌, ◌≡◌, ◌&&◌, eqb, length};
+ghost use Rattle.std.specs.Prelude.{◌≡◌};
 ghost use Rattle.domain.specs.Normal.{Naming, normal};
-ghost use Rattle.rules.specs.Outcomes.{mail_of};
+ghost use Rattle.rules.specs.Outcomes.{mail_in};
 ghost use Rattle.evaluation.specs.Checks.{FindsExp};
 ghost use Rattle.evaluation.specs.Second.{lent, handed, answer_for, Makes, Explains};
 
 use crate::check::in_table;
-use crate::refusal;
+use crate::{BEGUN, Refusal, check_arguments};
 use address::Address;
-use answer_table::TableAnswer;
-use domain::{MOST_NAME, Name};
+use domain::MOST_NAME;
 use records::opening;
-use records::opening::{Modifier, Opening};
-use rules::{Counts, Explained, Life, Selected};
+use rules::{Mail, Selected, Wanted};
 use text::bytes;
+use text::spans::Span;
 
-// What the second call answers; its counts are 0.
-#[derive(Clone, Copy)]
+// What the second call answers; its counts are 0. A question without an entry is one of its answers, and no error.
+#[derive(Clone, Copy, PartialEq, Eq)]
 pub enum Explanation {
     // 3: the length of the text.
     Text(usize),
-    // 7: the kind of the question that has no entry, and the length of its name.
-    Wanting { kind: u16, length: usize },
-    // 20 to 24 and 28.
-    Refused(u8),
-    // 25 or 26, and the place in the table.
-    RefusedAt { number: u8, at: usize },
+    // 7: the question that has no entry.
+    Wanting(Wanted),
 }
 
+// A shorter text buffer is refused with 23.
+const MOST_TEXT: usize = 500;
+
 // Where the exp argument of the accepted record that is selected for a domain stands in the table.
-fn find_exp(table: &[u8], domain: &[u8]) -> Modifier
+fn find_exp(table: &[u8], domain: &[u8]) -> Option<Span>
     ensures { FindsExp table.now domain.now result }
 {
     if domain::count_labels(domain) <= 1 {
-        return Modifier::Absent;
+        return None;
     }
-    let found = record_lookup::select_record(table, domain, Life::Unmet);
-    let selected = found.selected;
-    let Selected::One { domain: _, text } = selected else {
-        return Modifier::Absent;
+    let found = record_lookup::select_record(table, domain, None);
+    let Selected::One { text, .. } = found.selected else {
+        return None;
     };
-    let from = text.from;
-    let reading = opening::open_record(bytes::part(table, from, text.to), Address::IPv4(0));
-    let opening = reading.opening;
-    let modifiers = reading.modifiers;
-    let exp = modifiers.exp;
-    match opening {
-        Opening::Refused { number: _, at: _ } => Modifier::Absent,
-        Opening::Matched { sign: _ } => in_table(exp, from),
-        Opening::Open { at: _ } => in_table(exp, from),
-    }
-}
-
-// Whether a place and a length are both 0, which stands for no exp.
-fn are_zero(place: usize, size: usize) -> bool
-    ensures { result ≡ (eqb place 0 && eqb size 0) }
-{
-    if place == 0 {
-        return size == 0;
-    }
-    false
+    let Ok(reading) = opening::open_record(text.of(table), Address::IPv4(0)) else {
+        return None;
+    };
+    in_table(reading.modifiers.exp, text.from)
 }
 
 // The answer with what an explanation comes to.
-fn answer_of(explained: Explained) -> Explanation
+#[tactic(auto, using(text::proofs::Laws::Tests::ways), unfolding(crate::specs::Second::answer_for))]
+fn answer_of(explained: Result<usize, Wanted>) -> Explanation
     ensures { result ≡ answer_for explained }
 {
     match explained {
-        Explained::Text(n) => Explanation::Text(n),
-        Explained::Wanting { kind, length } => Explanation::Wanting { kind, length },
+        Ok(n) => Explanation::Text(n),
+        Err(question) => Explanation::Wanting(question),
     }
 }
 
 // The explanation for a name: 28 unless its exp argument stands at the place and has the length.
 fn explain_name(
-    client: Address,
-    sender: &[u8],
-    helo: &[u8],
-    receiver: &[u8],
-    seconds: u64,
+    mail: &Mail,
     table: &[u8],
     domain: &[u8],
     place: usize,
     size: usize,
     name: &mut [u8],
     text: &mut [u8],
-) -> Explanation
-    requires { (length sender.now ≤ 320) × (place ≡ 0 → size ≡ 0 → ⊥) }
-    ensures { Makes table.now (mail_of client sender.now helo.now receiver.now seconds) (Naming.name domain.now) place size result name.old name.new text.old text.new }
+) -> Result<Explanation, Refusal>
+    requires { place ≡ 0 → size ≡ 0 → ⊥ }
+    ensures { Makes table.now (mail_in mail.now) (Naming.name domain.now) place size result name.old name.new text.old text.new }
 {
-    let Modifier::Part { from, to } = find_exp(table, domain) else {
-        return Explanation::Refused(28);
+    let Some(exp) = find_exp(table, domain) else {
+        return Err(Refusal::Exp);
     };
-    if from == place {
-        if to - from == size {
-            return answer_of(explanation::explain(
-                client,
-                sender,
-                helo,
-                receiver,
-                seconds,
-                table,
-                domain,
-                bytes::part(table, from, to),
-                Counts {
-                    lookups: 0,
-                    voids: 0,
-                },
-                text,
-                name,
-            ));
-        }
+    if exp.from != place || exp.to - exp.from != size {
+        return Err(Refusal::Exp);
     }
-    Explanation::Refused(28)
+    let explained = explanation::explain(mail, table, domain, exp.of(table), text, BEGUN, name);
+    Ok(answer_of(explained))
 }
 
 // The explanation for a domain as it was given and a place and length that aren't both 0; a malformed domain has no record.
 fn explain_given(
-    client: Address,
-    sender: &[u8],
-    helo: &[u8],
-    receiver: &[u8],
-    seconds: u64,
+    mail: &Mail,
     table: &[u8],
     domain: &[u8],
     place: usize,
     size: usize,
     name: &mut [u8],
     text: &mut [u8],
-) -> Explanation
-    requires { (length sender.now ≤ 320) × (place ≡ 0 → size ≡ 0 → ⊥) }
-    ensures { Makes table.now (mail_of client sender.now helo.now receiver.now seconds) (normal domain.now) place size result name.old name.new text.old text.new }
+) -> Result<Explanation, Refusal>
+    requires { place ≡ 0 → size ≡ 0 → ⊥ }
+    ensures { Makes table.now (mail_in mail.now) (normal domain.now) place size result name.old name.new text.old text.new }
 {
     let mut to = [0u8; MOST_NAME];
-    match domain::read_name(domain, &mut to) {
-        Name::Malformed => Explanation::Refused(28),
-        Name::Written(n) => explain_name(
-            client,
-            sender,
-            helo,
-            receiver,
-            seconds,
-            table,
-            bytes::part(&to, 0, n),
-            place,
-            size,
-            name,
-            text,
-        ),
-    }
+    let Some(n) = domain::read_name(domain, &mut to) else {
+        return Err(Refusal::Exp);
+    };
+    explain_name(mail, table, bytes::part(&to, 0, n), place, size, name, text)
 }
 
 // The explanation for a table that is accepted: no text for a place and a length of 0.
 fn explain_accepted(
-    client: Address,
-    sender: &[u8],
-    helo: &[u8],
-    receiver: &[u8],
-    seconds: u64,
+    mail: &Mail,
     table: &[u8],
     domain: &[u8],
     place: usize,
     size: usize,
     name: &mut [u8],
     text: &mut [u8],
-) -> Explanation
-    requires { length sender.now ≤ 320 }
-    ensures { Makes table.now (mail_of client sender.now helo.now receiver.now seconds) (normal domain.now) place size result name.old name.new text.old text.new }
+) -> Result<Explanation, Refusal>
+    ensures { Makes table.now (mail_in mail.now) (normal domain.now) place size result name.old name.new text.old text.new }
 {
-    if are_zero(place, size) {
-        return Explanation::Text(0);
+    if place == 0 && size == 0 {
+        return Ok(Explanation::Text(0));
     }
-    explain_given(
-        client, sender, helo, receiver, seconds, table, domain, place, size, name, text,
-    )
+    explain_given(mail, table, domain, place, size, name, text)
 }
 
 // The second call: 20 to 24 in that order, then 25 or 26, then 28 where `place` and `size`, not both 0, aren't the exp argument of an accepted record
@@ -190,32 +129,20 @@ pub fn explain(
     size: usize,
     name: &mut [u8],
     text: &mut [u8],
-) -> Explanation
+) -> Result<Explanation, Refusal>
     ensures { Explains (lent client domain.now sender.now helo.now receiver.now seconds table.now place size name.old text.old) (handed result name.new text.new) }
 {
-    let number = refusal(domain, sender, helo, receiver, name.len());
-    if number == 0 {
-        if text.len() < 500 {
-            return Explanation::Refused(23);
-        }
-        return match answer_table::check_table(table) {
-            TableAnswer::TooLong => Explanation::Refused(24),
-            TableAnswer::Malformed(at) => Explanation::RefusedAt { number: 25, at },
-            TableAnswer::Repeated(at) => Explanation::RefusedAt { number: 26, at },
-            TableAnswer::Accepted(_) => explain_accepted(
-                address::as_client(client),
-                sender,
-                helo,
-                receiver,
-                seconds,
-                table,
-                domain,
-                place,
-                size,
-                name,
-                text,
-            ),
-        };
+    check_arguments(domain, sender, helo, receiver, name.len())?;
+    if text.len() < MOST_TEXT {
+        return Err(Refusal::Room);
     }
-    Explanation::Refused(number)
+    answer_table::check_table(table)?;
+    let mail = Mail {
+        client: address::as_client(client),
+        sender,
+        helo,
+        receiver,
+        seconds,
+    };
+    explain_accepted(&mail, table, domain, place, size, name, text)
 }

@@ -1,29 +1,83 @@
 // An evaluation in two calls: whether a client may send for a domain, or the one question that is missing; and then, for a fail, its explanation.
 #![tactic(auto)]
 
-ghost use Rattle.std.specs.Prelude.{◌≤◌, ◌≡◌, length};
-ghost use Rattle.rules.specs.declared.Life.TheVariants.{Unmet};
-ghost use Rattle.rules.specs.Tree.{run};
-ghost use Rattle.rules.specs.Tables.{table_in};
+ghost use Rattle.std.specs.Prelude.{◌≡◌, IfOk, OnErr};
+ghost use Rattle.answer_table.specs.declared.TableError.{TableError};
 ghost use Rattle.rules.specs.Lifetimes.{seconds};
 ghost use Rattle.rules.specs.Evaluation.{evaluation};
-ghost use Rattle.rules.specs.Outcomes.{mail_of, SaysCheck, FailingAt};
-ghost use Rattle.evaluation.specs.Evaluating.{refusal_of};
+ghost use Rattle.rules.specs.Outcomes.{mail_in, Checks, FailingAt};
+ghost use Rattle.evaluation.specs.Evaluating.{number_of, place_of, refusal_of};
 ghost use Rattle.evaluation.specs.First.{lent, handed, finished, Says, Decides, Evaluates};
+ghost use Rattle.evaluation.specs.declared.Refusal.TheVariants.{Table};
 
 use address::Address;
-use answer_table::TableAnswer;
-use domain::{MOST_NAME, Name};
+use answer_table::TableError;
+use domain::MOST_NAME;
 use macros::values;
-use records::opening::Modifier;
-use rules::{Checked, Counts, Ending, FailingPlace, Life};
+use rules::{Checked, Counts, FailingPlace, Mail, Progress, Wanted};
 use text::bytes;
 
 mod check;
 pub mod explaining;
 
-// What the first call answers.
-#[derive(Clone, Copy)]
+// Why a call is refused.
+#[derive(Clone, Copy, PartialEq, Eq)]
+pub enum Refusal {
+    // 20: the sender is not 1 to 320 bytes of 32 to 126.
+    Sender,
+    // 21: the HELO name or the receiver is over 255 bytes, or has a byte outside 33 to 126.
+    Host,
+    // 22: the domain is over 255 bytes.
+    Domain,
+    // 23: the name buffer is under 253 bytes, or the text buffer under 500.
+    Room,
+    // 24 to 26: the table's refusal.
+    Table(TableError),
+    // 28: place and length are not the exp argument of an accepted record selected for the domain.
+    Exp,
+}
+
+impl From<TableError> for Refusal {
+    ghost from_gives = { λ e r. r ≡ Table e };
+
+    fn from(e: TableError) -> Refusal {
+        Refusal::Table(e)
+    }
+}
+
+impl Refusal {
+    // The refusal's number.
+    #[tactic(auto, using(text::proofs::Laws::Tests::ways), unfolding(crate::specs::Evaluating::number_of))]
+    pub fn number(self) -> u8
+        ensures { result ≡ number_of self }
+    {
+        match self {
+            Refusal::Sender => 20,
+            Refusal::Host => 21,
+            Refusal::Domain => 22,
+            Refusal::Room => 23,
+            Refusal::Table(TableError::TooLong) => 24,
+            Refusal::Table(TableError::Malformed(_)) => 25,
+            Refusal::Table(TableError::Repeated(_)) => 26,
+            Refusal::Exp => 28,
+        }
+    }
+
+    // The place in the table of 25 and 26.
+    #[tactic(auto, using(text::proofs::Laws::Tests::ways), unfolding(crate::specs::Evaluating::place_of))]
+    pub fn place(self) -> Option<usize>
+        ensures { result ≡ place_of self }
+    {
+        match self {
+            Refusal::Table(TableError::Malformed(at)) => Some(at),
+            Refusal::Table(TableError::Repeated(at)) => Some(at),
+            _ => None,
+        }
+    }
+}
+
+// What the first call answers. A question without an entry is one of its answers, and no error.
+#[derive(Clone, Copy, PartialEq, Eq)]
 pub enum Answer {
     // 0 to 6 but 3, both counts, and how many seconds the decision may be kept.
     Decided {
@@ -39,159 +93,123 @@ pub enum Answer {
         place: usize,
         length: usize,
     },
-    // 7: the kind of the question that has no entry, the length of its name, and the counts and the lifetime so far.
+    // 7: the question that has no entry, and the counts and the lifetime so far.
     Wanting {
-        kind: u16,
-        length: usize,
+        question: Wanted,
         counts: Counts,
         lifetime: u32,
     },
-    // 20 to 24.
-    Refused(u8),
-    // 25 or 26, and the place in the table.
-    RefusedAt {
-        number: u8,
-        at: usize,
-    },
 }
 
-// 20 to 23 in that order, 23 for a name buffer's length; 0 where the arguments fit.
-fn refusal(domain: &[u8], sender: &[u8], helo: &[u8], receiver: &[u8], name: usize) -> u8
-    ensures { result ≡ refusal_of domain.now sender.now helo.now receiver.now name }
+// Nothing has been asked yet.
+const BEGUN: Progress = Progress {
+    counts: Counts {
+        lookups: 0,
+        voids: 0,
+    },
+    life: None,
+};
+
+// Tests the arguments: 20 to 23 in that order, 23 for a name buffer's length.
+#[tactic(auto, using(text::proofs::Laws::Tests::ways), unfolding(crate::specs::Evaluating::refusal_of))]
+fn check_arguments(
+    domain: &[u8],
+    sender: &[u8],
+    helo: &[u8],
+    receiver: &[u8],
+    room: usize,
+) -> Result<(), Refusal>
+    ensures { result ≡ refusal_of domain.now sender.now helo.now receiver.now room }
 {
-    if values::is_sender(sender) {
-        if values::are_hosts(helo, receiver) {
-            if values::is_short(domain) {
-                if MOST_NAME <= name {
-                    return 0;
-                }
-                return 23;
-            }
-            return 22;
-        }
-        return 21;
+    if !values::is_sender(sender) {
+        return Err(Refusal::Sender);
     }
-    20
+    if !values::are_hosts(helo, receiver) {
+        return Err(Refusal::Host);
+    }
+    if !values::is_short(domain) {
+        return Err(Refusal::Domain);
+    }
+    if room < MOST_NAME {
+        return Err(Refusal::Room);
+    }
+    Ok(())
 }
 
 // The check of a domain as it was given: one trailing dot is dropped and A to Z lowered; a malformed one gives none.
 fn check_given(
-    client: Address,
-    sender: &[u8],
-    helo: &[u8],
-    receiver: &[u8],
-    seconds: u64,
+    mail: &Mail,
     table: &[u8],
     domain: &[u8],
+    progress: &mut Progress,
     out: &mut [u8],
-) -> Checked
-    requires { length sender.now ≤ 320 }
-    ensures { SaysCheck table.now (run (table_in table.now) Unmet (evaluation (mail_of client sender.now helo.now receiver.now seconds) domain.now)) result out.old out.new }
+) -> Result<Checked, Wanted>
+    requires { progress.old ≡ BEGUN }
+    ensures { Checks table.now (evaluation (mail_in mail.now) domain.now) progress.old progress.new result out.old out.new }
 {
-    let none = Counts {
-        lookups: 0,
-        voids: 0,
-    };
     let mut to = [0u8; MOST_NAME];
-    match domain::read_name(domain, &mut to) {
-        Name::Malformed => check::ended(0, none, Life::Unmet),
-        Name::Written(n) => check::check_domain(
-            client,
-            sender,
-            helo,
-            receiver,
-            seconds,
-            table,
-            bytes::part(&to, 0, n),
-            none,
-            Life::Unmet,
-            out,
-        ),
-    }
+    let Some(n) = domain::read_name(domain, &mut to) else {
+        return Ok(check::ended(0));
+    };
+    check::check_domain(mail, table, bytes::part(&to, 0, n), progress, out)
 }
 
 // The smallest lifetime met, or 0 where no entry was.
-fn seconds_of(life: Life) -> u32
+#[tactic(auto, using(text::proofs::Laws::Tests::ways), unfolding(rules::specs::Lifetimes::seconds))]
+fn seconds_of(life: Option<u32>) -> u32
     ensures { result ≡ seconds life }
 {
-    match life {
-        Life::Unmet => 0,
-        Life::Least(seconds) => seconds,
-    }
+    life.unwrap_or(0)
 }
 
 // The answer with a result; for a fail the failing record's domain is written.
-fn finish(
-    table: &[u8],
-    value: u8,
-    counts: Counts,
-    lifetime: u32,
-    failing: FailingPlace,
-    name: &mut [u8],
-) -> Answer
-    requires { FailingAt table.now failing }
-    ensures { Says (finished table.now value counts lifetime failing) result name.old name.new }
+fn finish(table: &[u8], checked: Checked, counts: Counts, lifetime: u32, name: &mut [u8]) -> Answer
+    requires { FailingAt table.now checked.failing }
+    ensures { Says (finished table.now checked.value counts lifetime checked.failing) (Ok result) name.old name.new }
 {
-    let FailingPlace::In { domain, exp } = failing else {
+    let Some(place) = checked.failing else {
         return Answer::Decided {
-            value,
+            value: checked.value,
             counts,
             lifetime,
         };
     };
-    let d = bytes::part(table, domain.from, domain.to);
-    client_match::want(d, name);
-    match exp {
-        Modifier::Absent => Answer::Fail {
-            counts,
-            lifetime,
-            domain: d.len(),
-            place: 0,
-            length: 0,
-        },
-        Modifier::Part { from, to } => Answer::Fail {
-            counts,
-            lifetime,
-            domain: d.len(),
-            place: from,
-            length: to - from,
-        },
+    let d = place.domain.of(table);
+    client_match::put_name(d, name);
+    let (at, length) = match place.exp {
+        None => (0, 0),
+        Some(exp) => (exp.from, exp.to - exp.from),
+    };
+    Answer::Fail {
+        counts,
+        lifetime,
+        domain: d.len(),
+        place: at,
+        length,
     }
 }
 
 // The check of a domain and its answer.
-fn decide(
-    client: Address,
-    sender: &[u8],
-    helo: &[u8],
-    receiver: &[u8],
-    seconds: u64,
-    table: &[u8],
-    domain: &[u8],
-    name: &mut [u8],
-) -> Answer
-    requires { length sender.now ≤ 320 }
-    ensures { Decides table.now (run (table_in table.now) Unmet (evaluation (mail_of client sender.now helo.now receiver.now seconds) domain.now)) result name.old name.new }
+fn decide(mail: &Mail, table: &[u8], domain: &[u8], name: &mut [u8]) -> Answer
+    ensures { Decides table.now (evaluation (mail_in mail.now) domain.now) (Ok result) name.old name.new }
 {
-    let o = check_given(client, sender, helo, receiver, seconds, table, domain, name);
-    let counts = o.counts;
-    let life = o.life;
-    let lifetime = seconds_of(life);
-    let ending = o.ending;
-    let failing = o.failing;
+    let mut progress = BEGUN;
+    let ending = check_given(mail, table, domain, &mut progress, name);
+    let counts = progress.counts;
+    let lifetime = seconds_of(progress.life);
     match ending {
-        Ending::Wanting { kind, length: n } => Answer::Wanting {
-            kind,
-            length: n,
+        Ok(checked) => finish(table, checked, counts, lifetime, name),
+        Err(question) => Answer::Wanting {
+            question,
             counts,
             lifetime,
         },
-        Ending::Result(value) => finish(table, value, counts, lifetime, failing, name),
     }
 }
 
 // The first call: 20 to 24 in that order, then 25 or 26, then the result. The name of a wanted question or the failing record's domain is written at the
-// front of `name`. No question of an explanation is asked. The lifetime is the smallest of the entries that its questions found.
+// front of `name`. No question of an explanation is asked. The lifetime is the smallest of the entries that its questions found. The parts of a mail are
+// given one by one: a longer sender is refused here, and no `Mail` has one.
 pub fn evaluate(
     client: Address,
     domain: &[u8],
@@ -201,26 +219,17 @@ pub fn evaluate(
     seconds: u64,
     table: &[u8],
     name: &mut [u8],
-) -> Answer
+) -> Result<Answer, Refusal>
     ensures { Evaluates (lent client domain.now sender.now helo.now receiver.now seconds table.now name.old) (handed result name.new) }
 {
-    let number = refusal(domain, sender, helo, receiver, name.len());
-    if number == 0 {
-        return match answer_table::check_table(table) {
-            TableAnswer::TooLong => Answer::Refused(24),
-            TableAnswer::Malformed(at) => Answer::RefusedAt { number: 25, at },
-            TableAnswer::Repeated(at) => Answer::RefusedAt { number: 26, at },
-            TableAnswer::Accepted(_) => decide(
-                address::as_client(client),
-                sender,
-                helo,
-                receiver,
-                seconds,
-                table,
-                domain,
-                name,
-            ),
-        };
-    }
-    Answer::Refused(number)
+    check_arguments(domain, sender, helo, receiver, name.len())?;
+    answer_table::check_table(table)?;
+    let mail = Mail {
+        client: address::as_client(client),
+        sender,
+        helo,
+        receiver,
+        seconds,
+    };
+    Ok(decide(&mail, table, domain, name))
 }

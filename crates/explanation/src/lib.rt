@@ -1,32 +1,28 @@
 // The explanation that the exp of a record makes: one TXT text, expanded. It counts nothing, and answers no lifetime.
 #![tactic(auto)]
 
-ghost use Rattle.std.specs.Prelude.{◌≤◌, [], ◌∷◌, length};
+ghost use Rattle.std.specs.Prelude.{[], ◌∷◌};
 ghost use Rattle.domain.specs.Normal.{name};
 ghost use Rattle.records.specs.Readings.{present};
 ghost use Rattle.macros.specs.declared.Form.TheVariants.{Explanation};
-ghost use Rattle.rules.specs.declared.Life.TheVariants.{Unmet};
-ghost use Rattle.rules.specs.Tree.{run};
-ghost use Rattle.rules.specs.Tables.{table_in};
 ghost use Rattle.rules.specs.Mechanisms.{expansion};
 ghost use Rattle.rules.specs.Evaluation.{shown, explained, explain_name, explanation};
-ghost use Rattle.rules.specs.Outcomes.{mail_of, SaysText};
-ghost use Rattle.explanation.specs.Stages.{Shows, printed, with_p};
+ghost use Rattle.rules.specs.Outcomes.{mail_in, Shows};
+ghost use Rattle.explanation.specs.Stages.{WritesShown, printed};
 
-use address::Address;
-use answer_table::{Found, items};
+use answer_table::items::Items;
 use domain::MOST_NAME;
-use macros::{Expanded, Form};
-use rules::{Counts, Explained, Life, PValue, Target};
+use macros::Form;
+use rules::{Mail, Progress, Wanted};
 use text::bytes::Class;
-use text::{bytes, words, writing};
+use text::{bytes, words};
 
 // Writes a text at the front of `text` if its bytes are all 32 to 126; otherwise nothing.
 fn put_printable(s: &[u8], text: &mut [u8]) -> usize
-    ensures { Shows (printed s.now) result text.old text.new }
+    ensures { WritesShown (printed s.now) result text.old text.new }
 {
     if words::every(s, Class::Printable) {
-        writing::put_all(s, text, 0);
+        client_match::put_name(s, text);
         return s.len();
     }
     0
@@ -34,221 +30,90 @@ fn put_printable(s: &[u8], text: &mut [u8]) -> usize
 
 // The text that an explanation shows with a value of p, at the front of `text`: none where its expansion is over 500 bytes or has a byte outside
 // 32 to 126.
-fn write_shown(
-    client: Address,
-    sender: &[u8],
-    helo: &[u8],
-    receiver: &[u8],
-    seconds: u64,
-    domain: &[u8],
-    s: &[u8],
-    p: &[u8],
-    text: &mut [u8],
-) -> usize
-    requires { length sender.now ≤ 320 }
-    ensures { Shows (shown (expansion (mail_of client sender.now helo.now receiver.now seconds) domain.now Explanation s.now p.now)) result text.old text.new }
+fn write_shown(mail: &Mail, domain: &[u8], s: &[u8], p: &[u8], text: &mut [u8]) -> usize
+    ensures { WritesShown (shown (expansion (mail_in mail.now) domain.now Explanation s.now p.now)) result text.old text.new }
 {
     let mut expanded = [0u8; 500];
-    match macros::write_expansion(
-        Form::Explanation,
-        s,
-        sender,
-        helo,
-        receiver,
-        domain,
-        p,
-        client,
-        seconds,
-        &mut expanded,
-    ) {
-        Expanded::Written(n) => put_printable(&expanded[..n], text),
-        Expanded::Refused(_) => 0,
-    }
-}
-
-// The explanation that a text with a p macro makes.
-fn explain_with_p(
-    client: Address,
-    sender: &[u8],
-    helo: &[u8],
-    receiver: &[u8],
-    seconds: u64,
-    table: &[u8],
-    domain: &[u8],
-    s: &[u8],
-    counts: Counts,
-    text: &mut [u8],
-    out: &mut [u8],
-) -> Explained
-    requires { length sender.now ≤ 320 }
-    ensures { SaysText counts (run (table_in table.now) Unmet (with_p (mail_of client sender.now helo.now receiver.now seconds) domain.now s.now counts)) result text.old text.new out.old out.new }
-{
-    let found = target_name::find_p(client, table, domain, counts, Life::Unmet, out);
-    let value = found.value;
-    match value {
-        PValue::Current => Explained::Text(write_shown(
-            client, sender, helo, receiver, seconds, domain, s, domain, text,
-        )),
-        PValue::Listed { from, to } => Explained::Text(write_shown(
-            client,
-            sender,
-            helo,
-            receiver,
-            seconds,
-            domain,
-            s,
-            bytes::part(table, from, to),
-            text,
-        )),
-        PValue::Unknown => Explained::Text(write_shown(
-            client, sender, helo, receiver, seconds, domain, s, b"unknown", text,
-        )),
-        PValue::Wanting { kind, length } => Explained::Wanting { kind, length },
+    let given = mail.given(domain, p);
+    match macros::write_expansion(Form::Explanation, s, &given, &mut expanded) {
+        Ok(n) => put_printable(&expanded[..n], text),
+        Err(_) => 0,
     }
 }
 
 // The explanation that one text makes.
 fn explain_text(
-    client: Address,
-    sender: &[u8],
-    helo: &[u8],
-    receiver: &[u8],
-    seconds: u64,
+    mail: &Mail,
     table: &[u8],
     domain: &[u8],
     s: &[u8],
-    counts: Counts,
     text: &mut [u8],
+    progress: &mut Progress,
     out: &mut [u8],
-) -> Explained
-    requires { length sender.now ≤ 320 }
-    ensures { SaysText counts (run (table_in table.now) Unmet (explained (mail_of client sender.now helo.now receiver.now seconds) domain.now counts (s.now ∷ []))) result text.old text.new out.old out.new }
+) -> Result<usize, Wanted>
+    ensures { Shows table.now (explained (mail_in mail.now) domain.now progress.old.counts (s.now ∷ [])) progress.old progress.new result text.old text.new out.old out.new }
 {
-    if macros::read_macro_string(Form::Explanation, s) {
-        if macros::uses_p(Form::Explanation, s) {
-            return explain_with_p(
-                client, sender, helo, receiver, seconds, table, domain, s, counts, text, out,
-            );
-        }
-        return Explained::Text(write_shown(
-            client,
-            sender,
-            helo,
-            receiver,
-            seconds,
-            domain,
-            s,
-            &s[..0],
-            text,
-        ));
+    let form = Form::Explanation;
+    if !macros::read_macro_string(form, s) {
+        return Ok(0);
     }
-    Explained::Text(0)
+    let p = target_name::find_p_for(mail.client, table, domain, form, s, progress, out)?;
+    Ok(write_shown(mail, domain, s, p, text))
 }
 
 // The explanation that the texts of a name make: of the only one.
 fn explain_name(
-    client: Address,
-    sender: &[u8],
-    helo: &[u8],
-    receiver: &[u8],
-    seconds: u64,
+    mail: &Mail,
     table: &[u8],
     domain: &[u8],
     target: &[u8],
-    counts: Counts,
     text: &mut [u8],
+    progress: &mut Progress,
     out: &mut [u8],
-) -> Explained
-    requires { length sender.now ≤ 320 }
-    ensures { SaysText counts (run (table_in table.now) Unmet (explain_name (mail_of client sender.now helo.now receiver.now seconds) domain.now counts (name target.now))) result text.old text.new out.old out.new }
+) -> Result<usize, Wanted>
+    ensures { Shows table.now (explain_name (mail_in mail.now) domain.now progress.old.counts (name target.now)) progress.old progress.new result text.old text.new out.old out.new }
 {
-    let found = answer_table::find(table, 16, target);
-    let Found::Entry {
-        status,
-        lifetime: _,
-        start,
-        end,
-    } = found
-    else {
-        client_match::want(target, out);
-        return Explained::Wanting {
-            kind: 16,
-            length: target.len(),
-        };
+    let found = client_match::look_up(table, 16, target, progress, out)?;
+    if found.status == 2 {
+        return Ok(0);
+    }
+    let texts = bytes::part(table, found.start, found.end);
+    let mut items = Items::new(texts);
+    let Some(s) = items.next() else {
+        return Ok(0);
     };
-    if status == 2 {
-        return Explained::Text(0);
+    if items.next().is_some() {
+        return Ok(0);
     }
-    let texts = bytes::part(table, start, end);
-    if texts.len() == 0 {
-        return Explained::Text(0);
-    }
-    if items::next_item(texts, 0) == texts.len() {
-        return explain_text(
-            client,
-            sender,
-            helo,
-            receiver,
-            seconds,
-            table,
-            domain,
-            items::item(texts, 0),
-            counts,
-            text,
-            out,
-        );
-    }
-    Explained::Text(0)
+    explain_text(mail, table, domain, s, text, progress, out)
 }
 
-// The text that the exp of a domain's record makes, at the front of `text`; nothing is written where it is empty. `spec` is the argument of exp.
+// The text that the exp of a domain's record makes, at the front of `text`; nothing is written where it is empty. `spec` is the argument of exp. What
+// has come before is given by value: neither counts nor lifetime of an explanation are handed back.
 pub fn explain(
-    client: Address,
-    sender: &[u8],
-    helo: &[u8],
-    receiver: &[u8],
-    seconds: u64,
+    mail: &Mail,
     table: &[u8],
     domain: &[u8],
     spec: &[u8],
-    counts: Counts,
     text: &mut [u8],
+    begun: Progress,
     out: &mut [u8],
-) -> Explained
-    requires { length sender.now ≤ 320 }
-    ensures { SaysText counts (run (table_in table.now) Unmet (explanation (mail_of client sender.now helo.now receiver.now seconds) domain.now (present spec.now) counts)) result text.old text.new out.old out.new }
+) -> Result<usize, Wanted>
+    ensures { Shows table.now (explanation (mail_in mail.now) domain.now (present spec.now) begun.counts) begun begun result text.old text.new out.old out.new }
 {
+    let mut progress = begun;
     let mut target = [0u8; MOST_NAME];
-    let made = target_name::make_target(
-        client,
-        sender,
-        helo,
-        receiver,
-        seconds,
+    let Some(n) = target_name::make_target(
+        mail,
         table,
         domain,
         spec,
-        counts,
-        Life::Unmet,
         &mut target,
+        &mut progress,
         out,
-    );
-    let named = made.target;
-    match named {
-        Target::Name(n) => explain_name(
-            client,
-            sender,
-            helo,
-            receiver,
-            seconds,
-            table,
-            domain,
-            &target[..n],
-            counts,
-            text,
-            out,
-        ),
-        Target::Malformed => Explained::Text(0),
-        Target::Wanting { kind, length } => Explained::Wanting { kind, length },
-    }
+    )?
+    else {
+        return Ok(0);
+    };
+    explain_name(mail, table, domain, &target[..n], text, &mut progress, out)
 }

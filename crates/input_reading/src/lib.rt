@@ -15,6 +15,7 @@ pub fn read_full<R: Read>(input: &mut R, out: &mut [u8]) -> io::Result<usize>
     ensures end { IfOk result (λ n. n < length out.new → IsAtEnd (R.remaining input.new)) }
     ensures err { OnErr result (length out.new ≡ length out.old) }
 {
+    // By what was read and not `for`: a step takes as many bytes as came.
     let mut n = 0;
     while n < out.len() {
         let got = input.read(&mut out[n..])?;

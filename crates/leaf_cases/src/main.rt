@@ -17,39 +17,35 @@
 // Any other line is printed as it is.
 #![tactic(auto)]
 
-use address::FromOctets;
-use answer_entry::AppendAnswer;
-use answer_table::{Found, TableAnswer};
-use case_support::Line;
-use domain::Name;
+use answer_entry::{AppendError, NewEntry};
+use answer_table::TableError;
+use answer_table::items::{Items, host, preference};
+use case_support::{
+    number_of, print_bytes, print_line, print_number_line, print_test, unhexed, word,
+};
 use std::io;
 use text::bytes::part;
-use text::decimal::Number;
-use text::{decimal, words};
+use text::decimal;
 
 fn run_address(rt: &impl Print, line: &[u8]) -> io::Result<()> {
     let mut a = [0u8; 16];
     let mut b = [0u8; 16];
-    let n = case_support::unhex(case_support::word(line, 1), &mut a);
-    let m = case_support::unhex(case_support::word(line, 2), &mut b);
-    let FromOctets::Is(client) = address::from_octets(part(&a, 0, n)) else {
-        return case_support::print_line(rt, b"no address");
+    let Some(client) = address::from_octets(unhexed(word(line, 1), &mut a)) else {
+        return print_line(rt, b"no address");
     };
-    let FromOctets::Is(network) = address::from_octets(part(&b, 0, m)) else {
-        return case_support::print_line(rt, b"no address");
+    let Some(network) = address::from_octets(unhexed(word(line, 2), &mut b)) else {
+        return print_line(rt, b"no address");
     };
-    let Number::Value(v) = decimal::read_decimal(case_support::word(line, 3), 18446744073709551615)
-    else {
-        return case_support::print_line(rt, b"no length");
+    let Some(length) = decimal::read_decimal(word(line, 3), u64::MAX) else {
+        return print_line(rt, b"no length");
     };
-    case_support::print_test(rt, address::matches(client, network, v as usize))
+    print_test(rt, address::matches(client, network, length as usize))
 }
 
 fn run_client(rt: &impl Print, line: &[u8]) -> io::Result<()> {
     let mut a = [0u8; 16];
-    let n = case_support::unhex(case_support::word(line, 1), &mut a);
-    let FromOctets::Is(given) = address::from_octets(part(&a, 0, n)) else {
-        return case_support::print_line(rt, b"no address");
+    let Some(given) = address::from_octets(unhexed(word(line, 1), &mut a)) else {
+        return print_line(rt, b"no address");
     };
     case_support::print_address(rt, address::as_client(given))
 }
@@ -57,162 +53,113 @@ fn run_client(rt: &impl Print, line: &[u8]) -> io::Result<()> {
 fn run_name(rt: &impl Print, line: &[u8]) -> io::Result<()> {
     let mut text = [0u8; 1024];
     let mut out = [0u8; 253];
-    let n = case_support::unhex(case_support::word(line, 1), &mut text);
-    let Name::Written(m) = domain::read_name(part(&text, 0, n), &mut out) else {
-        return case_support::print_line(rt, b"malformed");
+    let Some(n) = domain::read_name(unhexed(word(line, 1), &mut text), &mut out) else {
+        return print_line(rt, b"malformed");
     };
-    case_support::print_line(rt, part(&out, 0, m))
+    print_line(rt, part(&out, 0, n))
 }
 
 fn run_table_name(rt: &impl Print, line: &[u8]) -> io::Result<()> {
     let mut text = [0u8; 1024];
-    let n = case_support::unhex(case_support::word(line, 1), &mut text);
-    case_support::print_test(rt, domain::is_table_name(part(&text, 0, n)))
+    print_test(rt, domain::is_table_name(unhexed(word(line, 1), &mut text)))
 }
 
 fn run_labels(rt: &impl Print, line: &[u8]) -> io::Result<()> {
     let mut text = [0u8; 1024];
-    let n = case_support::unhex(case_support::word(line, 1), &mut text);
-    case_support::print_number_line(rt, domain::count_labels(part(&text, 0, n)))
+    print_number_line(rt, domain::count_labels(unhexed(word(line, 1), &mut text)))
 }
 
 fn run_below(rt: &impl Print, line: &[u8]) -> io::Result<()> {
     let mut name = [0u8; 1024];
     let mut target = [0u8; 1024];
-    let n = case_support::unhex(case_support::word(line, 1), &mut name);
-    let m = case_support::unhex(case_support::word(line, 2), &mut target);
-    case_support::print_test(
-        rt,
-        domain::at_or_below(part(&name, 0, n), part(&target, 0, m)),
-    )
+    let name = unhexed(word(line, 1), &mut name);
+    let target = unhexed(word(line, 2), &mut target);
+    print_test(rt, domain::at_or_below(name, target))
 }
 
 fn run_shorten(rt: &impl Print, line: &[u8]) -> io::Result<()> {
     let mut text = [0u8; 4096];
-    let n = case_support::unhex(case_support::word(line, 1), &mut text);
-    case_support::print_line(rt, domain::shorten(part(&text, 0, n)))
+    print_line(rt, domain::shorten(unhexed(word(line, 1), &mut text)))
 }
 
-// Prints a refusal: its number and its place.
-fn print_refused(rt: &impl Print, number: &[u8], place: usize) -> io::Result<()> {
-    rt.write_all(b"refused ")?;
-    rt.write_all(number)?;
-    rt.write_all(b" ")?;
-    case_support::print_number_line(rt, place)
+// Prints why a table is refused: number and place.
+fn print_refused(rt: &impl Print, error: TableError) -> io::Result<()> {
+    match error {
+        TableError::TooLong => rt.write_all(b"refused 24 ."),
+        TableError::Malformed(place) => print!(rt; "refused 25 {place}"),
+        TableError::Repeated(place) => print!(rt; "refused 26 {place}"),
+    }
 }
 
 fn run_table(rt: &impl Print, line: &[u8]) -> io::Result<()> {
     let mut space = [0u8; 65552];
-    let n = case_support::unhex(case_support::word(line, 1), &mut space);
-    match answer_table::check_table(part(&space, 0, n)) {
-        TableAnswer::Accepted(count) => {
-            rt.write_all(b"entries ")?;
-            case_support::print_number_line(rt, count)
-        }
-        TableAnswer::TooLong => case_support::print_line(rt, b"refused 24 ."),
-        TableAnswer::Malformed(place) => print_refused(rt, b"25", place),
-        TableAnswer::Repeated(place) => print_refused(rt, b"26", place),
+    match answer_table::check_table(unhexed(word(line, 1), &mut space)) {
+        Ok(count) => print!(rt; "entries {count}")?,
+        Err(error) => print_refused(rt, error)?,
     }
-}
-
-// Prints each item with a space before it.
-fn print_items(rt: &impl Print, items: &[u8]) -> io::Result<()> {
-    let mut at = 0;
-    while at < items.len() {
-        rt.write_all(b" ")?;
-        case_support::print_bytes(rt, answer_table::items::item(items, at))?;
-        at = answer_table::items::next_item(items, at);
-    }
-    Ok(())
-}
-
-// Prints the preference and the host of each item, `.` for none.
-fn print_hosts(rt: &impl Print, items: &[u8]) -> io::Result<()> {
-    let mut at = 0;
-    while at < items.len() {
-        let item = answer_table::items::item(items, at);
-        rt.print(answer_table::items::preference(item))?;
-        rt.write_all(b" ")?;
-        case_support::print_bytes(rt, answer_table::items::host(item))?;
-        rt.write_all(b" ")?;
-        at = answer_table::items::next_item(items, at);
-    }
-    Ok(())
+    print_line(rt, b"")
 }
 
 fn run_find(rt: &impl Print, line: &[u8]) -> io::Result<()> {
     let mut name = [0u8; 253];
     let mut space = [0u8; 65552];
-    let m = case_support::unhex(case_support::word(line, 2), &mut name);
-    let n = case_support::unhex(case_support::word(line, 3), &mut space);
-    let Number::Value(kind) = decimal::read_decimal(case_support::word(line, 1), 65535) else {
-        return case_support::print_line(rt, b"no kind");
+    let Some(kind) = decimal::read_decimal(word(line, 1), 65535) else {
+        return print_line(rt, b"no kind");
     };
-    let found = answer_table::find(part(&space, 0, n), (kind % 65536) as u16, part(&name, 0, m));
-    match found {
-        Found::Missing => case_support::print_line(rt, b"missing"),
-        Found::Entry {
-            status,
-            lifetime,
-            ..
-        } => {
-            rt.print(status)?;
-            rt.write_all(b" ")?;
-            rt.print(lifetime)?;
-            print_items(rt, answer_table::found_items(part(&space, 0, n), found))?;
-            case_support::print_line(rt, b"")
-        }
+    let name = unhexed(word(line, 2), &mut name);
+    let table = unhexed(word(line, 3), &mut space);
+    let found = answer_table::find(table, (kind % 65536) as u16, name);
+    let Some(entry) = found else {
+        return print_line(rt, b"missing");
+    };
+    let status = entry.status;
+    let lifetime = entry.lifetime;
+    print!(rt; "{status} {lifetime}")?;
+    for item in Items::new(answer_table::found_items(table, found)) {
+        rt.write_all(b" ")?;
+        print_bytes(rt, item)?;
     }
+    print_line(rt, b"")
 }
 
 fn run_mx(rt: &impl Print, line: &[u8]) -> io::Result<()> {
     let mut name = [0u8; 253];
     let mut space = [0u8; 65552];
-    let m = case_support::unhex(case_support::word(line, 1), &mut name);
-    let n = case_support::unhex(case_support::word(line, 2), &mut space);
-    let found = answer_table::find(part(&space, 0, n), 15, part(&name, 0, m));
-    print_hosts(rt, answer_table::found_items(part(&space, 0, n), found))?;
-    case_support::print_line(rt, b"")
+    let name = unhexed(word(line, 1), &mut name);
+    let table = unhexed(word(line, 2), &mut space);
+    let found = answer_table::find(table, 15, name);
+    for item in Items::new(answer_table::found_items(table, found)) {
+        rt.print(preference(item))?;
+        rt.write_all(b" ")?;
+        print_bytes(rt, host(item))?;
+        rt.write_all(b" ")?;
+    }
+    print_line(rt, b"")
 }
 
 // Prints whether the first n bytes of a buffer are as they were.
 fn print_kept(rt: &impl Print, before: &[u8], after: &[u8], n: usize) -> io::Result<()> {
-    if words::equal(part(before, 0, n), part(after, 0, n)) {
-        return case_support::print_line(rt, b" kept");
-    }
-    case_support::print_line(rt, b" changed")
-}
-
-fn print_text(rt: &impl Print, s: &[u8]) -> io::Result<()> {
-    rt.write_all(s)
-}
-
-// Prints a number after a text.
-fn print_with(rt: &impl Print, text: &[u8], n: usize) -> io::Result<()> {
-    rt.write_all(text)?;
-    rt.print(n)
+    let kept = part(before, 0, n) == part(after, 0, n);
+    print_line(rt, if kept { b" kept" } else { b" changed" })
 }
 
 // Prints what an append answers, with the buffer before and after.
 fn print_append(
     rt: &impl Print,
-    answer: AppendAnswer,
+    answer: Result<usize, AppendError>,
     before: &[u8],
     after: &[u8],
     size: usize,
 ) -> io::Result<()> {
     match answer {
-        AppendAnswer::Appended(end) => {
-            print_with(rt, b"appended ", end)?;
-            rt.write_all(b" ")?;
-            case_support::print_bytes(rt, part(after, size, after.len()))?;
+        Ok(end) => {
+            print!(rt; "appended {end} ")?;
+            print_bytes(rt, part(after, size, after.len()))?;
             return print_kept(rt, before, after, size);
         }
-        AppendAnswer::TooLong => print_text(rt, b"refused 24 .")?,
-        AppendAnswer::Malformed(place) => print_with(rt, b"refused 25 ", place)?,
-        AppendAnswer::Repeated(place) => print_with(rt, b"refused 26 ", place)?,
-        AppendAnswer::InTable => print_text(rt, b"refused 64 .")?,
-        AppendAnswer::Unfit => print_text(rt, b"refused 65 .")?,
+        Err(AppendError::Table(error)) => print_refused(rt, error)?,
+        Err(AppendError::InTable) => rt.write_all(b"refused 64 .")?,
+        Err(AppendError::Unfit) => rt.write_all(b"refused 65 .")?,
     }
     print_kept(rt, before, after, before.len())
 }
@@ -221,83 +168,56 @@ fn print_append(
 fn run_append_to(rt: &impl Print, line: &[u8], before: &[u8], after: &mut [u8]) -> io::Result<()> {
     let mut name = [0u8; 1024];
     let mut items = [0u8; 65552];
-    let n = case_support::unhex(case_support::word(line, 3), &mut name);
-    let m = case_support::unhex(case_support::word(line, 4), &mut items);
-    let size = case_support::number_of(case_support::word(line, 6)) as usize;
-    let answer = answer_entry::append_entry(
-        (case_support::number_of(case_support::word(line, 1)) % 65536) as u16,
-        (case_support::number_of(case_support::word(line, 2)) % 256) as u8,
-        (case_support::number_of(case_support::word(line, 7)) % 4294967296) as u32,
-        part(&name, 0, n),
-        part(&items, 0, m),
-        after,
-        size,
-    );
+    let size = number_of(word(line, 6)) as usize;
+    let entry = NewEntry {
+        kind: (number_of(word(line, 1)) % 65536) as u16,
+        status: (number_of(word(line, 2)) % 256) as u8,
+        lifetime: (number_of(word(line, 7)) % 4294967296) as u32,
+        name: unhexed(word(line, 3), &mut name),
+        items: unhexed(word(line, 4), &mut items),
+    };
+    let answer = answer_entry::append_entry(&entry, after, size);
     print_append(rt, answer, before, after, size)
 }
 
 fn run_append(rt: &impl Print, line: &[u8]) -> io::Result<()> {
     let mut before = [0u8; 65552];
     let mut after = [0u8; 65552];
-    let n = case_support::unhex(case_support::word(line, 5), &mut before);
-    let m = case_support::unhex(case_support::word(line, 5), &mut after);
-    run_append_to(rt, line, part(&before, 0, n), &mut after[..m])
-}
-
-// The kinds of line that concern names.
-fn run_name_line(rt: &impl Print, line: &[u8], kind: &[u8]) -> io::Result<()> {
-    if words::equal(kind, b"name") {
-        return run_name(rt, line);
-    }
-    if words::equal(kind, b"table-name") {
-        return run_table_name(rt, line);
-    }
-    if words::equal(kind, b"labels") {
-        return run_labels(rt, line);
-    }
-    if words::equal(kind, b"below") {
-        return run_below(rt, line);
-    }
-    if words::equal(kind, b"shorten") {
-        return run_shorten(rt, line);
-    }
-    case_support::print_line(rt, line)
+    let n = case_support::unhex(word(line, 5), &mut after);
+    run_append_to(
+        rt,
+        line,
+        unhexed(word(line, 5), &mut before),
+        &mut after[..n],
+    )
 }
 
 fn run_line(rt: &impl Print, line: &[u8]) -> io::Result<()> {
-    let kind = case_support::word(line, 0);
-    if words::equal(kind, b"address") {
-        return run_address(rt, line);
+    match word(line, 0) {
+        b"address" => run_address(rt, line),
+        b"client" => run_client(rt, line),
+        b"name" => run_name(rt, line),
+        b"table-name" => run_table_name(rt, line),
+        b"labels" => run_labels(rt, line),
+        b"below" => run_below(rt, line),
+        b"shorten" => run_shorten(rt, line),
+        b"table" => run_table(rt, line),
+        b"find" => run_find(rt, line),
+        b"mx" => run_mx(rt, line),
+        b"append" => run_append(rt, line),
+        _ => print_line(rt, line),
     }
-    if words::equal(kind, b"client") {
-        return run_client(rt, line);
-    }
-    if words::equal(kind, b"table") {
-        return run_table(rt, line);
-    }
-    if words::equal(kind, b"find") {
-        return run_find(rt, line);
-    }
-    if words::equal(kind, b"mx") {
-        return run_mx(rt, line);
-    }
-    if words::equal(kind, b"append") {
-        return run_append(rt, line);
-    }
-    run_name_line(rt, line, kind)
 }
 
 // At most as many lines as the budget says.
 fn main(rt: HostRuntime) -> io::Result<()> {
     let mut input = rt.reader();
     let mut line = [0u8; 140000];
-    let mut budget: usize = 1000000;
-    while 0 < budget {
-        let Line::Of(n) = case_support::read_line(&mut input, &mut line)? else {
-            return Ok(());
+    for _ in 0..1000000 {
+        let Some(n) = case_support::read_line(&mut input, &mut line)? else {
+            break;
         };
         run_line(&rt, part(&line, 0, n))?;
-        budget -= 1;
     }
     Ok(())
 }

@@ -1,17 +1,17 @@
 -- What the program received_line prints. Its input is six lines: a result's word, the client (written as for ip4 or ip6), the sender, the HELO name, the
 -- receiver and the identity. It prints the line that writing gives, or `refused` and the number; `input` where one of the six can't be read. An input
 -- that begins with `Received-SPF:` is a line to be read back: its result's word and values are printed, as the same six lines. Only byte 10 ends a line.
-use Rattle.std.specs.Prelude.{ℕ, ◌≤◌, ◌≡◌, List, [], ◌++◌, length, take}
+use Rattle.std.specs.Prelude.{ℕ, ◌≤◌, ◌≡◌, List, [], ◌++◌, length, take, Ok, Err}
 use Rattle.text.specs.Fields.{after_fields, field}
 use Rattle.text.specs.Texts.{bytes}
 use Rattle.text.specs.Writing.{overwritten}
 use Rattle.address_text.specs.Digits.{in_decimal}
 use Rattle.networks.specs.Answers.{AddressText}
 use Rattle.received.specs.Line.{Word, Values}
-use Rattle.received.specs.Numbers.{refused, written}
+use Rattle.received.specs.Numbers.{error_number}
 use Rattle.received.specs.Answers.{Given, identity_text, values_of, most_line, Writes, LineFor, ReadsLine}
 use Rattle.received.specs.declared.Parts.{Parts}
-use Rattle.received.specs.declared.LineAnswer.TheVariants as answers
+use Rattle.received.specs.declared.LineError.{LineError}
 
 -- a line and its end
 unfoldable pub line : List ℕ → List ℕ
@@ -46,9 +46,9 @@ pub record SixLines (input : List ℕ) (g : Given) : Type 0 where
 -- what is printed of an input; it is one text (`prints_one`, proofs/Laws/Printing.antt)
 pub data Prints (input : List ℕ) : List ℕ → Type 0 where
   unreadable : (Opens input → ⊥) → ((g : Given) → SixLines input g → ⊥) → Prints input (line (bytes "input"))
-  refuses : {g : Given} {number : ℕ} → (Opens input → ⊥) → SixLines input g → Writes g most_line (refused number) → Prints input (refusal_line number)
-  writes : {g : Given} {xs : List ℕ} → (Opens input → ⊥) → SixLines input g → Writes g most_line (written xs) → Prints input xs
-  no_line : {number : ℕ} → Opens input → ReadsLine input (answers.Refused number) → Prints input (refusal_line number)
+  refuses : {g : Given} {e : LineError} → (Opens input → ⊥) → SixLines input g → Writes g most_line (Err e) → Prints input (refusal_line (error_number e))
+  writes : {g : Given} {xs : List ℕ} → (Opens input → ⊥) → SixLines input g → Writes g most_line (Ok xs) → Prints input xs
+  no_line : {e : LineError} → Opens input → ReadsLine input (Err e) → Prints input (refusal_line (error_number e))
   reads : {g : Given} {f : Parts} {word : List ℕ} → Opens input → LineFor g input f → Word g.result word → Prints input (six_lines word (values_of g))
 
 -- what is printed never has more bytes than a line (`prints_length`, proofs/Laws/Printing.antt)

@@ -2,18 +2,20 @@
 #![tactic(auto)]
 
 ghost use Rattle.std.specs.Prelude.{◌≤◌, ◌≡◌, length};
-ghost use Rattle.text.specs.Writing.{Wrote};
+ghost use Rattle.text.specs.Writing.{Writes};
 ghost use Rattle.received.specs.Quoting.{unescaped};
-ghost use Rattle.received.specs.Answers.{given};
+ghost use Rattle.received.specs.Numbers.{error_number};
+ghost use Rattle.received.specs.Answers.{given_of};
+ghost use Rattle.text.specs.Fields.{field};
 ghost use Rattle.received.specs.RoundTrip.{bytes_at};
 ghost use Rattle.line_input.specs.Lines.{line, refusal_line, room, Printed};
 ghost use Rattle.line_input.specs.Reader.{opens, has_six_lines, identity_named, part_lines, read_text, written_text, lines_text, printed};
 
-use address::Address;
-use networks::Network;
-use received::{Identity, LineAnswer, MOST_LINE, Part, Parts, Written, lines, quoting, reading};
+use received::{Checked, Identity, LineError, MOST_LINE, Parts, lines, quoting, reading};
 use text::fields::{after_fields, field};
-use text::{bytes, words, writing};
+use text::spans::Span;
+use text::writing::Writer;
+use text::{bytes, words};
 
 // The most bytes of six lines; no line of them that is accepted comes near it.
 pub const MOST_INPUT: usize = 4096;
@@ -21,118 +23,99 @@ pub const MOST_INPUT: usize = 4096;
 // How much of an input decides what is printed: one byte more.
 pub const READ: usize = 4097;
 
-// The identity of a word, or that it names none.
-#[derive(Clone, Copy)]
-pub enum Named {
-    Is(Identity),
-    NoIdentity,
-}
-
 // A text and the line's end.
-fn put_line(s: &[u8], out: &mut [u8], at: usize) -> usize
-    ensures { Wrote (line s.now) out.old at out.new result }
+fn put_line(s: &[u8], out: &mut Writer)
+    ensures { Writes (line s.now) out.old out.new }
 {
-    let next = writing::put_all(s, out, at);
-    writing::put(out, next, 10)
+    out.put_all(s);
+    out.put(b'\n');
 }
 
 // A refusal's number.
-fn put_refusal(number: u8, out: &mut [u8]) -> usize
-    ensures { Wrote (refusal_line number) out.old 0 out.new result }
+fn put_refusal(e: LineError, out: &mut Writer)
+    ensures { Writes (refusal_line (error_number e)) out.old out.new }
 {
-    let next = writing::put_all(b"refused ", out, 0);
-    let end = address_text::put_decimal(number as u64, out, next);
-    writing::put(out, end, 10)
+    out.put_all(b"refused ");
+    address_text::put_decimal(u64::from(e.number()), out);
+    out.put(b'\n');
 }
 
 // The value of a part, and the line's end.
-fn put_value(s: &[u8], p: Part, out: &mut [u8], at: usize) -> usize
-    ensures { Wrote (line (unescaped (bytes_at s.now p))) out.old at out.new result }
+fn put_value(s: &[u8], p: Span, out: &mut Writer)
+    ensures { Writes (line (unescaped (bytes_at s.now p))) out.old out.new }
 {
-    let from = p.from;
-    let to = p.to;
-    let end = quoting::put_unescaped(bytes::part(s, from, to), out, at);
-    writing::put(out, end, 10)
+    quoting::put_unescaped(p.of(s), out);
+    out.put(b'\n');
 }
 
 // The result's word and the five values, in the order of the six lines.
-fn put_parts(s: &[u8], parts: Parts, out: &mut [u8]) -> usize
-    ensures { Wrote (part_lines s.now parts) out.old 0 out.new result }
+fn put_parts(s: &[u8], parts: Parts, out: &mut Writer)
+    ensures { Writes (part_lines s.now parts) out.old out.new }
 {
-    let word = lines::put_word(parts.result, out, 0);
-    let client = writing::put(out, word, 10);
-    let sender = put_value(s, parts.client, out, client);
-    let helo = put_value(s, parts.sender, out, sender);
-    let receiver = put_value(s, parts.helo, out, helo);
-    let identity = put_value(s, parts.receiver, out, receiver);
-    put_value(s, parts.identity, out, identity)
+    put_line(lines::word_of(parts.result), out);
+    put_value(s, parts.client, out);
+    put_value(s, parts.sender, out);
+    put_value(s, parts.helo, out);
+    put_value(s, parts.receiver, out);
+    put_value(s, parts.identity, out);
 }
 
 // Reads a line back.
-fn answer_line(s: &[u8], out: &mut [u8]) -> usize
-    ensures { Wrote (read_text s.now) out.old 0 out.new result }
+fn answer_line(s: &[u8], out: &mut Writer)
+    ensures { Writes (read_text s.now) out.old out.new }
 {
     match received::read_line(s) {
-        LineAnswer::Read(parts) => put_parts(s, parts, out),
-        LineAnswer::Refused(number) => put_refusal(number, out),
+        Ok(parts) => put_parts(s, parts, out),
+        Err(e) => put_refusal(e, out),
     }
 }
 
 // The identity of a word.
-fn identity_named(w: &[u8]) -> Named
+fn identity_named(w: &[u8]) -> Option<Identity>
     ensures { result ≡ identity_named w.now }
 {
     if words::equal(w, b"mailfrom") {
-        return Named::Is(Identity::MailFrom);
+        Some(Identity::MailFrom)
+    } else if words::equal(w, b"helo") {
+        Some(Identity::Helo)
+    } else {
+        None
     }
-    if words::equal(w, b"helo") {
-        return Named::Is(Identity::Helo);
-    }
-    Named::NoIdentity
 }
 
 // Writes the line of these arguments, or the refusal.
-fn answer_given(
-    res: u8,
-    client: Address,
-    sender: &[u8],
-    helo: &[u8],
-    receiver: &[u8],
-    identity: Identity,
-    out: &mut [u8],
-) -> usize
-    ensures { Wrote (written_text (given res client sender.now helo.now receiver.now identity)) out.old 0 out.new result }
+fn answer_given(res: u8, checked: &Checked, out: &mut Writer)
+    ensures { Writes (written_text (given_of res checked.now)) out.old out.new }
 {
     let mut text = [0u8; MOST_LINE];
-    match received::write_line(res, client, sender, helo, receiver, identity, &mut text) {
-        Written::Length(n) => writing::put_all(bytes::part(&text, 0, n), out, 0),
-        Written::Refused(number) => put_refusal(number, out),
+    match received::write_line(res, checked, &mut text) {
+        Ok(n) => out.put_all(bytes::part(&text, 0, n)),
+        Err(e) => put_refusal(e, out),
     }
 }
 
-// The same of the six lines as they are written.
-fn answer_lines(
-    res: &[u8],
-    client: &[u8],
-    sender: &[u8],
-    helo: &[u8],
-    receiver: &[u8],
-    identity: &[u8],
-    out: &mut [u8],
-) -> usize
-    ensures { Wrote (lines_text res.now client.now sender.now helo.now receiver.now identity.now) out.old 0 out.new result }
+// The same of six lines as they are written.
+fn answer_lines(input: &[u8], out: &mut Writer)
+    ensures { Writes (lines_text (field 10 0 input.now) (field 10 1 input.now) (field 10 2 input.now) (field 10 3 input.now) (field 10 4 input.now) (field 10 5 input.now)) out.old out.new }
 {
-    let number = reading::number_of(res);
+    let number = reading::number_of(field(input, b'\n', 0));
     if 7 <= number {
-        return put_line(b"input", out, 0);
+        return put_line(b"input", out);
     }
-    let Network::Is(a) = networks::read_address(client) else {
-        return put_line(b"input", out, 0);
+    let Some(client) = networks::read_address(field(input, b'\n', 1)) else {
+        return put_line(b"input", out);
     };
-    let Named::Is(i) = identity_named(identity) else {
-        return put_line(b"input", out, 0);
+    let Some(identity) = identity_named(field(input, b'\n', 5)) else {
+        return put_line(b"input", out);
     };
-    answer_given(number, a, sender, helo, receiver, i, out)
+    let checked = Checked {
+        client,
+        sender: field(input, b'\n', 2),
+        helo: field(input, b'\n', 3),
+        receiver: field(input, b'\n', 4),
+        identity,
+    };
+    answer_given(number, &checked, out)
 }
 
 // Whether an input begins as a line does.
@@ -146,31 +129,20 @@ fn is_opened(input: &[u8]) -> bool
 fn has_six_lines(input: &[u8]) -> bool
     ensures { result ≡ has_six_lines input.now }
 {
-    if MOST_INPUT < input.len() {
-        return false;
-    }
-    after_fields(input, 10, 6).len() == 0
+    input.len() <= MOST_INPUT && after_fields(input, b'\n', 6).is_empty()
 }
 
 // Writes what is printed of an input.
-fn put_printed(input: &[u8], out: &mut [u8]) -> usize
-    ensures { Wrote (printed input.now) out.old 0 out.new result }
+fn put_printed(input: &[u8], out: &mut Writer)
+    ensures { Writes (printed input.now) out.old out.new }
 {
     if is_opened(input) {
-        return answer_line(input, out);
+        answer_line(input, out)
+    } else if has_six_lines(input) {
+        answer_lines(input, out)
+    } else {
+        put_line(b"input", out)
     }
-    if has_six_lines(input) {
-        return answer_lines(
-            field(input, 10, 0),
-            field(input, 10, 1),
-            field(input, 10, 2),
-            field(input, 10, 3),
-            field(input, 10, 4),
-            field(input, 10, 5),
-            out,
-        );
-    }
-    put_line(b"input", out, 0)
 }
 
 // Writes what the program prints of an input, which never has more than 1,500 bytes.
@@ -178,5 +150,7 @@ pub fn answer_input(input: &[u8], out: &mut [u8]) -> usize
     requires { room ≤ length out.old }
     ensures { Printed input.now out.old out.new result }
 {
-    put_printed(input, out)
+    let mut w = Writer::new(out);
+    put_printed(input, &mut w);
+    w.at
 }

@@ -10,132 +10,70 @@
 // FORM is `domain-spec`, `modifier-value` or `explanation`. Any other line is printed as it is.
 #![tactic(auto)]
 
-use case_support::Line;
-use domain::Name;
-use macros::{Expanded, Form};
+use macros::{Form, Given};
 use std::io;
 use text::bytes::part;
-use text::words;
+use text::writing::Writer;
 
 // The form that a word names.
 fn form_of(word: &[u8]) -> Form {
-    if words::equal(word, b"domain-spec") {
-        return Form::DomainSpec;
+    match word {
+        b"domain-spec" => Form::DomainSpec,
+        b"explanation" => Form::Explanation,
+        _ => Form::ModifierValue,
     }
-    if words::equal(word, b"explanation") {
-        return Form::Explanation;
-    }
-    Form::ModifierValue
 }
 
-// Prints what an expansion answered.
-fn print_expanded(rt: &impl Print, answer: Expanded, out: &[u8]) -> io::Result<()> {
+// Prints what an expansion answered: the length, or a refusal's number.
+fn print_expanded(rt: &impl Print, answer: Result<usize, u8>, out: &[u8]) -> io::Result<()> {
     match answer {
-        Expanded::Written(n) => {
+        Ok(n) => {
             rt.write_all(b"ok ")?;
             case_support::print_bytes(rt, part(out, 0, n))?;
-            case_support::print_line(rt, b"")
         }
-        Expanded::Refused(n) => {
+        Err(number) => {
             rt.write_all(b"refused ")?;
-            rt.print(n)?;
-            case_support::print_line(rt, b"")
+            rt.print(number)?;
         }
     }
+    case_support::print_line(rt, b"")
 }
 
-// The expansion into the front of a buffer.
-fn expand_front(
-    line: &[u8],
-    sender: &[u8],
-    helo: &[u8],
-    receiver: &[u8],
-    domain: &[u8],
-    p: &[u8],
-    text: &[u8],
-    room: usize,
-    out: &mut [u8],
-) -> Expanded {
+// The expansion into the front of a buffer; 0 if the buffer is shorter than that.
+fn expand_front(line: &[u8], text: &[u8], given: &Given, out: &mut [u8]) -> Result<usize, u8> {
     let form = form_of(case_support::word(line, 1));
-    let client = case_support::address_of(case_support::word(line, 2));
-    let seconds = case_support::number_of(case_support::word(line, 7));
-    if room <= out.len() {
-        return macros::expand(
-            form,
-            text,
-            sender,
-            helo,
-            receiver,
-            domain,
-            p,
-            client,
-            seconds,
-            &mut out[..room],
-        );
-    }
-    Expanded::Refused(0)
-}
-
-// The buffer, once all words that are bytes are read.
-fn run_given(
-    rt: &impl Print,
-    line: &[u8],
-    sender: &[u8],
-    helo: &[u8],
-    receiver: &[u8],
-    domain: &[u8],
-    p: &[u8],
-    text: &[u8],
-) -> io::Result<()> {
-    let mut space = [0u8; 65536];
     let room = (case_support::number_of(case_support::word(line, 9)) % 65536) as usize;
-    let answer = expand_front(
-        line, sender, helo, receiver, domain, p, text, room, &mut space,
-    );
-    print_expanded(rt, answer, &space)
+    if out.len() < room {
+        return Err(0);
+    }
+    macros::expand(form, text, given, &mut out[..room]).map_err(|e| e.number())
 }
 
-// The domain, p and the text.
-fn run_named(
-    rt: &impl Print,
-    line: &[u8],
-    sender: &[u8],
-    helo: &[u8],
-    receiver: &[u8],
-) -> io::Result<()> {
-    let mut domain = [0u8; 1024];
-    let mut p = [0u8; 1024];
-    let mut text = [0u8; 8192];
-    let d = case_support::unhex(case_support::word(line, 3), &mut domain);
-    let q = case_support::unhex(case_support::word(line, 8), &mut p);
-    let t = case_support::unhex(case_support::word(line, 10), &mut text);
-    run_given(
-        rt,
-        line,
-        sender,
-        helo,
-        receiver,
-        part(&domain, 0, d),
-        part(&p, 0, q),
-        part(&text, 0, t),
-    )
-}
-
-// The sender, HELO and the receiver.
 fn run_macro(rt: &impl Print, line: &[u8]) -> io::Result<()> {
+    let mut domain = [0u8; 1024];
     let mut sender = [0u8; 1024];
     let mut helo = [0u8; 1024];
     let mut receiver = [0u8; 1024];
+    let mut p = [0u8; 1024];
+    let mut text = [0u8; 8192];
+    let mut out = [0u8; 65536];
+    let d = case_support::unhex(case_support::word(line, 3), &mut domain);
     let s = case_support::unhex(case_support::word(line, 4), &mut sender);
     let h = case_support::unhex(case_support::word(line, 5), &mut helo);
     let r = case_support::unhex(case_support::word(line, 6), &mut receiver);
-    run_named(
-        rt,
-        line,
-        part(&sender, 0, s),
-        part(&helo, 0, h),
-        part(&receiver, 0, r),
-    )
+    let q = case_support::unhex(case_support::word(line, 8), &mut p);
+    let t = case_support::unhex(case_support::word(line, 10), &mut text);
+    let given = Given {
+        sender: part(&sender, 0, s),
+        helo: part(&helo, 0, h),
+        receiver: part(&receiver, 0, r),
+        domain: part(&domain, 0, d),
+        p: part(&p, 0, q),
+        client: case_support::address_of(case_support::word(line, 2)),
+        seconds: case_support::number_of(case_support::word(line, 7)),
+    };
+    let answer = expand_front(line, part(&text, 0, t), &given, &mut out);
+    print_expanded(rt, answer, &out)
 }
 
 fn run_form(rt: &impl Print, line: &[u8]) -> io::Result<()> {
@@ -160,7 +98,7 @@ fn run_question(rt: &impl Print, line: &[u8]) -> io::Result<()> {
     let mut text = [0u8; 8192];
     let mut out = [0u8; 253];
     let n = case_support::unhex(case_support::word(line, 1), &mut text);
-    let Name::Written(m) = macros::question_name(part(&text, 0, n), &mut out) else {
+    let Some(m) = macros::question_name(part(&text, 0, n), &mut out) else {
         return case_support::print_line(rt, b"malformed");
     };
     case_support::print_line(rt, part(&out, 0, m))
@@ -168,45 +106,35 @@ fn run_question(rt: &impl Print, line: &[u8]) -> io::Result<()> {
 
 fn run_reversed(rt: &impl Print, line: &[u8]) -> io::Result<()> {
     let mut out = [0u8; 80];
-    let n = address_text::put_reversed_name(
+    let mut w = Writer::new(&mut out);
+    address_text::put_reversed_name(
         case_support::address_of(case_support::word(line, 1)),
-        &mut out,
-        0,
+        &mut w,
     );
+    let n = w.at;
     case_support::print_line(rt, part(&out, 0, n))
 }
 
 fn run_line(rt: &impl Print, line: &[u8]) -> io::Result<()> {
-    let kind = case_support::word(line, 0);
-    if words::equal(kind, b"macro") {
-        return run_macro(rt, line);
+    match case_support::word(line, 0) {
+        b"macro" => run_macro(rt, line),
+        b"form" => run_form(rt, line),
+        b"asks-p" => run_asks_p(rt, line),
+        b"question" => run_question(rt, line),
+        b"reversed" => run_reversed(rt, line),
+        _ => case_support::print_line(rt, line),
     }
-    if words::equal(kind, b"form") {
-        return run_form(rt, line);
-    }
-    if words::equal(kind, b"asks-p") {
-        return run_asks_p(rt, line);
-    }
-    if words::equal(kind, b"question") {
-        return run_question(rt, line);
-    }
-    if words::equal(kind, b"reversed") {
-        return run_reversed(rt, line);
-    }
-    case_support::print_line(rt, line)
 }
 
-// At most as many lines as the budget says.
+// At most a million lines.
 fn main(rt: HostRuntime) -> io::Result<()> {
     let mut input = rt.reader();
     let mut line = [0u8; 32768];
-    let mut budget: usize = 1000000;
-    while 0 < budget {
-        let Line::Of(n) = case_support::read_line(&mut input, &mut line)? else {
+    for _ in 0..1000000 {
+        let Some(n) = case_support::read_line(&mut input, &mut line)? else {
             return Ok(());
         };
         run_line(&rt, part(&line, 0, n))?;
-        budget -= 1;
     }
     Ok(())
 }

@@ -1,6 +1,6 @@
 -- What a macro string expands to: the value of each letter, and the texts of the pieces, in the words and order of the house rules.
 use Rattle.std.specs.Prelude.{ℕ, List, [], ◌∷◌, ◌++◌, Bool, cond, ◌&&◌, length, leb, eqb}
-use Rattle.text.specs.Bytes.{part, lower, is_upper, is_visible, is_printable, within}
+use Rattle.text.specs.Bytes.{lower, is_upper, is_visible, is_printable, within}
 use Rattle.text.specs.Lists.{all, split, join_by}
 use Rattle.text.specs.Texts.{bytes}
 use Rattle.address.specs.declared.Address.{Address}
@@ -9,7 +9,8 @@ use Rattle.address_text.specs.Digits.{in_decimal}
 use Rattle.address_text.specs.Forms.{dotted, readable, family}
 use Rattle.transformers.specs.Transform.{transformed}
 use Rattle.macros.specs.Grammar.{Piece, literal, escape, expand}
-use Rattle.macros.specs.declared.pieces.Braces.{Braces}
+use Rattle.macros.specs.declared.Given.{Given as Lent}
+use Rattle.macros.specs.declared.emit.Letters.{Letters as Values}
 
 -- what an expansion is given
 pub record Given : Type 0 where
@@ -25,6 +26,10 @@ pub record Given : Type 0 where
 abbrev pub given : (sender helo receiver domain p : List ℕ) → Address → ℕ → Given
 given sender helo receiver domain p client seconds =
     record { sender = sender; helo = helo; receiver = receiver; domain = domain; p = p; client = client; seconds = seconds }
+
+-- what the functions are given
+abbrev pub given_of : Lent → Given
+given_of g = given g.sender.now g.helo.now g.receiver.now g.domain.now g.p.now g.client g.seconds
 
 -- the @ of a sender
 abbrev pub is_at : ℕ → Bool
@@ -76,6 +81,10 @@ pub record Letters : Type 0 where
 abbrev pub letters : (s l o d i p v h c r t : List ℕ) → Letters
 letters s l o d i p v h c r t = record { s = s; l = l; o = o; d = d; i = i; p = p; v = v; h = h; c = c; r = r; t = t }
 
+-- the values that the functions pass on
+abbrev pub values_of : Values → Letters
+values_of x = letters x.s.now x.l.now x.o.now x.d.now x.i.now x.p.now x.v.now x.h.now x.c.now x.r.now x.t.now
+
 -- "s sender, l local part, o sender's domain, d current domain, i address .., p below, v `in-addr` or `ip6`, h HELO, c address .., r receiver ..,
 -- t seconds in decimal"; "IPv4-mapped clients count as IPv4, in expansion too"; "the public expansion takes the domain as given"
 unfoldable pub letters_of : Given → Letters
@@ -108,16 +117,6 @@ letter_value x b =
     (cond (eqb b 114) x.r
     x.t)))))))))
 
--- the same where the letter is none of s, l, o, d and i, for private functions
-unfoldable pub later_value : (p v h c r t : List ℕ) → ℕ → List ℕ
-later_value p v h c r t b =
-    cond (eqb b 112) p
-    (cond (eqb b 118) v
-    (cond (eqb b 104) h
-    (cond (eqb b 99) c
-    (cond (eqb b 114) r
-    t))))
-
 -- "`%%`, `%_`, `%-` give `%`, a space, `%20`"
 unfoldable pub escape_text : ℕ → List ℕ
 escape_text b = cond (eqb b 37) (bytes "%") (cond (eqb b 95) (bytes " ") (bytes "%20"))
@@ -127,10 +126,6 @@ unfoldable pub piece_text : Letters → Piece → List ℕ
 piece_text x (literal b) = b ∷ []
 piece_text x (escape b) = escape_text b
 piece_text x (expand m) = transformed m.digits m.reversed m.delimiters (is_upper m.letter) (letter_value x (lower m.letter))
-
--- the text of a macro in braces at the front of a text, for a value, for private functions
-unfoldable pub macro_text : List ℕ → Braces → List ℕ → List ℕ
-macro_text s m value = transformed (part s 3 m.digits) m.reversed (part s m.from m.to) (is_upper m.letter) value
 
 -- the text of pieces
 unfoldable pub text_of : Letters → List Piece → List ℕ

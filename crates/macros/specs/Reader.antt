@@ -1,6 +1,6 @@
 -- Macro strings as the code reads them: piece after piece from the front, total on any bytes. The laws say that this is what the productions
 -- make.
-use Rattle.std.specs.Prelude.{ℕ, zero, suc, ◌+◌, ◌-◌, List, [], ◌∷◌, Bool, true, false, cond, not, ◌&&◌, ◌||◌, length, drop, eqb}
+use Rattle.std.specs.Prelude.{ℕ, zero, suc, ◌+◌, ◌-◌, List, [], ◌∷◌, Bool, true, false, cond, not, ◌&&◌, ◌||◌, length, drop, eqb, Option, Some, None}
 use Rattle.text.specs.Bytes.{at, part, lower, is_dot, is_alphanumeric, is_digit, is_toplabel_byte, is_macro_literal, is_space}
 use Rattle.text.specs.Lists.{all, split}
 use Rattle.text.specs.Runs.{is_in, run_end}
@@ -28,36 +28,36 @@ unfoldable pub is_reverse : ℕ → Bool
 is_reverse b = eqb (lower b) 114
 
 -- the macro in braces at the front, with its digits up to d: whether r follows, then the delimiters, then the brace
-unfoldable pub closed_at : List ℕ → ℕ → Bool → ℕ → ℕ → Found
+unfoldable pub closed_at : List ℕ → ℕ → Bool → ℕ → ℕ → Option Found
 closed_at s d reversed from to =
-    cond (eqb (at s to) 125) (Found.Expand (record { letter = at s 2; digits = d; reversed = reversed; from = from; to = to })) Found.Bad
+    cond (eqb (at s to) 125) (Some (Found.Expand (record { letter = at s 2; digits = d; reversed = reversed; delimiters = record { from = from; to = to } }))) None
 
-unfoldable pub delimiters_at : List ℕ → ℕ → Bool → ℕ → Found
+unfoldable pub delimiters_at : List ℕ → ℕ → Bool → ℕ → Option Found
 delimiters_at s d reversed from = closed_at s d reversed from (run_end (is_in Delimiter) s from)
 
-unfoldable pub reversal_at : List ℕ → ℕ → Found
+unfoldable pub reversal_at : List ℕ → ℕ → Option Found
 reversal_at s d = cond (is_reverse (at s d)) (delimiters_at s d true (d + 1)) (delimiters_at s d false d)
 
-unfoldable pub digits_at : List ℕ → ℕ → Found
-digits_at s d = cond (is_part_count (part s 3 d)) (reversal_at s d) Found.Bad
+unfoldable pub digits_at : List ℕ → ℕ → Option Found
+digits_at s d = cond (is_part_count (part s 3 d)) (reversal_at s d) None
 
-unfoldable pub braces_of : Form → List ℕ → Found
-braces_of form s = cond (is_letter form (at s 2)) (digits_at s (run_end (is_in Digit) s 3)) Found.Bad
+unfoldable pub braces_of : Form → List ℕ → Option Found
+braces_of form s = cond (is_letter form (at s 2)) (digits_at s (run_end (is_in Digit) s 3)) None
 
--- the piece at the front
-unfoldable pub piece_of : Form → List ℕ → Found
+-- the piece at the front; none at the end, and where what stands there is none
+unfoldable pub piece_of : Form → List ℕ → Option Found
 piece_of form s =
-    cond (eqb (length s) 0) Found.End
+    cond (eqb (length s) 0) None
     (cond (eqb (at s 0) 37)
-    (cond (is_escape (at s 1)) (Found.Escape (at s 1)) (cond (eqb (at s 1) 123) (braces_of form s) Found.Bad))
-    (cond (is_literal form (at s 0)) (Found.Literal (at s 0)) Found.Bad))
+    (cond (is_escape (at s 1)) (Some (Found.Escape (at s 1))) (cond (eqb (at s 1) 123) (braces_of form s) None))
+    (cond (is_literal form (at s 0)) (Some (Found.Literal (at s 0))) None))
 
 -- a macro in braces in the grammar's words
 unfoldable pub macro_of : List ℕ → Braces → Macro
 macro_of s m =
-    record { letter = m.letter; digits = part s 3 m.digits; reversed = m.reversed; delimiters = part s m.from m.to }
+    record { letter = m.letter; digits = part s 3 m.digits; reversed = m.reversed; delimiters = part s m.delimiters.from m.delimiters.to }
 
--- the pieces up to the end or to the first that is none, and whether that is the end; at most f of them
+-- the pieces up to the end or to where none stands, and whether that is the end; at most f of them
 pub record Pieces : Type 0 where
   pub list : List Piece
   pub whole : Bool
@@ -65,12 +65,11 @@ pub record Pieces : Type 0 where
 abbrev pub push : Piece → Pieces → Pieces
 push p ps = record { list = p ∷ ps.list; whole = ps.whole }
 
-unfoldable pub pieces_after : List ℕ → Found → (List ℕ → Pieces) → Pieces
-pieces_after s Found.End rest = record { list = []; whole = true }
-pieces_after s Found.Bad rest = record { list = []; whole = false }
-pieces_after s (Found.Literal b) rest = push (literal b) (rest (drop 1 s))
-pieces_after s (Found.Escape b) rest = push (escape b) (rest (drop 2 s))
-pieces_after s (Found.Expand m) rest = push (expand (macro_of s m)) (rest (drop (m.to + 1) s))
+unfoldable pub pieces_after : List ℕ → Option Found → (List ℕ → Pieces) → Pieces
+pieces_after s None rest = record { list = []; whole = eqb (length s) 0 }
+pieces_after s (Some (Found.Literal b)) rest = push (literal b) (rest (drop 1 s))
+pieces_after s (Some (Found.Escape b)) rest = push (escape b) (rest (drop 2 s))
+pieces_after s (Some (Found.Expand m)) rest = push (expand (macro_of s m)) (rest (drop (m.delimiters.to + 1) s))
 
 unfoldable pub pieces_from : ℕ → Form → List ℕ → Pieces
 pieces_from zero form s = record { list = []; whole = false }

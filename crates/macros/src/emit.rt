@@ -1,155 +1,102 @@
-// The text of a macro string, piece after piece, into a lent buffer.
+// The text of a macro string, piece after piece, by a writer.
+ghost use Rattle.std.specs.Prelude.{◌≡◌};
 ghost use Rattle.text.specs.Bytes.{lower};
-ghost use Rattle.text.specs.Writing.{Wrote};
+ghost use Rattle.text.specs.Writing.{Writes};
 ghost use Rattle.macros.specs.Grammar.{expand};
 ghost use Rattle.macros.specs.Reader.{macro_of, pieces};
-ghost use Rattle.macros.specs.Expansion.{letters, later_value, escape_text, macro_text, piece_text, text_of};
+ghost use Rattle.macros.specs.Expansion.{values_of, letter_value, escape_text, piece_text, text_of};
 
 use crate::pieces::{Braces, Found};
 use crate::{Form, pieces};
+use text::bytes;
 use text::bytes::Class;
-use text::{bytes, writing};
+use text::writing::Writer;
+
+// The value of each letter.
+#[derive(Clone, Copy)]
+pub struct Letters<'a> {
+    pub s: &'a [u8],
+    pub l: &'a [u8],
+    pub o: &'a [u8],
+    pub d: &'a [u8],
+    pub i: &'a [u8],
+    pub p: &'a [u8],
+    pub v: &'a [u8],
+    pub h: &'a [u8],
+    pub c: &'a [u8],
+    pub r: &'a [u8],
+    pub t: &'a [u8],
+}
+
+impl<'a> Letters<'a> {
+    // The value of a letter in either case; a letter that is none of the others counts as t.
+    fn value(&self, letter: u8) -> &'a [u8]
+        ensures { result.now ≡ letter_value (values_of self.now) (lower letter) }
+    {
+        match bytes::to_lower(letter) {
+            b's' => self.s,
+            b'l' => self.l,
+            b'o' => self.o,
+            b'd' => self.d,
+            b'i' => self.i,
+            b'p' => self.p,
+            b'v' => self.v,
+            b'h' => self.h,
+            b'c' => self.c,
+            b'r' => self.r,
+            _ => self.t,
+        }
+    }
+}
 
 // Writes the text of `%%`, `%_` or `%-`.
-fn put_escape(b: u8, out: &mut [u8], at: usize) -> usize
-    ensures { Wrote (escape_text b) out.old at out.new result }
+fn put_escape(b: u8, out: &mut Writer)
+    ensures { Writes (escape_text b) out.old out.new }
 {
-    if b == 37 {
-        return writing::put(out, at, 37);
+    match b {
+        b'%' => out.put(b'%'),
+        b'_' => out.put(b' '),
+        _ => out.put_all(b"%20"),
     }
-    if b == 95 {
-        return writing::put(out, at, 32);
-    }
-    writing::put_all(b"%20", out, at)
 }
 
-// Writes a value through the transformers of the macro in braces at the front of a text.
-fn put_value(value: &[u8], text: &[u8], m: Braces, out: &mut [u8], at: usize) -> usize
-    ensures { Wrote (macro_text text.now m value.now) out.old at out.new result }
+// Writes the text of the macro in braces at the front of a text: its letter's value through its transformers.
+fn put_macro(text: &[u8], m: Braces, letters: &Letters, out: &mut Writer)
+    ensures { Writes (piece_text (values_of letters.now) (expand (macro_of text.now m))) out.old out.new }
 {
     let digits = bytes::part(text, 3, m.digits);
-    let delimiters = bytes::part(text, m.from, m.to);
     let escape = bytes::is_in(Class::Upper, m.letter);
-    transformers::transform(value, digits, m.reversed, delimiters, escape, out, at)
-}
-
-// Writes the text of the macro in braces at the front of a text, whose letter is none of s, l, o, d and i.
-fn put_later_macro(
-    text: &[u8],
-    m: Braces,
-    p: &[u8],
-    v: &[u8],
-    h: &[u8],
-    c: &[u8],
-    r: &[u8],
-    t: &[u8],
-    out: &mut [u8],
-    at: usize,
-) -> usize
-    ensures { Wrote (macro_text text.now m (later_value p.now v.now h.now c.now r.now t.now (lower m.letter))) out.old at out.new result }
-{
-    let letter = bytes::to_lower(m.letter);
-    if letter == 112 {
-        return put_value(p, text, m, out, at);
-    }
-    if letter == 118 {
-        return put_value(v, text, m, out, at);
-    }
-    if letter == 104 {
-        return put_value(h, text, m, out, at);
-    }
-    if letter == 99 {
-        return put_value(c, text, m, out, at);
-    }
-    if letter == 114 {
-        return put_value(r, text, m, out, at);
-    }
-    put_value(t, text, m, out, at)
-}
-
-// Writes the text of the macro in braces at the front of a text.
-fn put_macro(
-    text: &[u8],
-    m: Braces,
-    s: &[u8],
-    l: &[u8],
-    o: &[u8],
-    d: &[u8],
-    i: &[u8],
-    p: &[u8],
-    v: &[u8],
-    h: &[u8],
-    c: &[u8],
-    r: &[u8],
-    t: &[u8],
-    out: &mut [u8],
-    at: usize,
-) -> usize
-    ensures { Wrote (piece_text (letters s.now l.now o.now d.now i.now p.now v.now h.now c.now r.now t.now) (expand (macro_of text.now m))) out.old at out.new result }
-{
-    let letter = bytes::to_lower(m.letter);
-    if letter == 115 {
-        return put_value(s, text, m, out, at);
-    }
-    if letter == 108 {
-        return put_value(l, text, m, out, at);
-    }
-    if letter == 111 {
-        return put_value(o, text, m, out, at);
-    }
-    if letter == 100 {
-        return put_value(d, text, m, out, at);
-    }
-    if letter == 105 {
-        return put_value(i, text, m, out, at);
-    }
-    put_later_macro(text, m, p, v, h, c, r, t, out, at)
+    transformers::transform(
+        letters.value(m.letter),
+        digits,
+        m.reversed,
+        m.delimiters.of(text),
+        escape,
+        out,
+    );
 }
 
 // Writes the text of the pieces up to the end or to the first that is none.
-pub fn put_text(
-    form: Form,
-    text: &[u8],
-    s: &[u8],
-    l: &[u8],
-    o: &[u8],
-    d: &[u8],
-    i: &[u8],
-    p: &[u8],
-    v: &[u8],
-    h: &[u8],
-    c: &[u8],
-    r: &[u8],
-    t: &[u8],
-    out: &mut [u8],
-    at: usize,
-) -> usize
-    ensures { Wrote (text_of (letters s.now l.now o.now d.now i.now p.now v.now h.now c.now r.now t.now) (pieces form text.now).list) out.old at out.new result }
+pub fn put_text(form: Form, text: &[u8], letters: &Letters, out: &mut Writer)
+    ensures { Writes (text_of (values_of letters.now) (pieces form text.now).list) out.old out.new }
 {
-    let mut next = at;
-    let mut from = 0;
-    while from < text.len() {
-        match pieces::read_piece(form, &text[from..]) {
+    // Read so that its bound is known, which a text without pieces needs.
+    let _start = out.at;
+    let mut rest = text;
+    while let Some(found) = pieces::read_piece(form, rest) {
+        match found {
             Found::Literal(b) => {
-                next = writing::put(out, next, b);
-                from += 1;
+                out.put(b);
+                rest = &rest[1..];
             }
             Found::Escape(b) => {
-                next = put_escape(b, out, next);
-                from += 2;
+                put_escape(b, out);
+                rest = &rest[2..];
             }
             Found::Expand(m) => {
-                let to = m.to;
-                next = put_macro(&text[from..], m, s, l, o, d, i, p, v, h, c, r, t, out, next);
-                from += to + 1;
-            }
-            Found::End => {
-                return next;
-            }
-            Found::Bad => {
-                return next;
+                put_macro(rest, m, letters, out);
+                rest = &rest[m.delimiters.to + 1..];
             }
         }
     }
-    next
 }

@@ -1,23 +1,21 @@
 // Macro strings: their grammar and their expansion.
 #![tactic(auto)]
 
-ghost use Rattle.std.specs.Prelude.{◌≤◌, ◌≡◌, true, ◌&&◌, ◌||◌, List, ◌↔◌, length, eqb};
-ghost use Rattle.text.specs.Bytes.{lower};
+ghost use Rattle.std.specs.Prelude.{◌≤◌, ◌≡◌, true, List, ◌↔◌, length};
 ghost use Rattle.macros.specs.Grammar.{Piece, Produces};
 ghost use Rattle.macros.specs.Reader.{pieces, scan_of, is_macro_string, uses_p};
 ghost use Rattle.domain.specs.Normal.{name_answer, name_buffer};
-ghost use Rattle.address_text.specs.Digits.{in_decimal};
-ghost use Rattle.address_text.specs.Forms.{dotted, readable, family};
-ghost use Rattle.macros.specs.Expansion.{given, letters, receiver_name, letters_of, text_of, is_short};
-ghost use Rattle.macros.specs.Numbers.{fitted, outcome, Says};
+ghost use Rattle.macros.specs.Expansion.{given_of, values_of, letters_of, text_of};
+ghost use Rattle.macros.specs.Numbers.{number_of, fitted, outcome, Says};
 ghost use Rattle.macros.specs.Answers.{Answered};
 ghost use Rattle.macros.specs.Question.{question_name};
 
 use address::Address;
-use domain::Name;
+use emit::Letters;
 use pieces::Found;
 use text::bytes;
 use text::bytes::Class;
+use text::writing::Writer;
 
 pub mod emit;
 pub mod endings;
@@ -41,40 +39,27 @@ pub struct Summary {
     pub asks: bool,
 }
 
-// Whether a letter is p, or p has stood before.
-fn or_p(before: bool, letter: u8) -> bool
-    ensures { result ≡ (before || eqb (lower letter) 112) }
-{
-    if before {
-        return true;
-    }
-    bytes::to_lower(letter) == 112
-}
-
-fn summed(whole: bool, expands: bool, asks: bool) -> Summary
-    ensures { result ≡ record { whole = whole; expands = expands; asks = asks } }
-{
-    Summary {
-        whole,
-        expands,
-        asks,
-    }
-}
-
-// One walk over the pieces of a text; bytes that stand for themselves are passed in runs.
+// One walk over the pieces of a text. By places and not piece by piece, which is no plainer here: bytes that stand for themselves are passed in runs.
 fn scan(form: Form, text: &[u8]) -> Summary
     ensures { result ≡ scan_of form text.now }
 {
     let mut at = 0;
     let mut expands = false;
-    let mut uses_p = false;
+    let mut asks = false;
     while at < text.len() {
         let plain = bytes::run_end(text, at, Class::MacroLiteral);
         if at < plain {
             at = plain;
             expands = false;
         } else {
-            match pieces::read_piece(form, &text[at..]) {
+            let Some(found) = pieces::read_piece(form, &text[at..]) else {
+                return Summary {
+                    whole: false,
+                    expands,
+                    asks,
+                };
+            };
+            match found {
                 Found::Literal(_) => {
                     at += 1;
                     expands = false;
@@ -84,21 +69,18 @@ fn scan(form: Form, text: &[u8]) -> Summary
                     expands = true;
                 }
                 Found::Expand(m) => {
-                    let to = m.to;
-                    at += to + 1;
+                    at += m.delimiters.to + 1;
                     expands = true;
-                    uses_p = or_p(uses_p, m.letter);
-                }
-                Found::End => {
-                    return summed(true, expands, uses_p);
-                }
-                Found::Bad => {
-                    return summed(false, expands, uses_p);
+                    asks |= bytes::to_lower(m.letter) == b'p';
                 }
             }
         }
     }
-    summed(true, expands, uses_p)
+    Summary {
+        whole: true,
+        expands,
+        asks,
+    }
 }
 
 // Whether a text is a macro string of the form.
@@ -107,223 +89,148 @@ pub fn read_macro_string(form: Form, text: &[u8]) -> bool
     ensures variant { (result ≡ true) ↔ ((ps : List Piece) × Produces form text.now ps) }
 {
     let told = scan(form, text);
-    if told.whole {
-        match form {
-            Form::DomainSpec => {
-                if told.expands {
-                    return true;
-                }
-                return endings::ends_in_label(text);
-            }
-            Form::ModifierValue => {
-                return true;
-            }
-            Form::Explanation => {
-                return true;
-            }
+    told.whole
+        && match form {
+            Form::DomainSpec => told.expands || endings::ends_in_label(text),
+            Form::ModifierValue | Form::Explanation => true,
         }
-    }
-    false
 }
 
 // Whether a text has a p macro.
 pub fn uses_p(form: Form, text: &[u8]) -> bool
     ensures { result ≡ uses_p form text.now }
 {
-    let told = scan(form, text);
-    told.asks
+    scan(form, text).asks
 }
 
-// What an expansion answers: the written length, or a refusal's number.
+// What an expansion is given.
 #[derive(Clone, Copy)]
-pub enum Expanded {
-    Written(usize),
-    Refused(u8),
+pub struct Given<'a> {
+    pub sender: &'a [u8],
+    pub helo: &'a [u8],
+    pub receiver: &'a [u8],
+    pub domain: &'a [u8],
+    pub p: &'a [u8],
+    pub client: Address,
+    pub seconds: u64,
 }
 
-// Whether two texts are a domain and a p value.
-fn are_short(domain: &[u8], p: &[u8]) -> bool
-    ensures { result ≡ (is_short domain.now && is_short p.now) }
-{
-    if values::is_short(domain) {
-        return values::is_short(p);
+// Why a text isn't expanded.
+#[derive(Clone, Copy, PartialEq, Eq)]
+pub enum ExpandError {
+    Sender,
+    Host,
+    TooLong,
+    NoMacroString,
+    NoRoom,
+}
+
+impl ExpandError {
+    // The refusal's number.
+    pub fn number(self) -> u8
+        ensures { result ≡ number_of self }
+    {
+        match self {
+            ExpandError::Sender => 20,
+            ExpandError::Host => 21,
+            ExpandError::TooLong => 22,
+            ExpandError::NoMacroString => 40,
+            ExpandError::NoRoom => 41,
+        }
     }
-    false
 }
 
 // Measures the text of the pieces, and writes it if it fits.
 fn write_fitting(
     form: Form,
     text: &[u8],
-    s: &[u8],
-    l: &[u8],
-    o: &[u8],
-    d: &[u8],
-    i: &[u8],
-    p: &[u8],
-    v: &[u8],
-    h: &[u8],
-    c: &[u8],
-    r: &[u8],
-    t: &[u8],
+    letters: &Letters,
     out: &mut [u8],
-) -> Expanded
-    ensures { Says (fitted (text_of (letters s.now l.now o.now d.now i.now p.now v.now h.now c.now r.now t.now) (pieces form text.now).list) (length out.old)) result out.old out.new }
+) -> Result<usize, ExpandError>
+    ensures { Says (fitted (text_of (values_of letters.now) (pieces form text.now).list) (length out.old)) result out.old out.new }
 {
     let mut scratch = [0u8; 1];
-    let n = emit::put_text(form, text, s, l, o, d, i, p, v, h, c, r, t, &mut scratch, 0);
-    if n <= out.len() {
-        emit::put_text(form, text, s, l, o, d, i, p, v, h, c, r, t, out, 0);
-        return Expanded::Written(n);
+    let mut measured = Writer::new(&mut scratch);
+    emit::put_text(form, text, letters, &mut measured);
+    if out.len() < measured.at {
+        return Err(ExpandError::NoRoom);
     }
-    Expanded::Refused(41)
+    let mut w = Writer::new(out);
+    emit::put_text(form, text, letters, &mut w);
+    Ok(w.at)
 }
 
-// The same with `unknown` for an empty receiver.
-fn write_with_receiver(
-    form: Form,
-    text: &[u8],
-    s: &[u8],
-    l: &[u8],
-    o: &[u8],
-    d: &[u8],
-    i: &[u8],
-    p: &[u8],
-    v: &[u8],
-    h: &[u8],
-    c: &[u8],
-    receiver: &[u8],
-    t: &[u8],
-    out: &mut [u8],
-) -> Expanded
-    ensures { Says (fitted (text_of (letters s.now l.now o.now d.now i.now p.now v.now h.now c.now (receiver_name receiver.now) t.now) (pieces form text.now).list) (length out.old)) result out.old out.new }
-{
-    if receiver.len() == 0 {
-        return write_fitting(form, text, s, l, o, d, i, p, v, h, c, b"unknown", t, out);
-    }
-    write_fitting(form, text, s, l, o, d, i, p, v, h, c, receiver, t, out)
-}
-
-// The same with the texts of the client's address and of the time.
-fn write_with_client(
-    form: Form,
-    text: &[u8],
-    s: &[u8],
-    l: &[u8],
-    o: &[u8],
-    d: &[u8],
-    p: &[u8],
-    h: &[u8],
-    receiver: &[u8],
-    client: Address,
-    seconds: u64,
-    out: &mut [u8],
-) -> Expanded
-    ensures { Says (fitted (text_of (letters s.now l.now o.now d.now (dotted client) p.now (family client) h.now (readable client) (receiver_name receiver.now) (in_decimal seconds)) (pieces form text.now).list) (length out.old)) result out.old out.new }
-{
-    let mut address = [0u8; 63];
-    let i = address_text::put_dotted(client, &mut address, 0);
-    let mut family = [0u8; 7];
-    let v = address_text::put_family(client, &mut family, 0);
-    let mut readable = [0u8; 39];
-    let c = address_text::put_readable(client, &mut readable, 0);
-    let mut time = [0u8; 20];
-    let t = address_text::put_decimal(seconds, &mut time, 0);
-    write_with_receiver(
-        form,
-        text,
-        s,
-        l,
-        o,
-        d,
-        &address[..i],
-        p,
-        &family[..v],
-        h,
-        &readable[..c],
-        receiver,
-        &time[..t],
-        out,
-    )
-}
-
-// Measures the expansion of a text's pieces, and writes it if it fits; the values are not tested.
+// Measures the expansion of a text's pieces, and writes it if it fits; the values are not tested. The values of letters that aren't given stand one after the
+// other in 460 bytes: the sender up to 331, then the address, its family, its readable form and the time up to 63, 7, 39 and 20.
 pub fn write_expansion(
     form: Form,
     text: &[u8],
-    sender: &[u8],
-    helo: &[u8],
-    receiver: &[u8],
-    domain: &[u8],
-    p: &[u8],
-    client: Address,
-    seconds: u64,
+    given: &Given,
     out: &mut [u8],
-) -> Expanded
-    requires { length sender.now ≤ 320 }
-    ensures { Says (fitted (text_of (letters_of (given sender.now helo.now receiver.now domain.now p.now client seconds)) (pieces form text.now).list) (length out.old)) result out.old out.new }
+) -> Result<usize, ExpandError>
+    requires { length given.now.sender.now ≤ 320 }
+    ensures { Says (fitted (text_of (letters_of (given_of given.now)) (pieces form text.now).list) (length out.old)) result out.old out.new }
 {
-    let mut whole = [0u8; 331];
-    let s = values::put_sender(sender, &mut whole, 0);
-    let mut local = [0u8; 320];
-    let l = values::put_local(sender, &mut local, 0);
-    let o = values::sender_domain(sender);
-    write_with_client(
-        form,
-        text,
-        &whole[..s],
-        &local[..l],
-        o,
-        domain,
-        p,
-        helo,
-        receiver,
-        address::as_client(client),
-        seconds,
-        out,
-    )
+    let client = address::as_client(given.client);
+    let domain = values::sender_domain(given.sender);
+    let mut texts = [0u8; 460];
+    let mut w = Writer::new(&mut texts);
+    values::put_local(given.sender, &mut w);
+    let local_end = w.at;
+    w.put(b'@');
+    w.put_all(domain);
+    let sender_end = w.at;
+    address_text::put_dotted(client, &mut w);
+    let address_end = w.at;
+    address_text::put_family(client, &mut w);
+    let family_end = w.at;
+    address_text::put_readable(client, &mut w);
+    let readable_end = w.at;
+    address_text::put_decimal(given.seconds, &mut w);
+    let time_end = w.at;
+    let letters = Letters {
+        s: bytes::part(&texts, 0, sender_end),
+        l: bytes::part(&texts, 0, local_end),
+        o: domain,
+        d: given.domain,
+        i: bytes::part(&texts, sender_end, address_end),
+        p: given.p,
+        v: bytes::part(&texts, address_end, family_end),
+        h: given.helo,
+        c: bytes::part(&texts, family_end, readable_end),
+        r: values::receiver_name(given.receiver),
+        t: bytes::part(&texts, readable_end, time_end),
+    };
+    write_fitting(form, text, &letters, out)
 }
 
 // Expands a text of a form: 20, 21, 22, 40, 41, or its expansion at the front of the buffer.
-pub fn expand(
-    form: Form,
-    text: &[u8],
-    sender: &[u8],
-    helo: &[u8],
-    receiver: &[u8],
-    domain: &[u8],
-    p: &[u8],
-    client: Address,
-    seconds: u64,
-    out: &mut [u8],
-) -> Expanded
-    ensures says { Says (outcome form text.now (given sender.now helo.now receiver.now domain.now p.now client seconds) (length out.old)) result out.old out.new }
-    ensures answered { Answered form text.now (given sender.now helo.now receiver.now domain.now p.now client seconds) result out.old out.new }
+pub fn expand(form: Form, text: &[u8], given: &Given, out: &mut [u8]) -> Result<usize, ExpandError>
+    ensures says { Says (outcome form text.now (given_of given.now) (length out.old)) result out.old out.new }
+    ensures answered { Answered form text.now (given_of given.now) result out.old out.new }
 {
-    if values::is_sender(sender) {
-        if values::are_hosts(helo, receiver) {
-            if are_short(domain, p) {
-                if read_macro_string(form, text) {
-                    return write_expansion(
-                        form, text, sender, helo, receiver, domain, p, client, seconds, out,
-                    );
-                }
-                return Expanded::Refused(40);
-            }
-            return Expanded::Refused(22);
-        }
-        return Expanded::Refused(21);
+    if !values::is_sender(given.sender) {
+        return Err(ExpandError::Sender);
     }
-    Expanded::Refused(20)
+    if !values::are_hosts(given.helo, given.receiver) {
+        return Err(ExpandError::Host);
+    }
+    if !values::are_short(given.domain, given.p) {
+        return Err(ExpandError::TooLong);
+    }
+    if !read_macro_string(form, text) {
+        return Err(ExpandError::NoMacroString);
+    }
+    write_expansion(form, text, given, out)
 }
 
 // Writes the question name of an expansion: over 4,096 bytes is malformed; one trailing dot is dropped; labels leave from the left; lowered.
-pub fn question_name(text: &[u8], out: &mut [u8]) -> Name
+pub fn question_name(text: &[u8], out: &mut [u8]) -> Option<usize>
     ensures value { result ≡ name_answer (question_name text.now) }
     ensures out_after { out.new ≡ name_buffer (question_name text.now) out.old }
 {
     if 4096 < text.len() {
-        return Name::Malformed;
+        return None;
     }
     domain::write_lowered(domain::shorten(domain::without_dot(text)), out)
 }

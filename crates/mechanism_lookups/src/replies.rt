@@ -1,102 +1,51 @@
 // What a question of a, mx, ptr or exists comes to: no answer yet, a failed one, a void one, or items.
 ghost use Rattle.std.specs.Prelude.{◌≤◌, ◌≡◌};
-ghost use Rattle.answer_table.specs.Reader.{items_of};
-ghost use Rattle.rules.specs.Mechanisms.{any_matches};
-ghost use Rattle.mechanism_lookups.specs.Steps.{Unanswered, void_answer, match_answer, AskedIs};
+ghost use Rattle.mechanism_lookups.specs.Steps.{CountsVoid, AskedIs};
 
-use crate::Asked;
-use address::Address;
-use answer_table::Found;
-use rules::{Counts, Ending, Life, Matched, Stepped};
+use rules::{Counts, Ending, Progress};
 use text::bytes;
 
-// A question without an entry: its name is written.
-fn missing(kind: u16, name: &[u8], counts: Counts, life: Life, out: &mut [u8]) -> Stepped
-    ensures { Unanswered kind name.now counts life result out.old out.new }
-{
-    client_match::want(name, out);
-    Stepped {
-        matched: Matched::Stop(Ending::Wanting {
-            kind,
-            length: name.len(),
-        }),
-        counts,
-        life,
-    }
+// A question's answer: it failed; it is void, which is counted; or its items.
+#[derive(Clone, Copy)]
+pub enum Asked<'a> {
+    Failed,
+    Void,
+    Items(&'a [u8]),
 }
 
 // A void answer is counted, and the third ends the check.
 #[tactic(auto, using(crate::proofs::Laws::Replies::void_few, crate::proofs::Laws::Replies::void_third))]
-fn void(counts: Counts, life: Life) -> Stepped
-    requires { counts.voids ≤ 2 }
-    ensures { result ≡ void_answer counts life }
+fn count_void(counts: &mut Counts) -> Result<(), Ending>
+    requires { counts.old.voids ≤ 2 }
+    ensures { CountsVoid counts.old counts.new result }
 {
-    let after = Counts {
-        lookups: counts.lookups,
-        voids: counts.voids + 1,
-    };
-    if counts.voids < 2 {
-        return Stepped {
-            matched: Matched::No,
-            counts: after,
-            life,
-        };
-    }
-    Stepped {
-        matched: Matched::Stop(Ending::Result(6)),
-        counts: after,
-        life,
+    counts.voids += 1;
+    if counts.voids < 3 {
+        Ok(())
+    } else {
+        Err(Ending::Result(6))
     }
 }
 
-// Asks a question: without an entry its name is written, and a void answer is counted. An entry's lifetime is taken in, whatever its answer.
-pub fn ask(
-    table: &[u8],
+// Asks a question: without an entry its name is written, and a void answer is counted.
+pub fn ask<'a>(
+    table: &'a [u8],
     kind: u16,
     name: &[u8],
-    counts: Counts,
-    life: Life,
+    progress: &mut Progress,
     out: &mut [u8],
-) -> Asked
-    requires { counts.voids ≤ 2 }
-    ensures { AskedIs table.now counts life kind name.now out.old out.new result }
+) -> Result<Asked<'a>, Ending>
+    requires { progress.old.counts.voids ≤ 2 }
+    ensures { AskedIs table.now kind name.now progress.old progress.new result out.old out.new }
 {
-    let Found::Entry {
-        status,
-        lifetime,
-        start,
-        end,
-    } = answer_table::find(table, kind, name)
-    else {
-        return Asked::Ended(missing(kind, name, counts, life, out));
-    };
-    let met = client_match::sooner(life, lifetime);
-    if status == 2 {
-        return Asked::Failed(met);
+    let found = client_match::look_up(table, kind, name, progress, out)?;
+    if found.status == 2 {
+        return Ok(Asked::Failed);
     }
-    if bytes::part(table, start, end).len() == 0 {
-        return Asked::Ended(void(counts, met));
+    let items = bytes::part(table, found.start, found.end);
+    if items.len() == 0 {
+        count_void(&mut progress.counts)?;
+        return Ok(Asked::Void);
     }
-    Asked::Items {
-        start,
-        end,
-        life: met,
-    }
-}
-
-// Whether any address of an answer matches the client.
-pub fn addresses(
-    client: Address,
-    length: usize,
-    items: &[u8],
-    counts: Counts,
-    life: Life,
-) -> Stepped
-    ensures { result ≡ match_answer (any_matches client length (items_of items.now)) counts life }
-{
-    crate::matched(
-        client_match::any_matches(client, length, items),
-        counts,
-        life,
-    )
+    Ok(Asked::Items(items))
 }

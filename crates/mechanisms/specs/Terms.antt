@@ -1,5 +1,5 @@
 -- The own questions of each mechanism, and what a term comes to that is no include.
-use Rattle.std.specs.Prelude.{ℕ, ◌≡◌, List, Bool, cond}
+use Rattle.std.specs.Prelude.{ℕ, ◌≡◌, List, cond, eqb, Ok, Err, Result as Outcome}
 use Rattle.text.specs.Bytes.{part}
 use Rattle.address.specs.declared.Address.{Address}
 use Rattle.address.specs.declared.Address.TheVariants.{IPv4, IPv6}
@@ -7,11 +7,12 @@ use Rattle.records.specs.Readings.{Optional, absent, present}
 use Rattle.records.specs.Numbers.{said_of}
 use Rattle.records.specs.declared.Term.{Term}
 use Rattle.rules.specs.declared.Counts.{Counts}
-use Rattle.rules.specs.declared.Life.{Life}
-use Rattle.rules.specs.Tree.{Table, Check, run}
+use Rattle.rules.specs.declared.Progress.{Progress}
+use Rattle.rules.specs.declared.Ending.{Ending}
+use Rattle.rules.specs.Tree.{Check}
 use Rattle.rules.specs.Mechanisms.{Mail, Step, ask_a, ask_exists, ask_mx, ask_ptr}
 use Rattle.rules.specs.Evaluation.{Sub, include_step, term_step}
-use Rattle.rules.specs.Outcomes.{SaysStep}
+use Rattle.rules.specs.Outcomes.{Unchanged, Steps}
 use Rattle.mechanisms.specs.declared.Question.{Question}
 use Rattle.mechanisms.specs.declared.Tried.{Tried}
 
@@ -27,12 +28,14 @@ unfoldable pub length_of : Address → ℕ → ℕ → ℕ
 length_of (IPv4 v) four six = four
 length_of (IPv6 h l) four six = six
 
--- a domain-spec that a term may have
-abbrev pub spec_if : Bool → List ℕ → Optional (List ℕ)
-spec_if given spec = cond given (present spec) absent
+-- that of an `a`, `mx` or `ptr`: none where its places are equal
+abbrev pub given_at : List ℕ → ℕ → ℕ → Optional (List ℕ)
+given_at w from to = cond (eqb from to) absent (present (part w from to))
 
--- what a term of the text w comes to, whatever the check one level down: its step; or it is an include, with its domain-spec's places in w
-unfoldable pub TriedIs : Table → Mail → List ℕ → List ℕ → Term → Counts → Life → (before after : List ℕ) → Tried → Type 0
-TriedIs t mail d w x c l before after (Tried.Step r) = (sub : Sub) → SaysStep (run t l (term_step mail sub d (said_of w x) (said_of w x).sign c)) r before after
-TriedIs t mail d w x c l before after (Tried.Include from to) =
-    (after ≡ before) × ((sub : Sub) → term_step mail sub d (said_of w x) (said_of w x).sign c ≡ include_step mail sub d (part w from to) c)
+-- what a term of the text w comes to, whatever the check one level down: whether it matches, or what ends the check; or it is an include, with its
+-- domain-spec's places in w
+unfoldable pub TriedIs : (t : List ℕ) → Mail → List ℕ → List ℕ → Term → (p q : Progress) → Outcome Tried Ending → (before after : List ℕ) → Type 0
+TriedIs t mail d w x p q (Ok (Tried.Matches r)) b a = (sub : Sub) → Steps t (term_step mail sub d (said_of w x) (said_of w x).sign p.counts) p q (Ok r) b a
+TriedIs t mail d w x p q (Err e) b a = (sub : Sub) → Steps t (term_step mail sub d (said_of w x) (said_of w x).sign p.counts) p q (Err e) b a
+TriedIs t mail d w x p q (Ok (Tried.Include s)) b a =
+    Unchanged p q b a × ((sub : Sub) → term_step mail sub d (said_of w x) (said_of w x).sign p.counts ≡ include_step mail sub d (part w s.from s.to) p.counts)

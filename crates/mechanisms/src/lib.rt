@@ -1,18 +1,18 @@
 // The mechanisms: what a term comes to that is no include.
 #![tactic(auto)]
 
-ghost use Rattle.std.specs.Prelude.{◌≤◌, ◌≡◌, true, false, cond, eqb, length};
-ghost use Rattle.rules.specs.Tree.{run};
-ghost use Rattle.rules.specs.Tables.{table_in};
+ghost use Rattle.std.specs.Prelude.{◌≤◌, ◌≡◌, length};
 ghost use Rattle.rules.specs.Mechanisms.{counted_step};
-ghost use Rattle.rules.specs.Outcomes.{mail_of, SaysStep};
-ghost use Rattle.mechanisms.specs.Terms.{asker, length_of, spec_if, TriedIs};
+ghost use Rattle.rules.specs.Outcomes.{mail_in, Steps};
+ghost use Rattle.target_name.specs.Choosing.{spec_of};
+ghost use Rattle.mechanisms.specs.Terms.{asker, length_of, given_at, TriedIs};
 
 use address::Address;
 use domain::MOST_NAME;
 use records::Term;
-use rules::{Counts, Ending, Life, Matched, Stepped, Target};
+use rules::{Ending, Mail, Progress};
 use text::bytes;
+use text::spans::Span;
 
 // A mechanism that asks for a name.
 #[derive(Clone, Copy)]
@@ -23,11 +23,11 @@ pub enum Question {
     Exists,
 }
 
-// What a term comes to: its step; or it is an include, whose domain-spec stands in the term's text from a place to another.
+// What a term comes to: whether it matches; or it is an include, whose domain-spec stands in the term's text.
 #[derive(Clone, Copy)]
 pub enum Tried {
-    Step(Stepped),
-    Include { from: usize, to: usize },
+    Matches(bool),
+    Include(Span),
 }
 
 // The own questions of a mechanism.
@@ -37,18 +37,17 @@ fn ask(
     prefix: usize,
     table: &[u8],
     name: &[u8],
-    counts: Counts,
-    life: Life,
+    progress: &mut Progress,
     out: &mut [u8],
-) -> Stepped
-    requires { counts.voids ≤ 2 }
-    ensures { SaysStep (run (table_in table.now) life (asker question client prefix counts name.now)) result out.old out.new }
+) -> Result<bool, Ending>
+    requires { progress.old.counts.voids ≤ 2 }
+    ensures { Steps table.now (asker question client prefix progress.old.counts name.now) progress.old progress.new result out.old out.new }
 {
     match question {
-        Question::A => mechanism_lookups::ask_a(client, prefix, table, name, counts, life, out),
-        Question::Mx => mechanism_lookups::ask_mx(client, prefix, table, name, counts, life, out),
-        Question::Ptr => mechanism_lookups::ask_ptr(client, table, name, counts, life, out),
-        Question::Exists => mechanism_lookups::ask_exists(table, name, counts, life, out),
+        Question::A => mechanism_lookups::ask_a(client, prefix, table, name, progress, out),
+        Question::Mx => mechanism_lookups::ask_mx(client, prefix, table, name, progress, out),
+        Question::Ptr => mechanism_lookups::ask_ptr(client, table, name, progress, out),
+        Question::Exists => mechanism_lookups::ask_exists(table, name, progress, out),
     }
 }
 
@@ -56,63 +55,34 @@ fn ask(
 fn counted_step(
     question: Question,
     prefix: usize,
-    client: Address,
-    sender: &[u8],
-    helo: &[u8],
-    receiver: &[u8],
-    seconds: u64,
+    mail: &Mail,
     table: &[u8],
     domain: &[u8],
-    given: bool,
-    spec: &[u8],
-    counts: Counts,
-    life: Life,
+    spec: Option<&[u8]>,
+    progress: &mut Progress,
     out: &mut [u8],
-) -> Stepped
-    requires { (length sender.now ≤ 320) × (length domain.now ≤ 253) × (counts.voids ≤ 2) }
-    ensures { SaysStep (run (table_in table.now) life (counted_step (mail_of client sender.now helo.now receiver.now seconds) domain.now (spec_if given spec.now) (asker question client prefix) counts)) result out.old out.new }
+) -> Result<bool, Ending>
+    requires { (length domain.now ≤ 253) × (progress.old.counts.voids ≤ 2) }
+    ensures { Steps table.now (counted_step (mail_in mail.now) domain.now (spec_of spec.entry) (asker question mail.now.client prefix) progress.old.counts) progress.old progress.new result out.old out.new }
 {
-    let used = counts.lookups;
-    if 10 <= used {
-        return Stepped {
-            matched: Matched::Stop(Ending::Result(6)),
-            counts,
-            life,
-        };
+    if 10 <= progress.counts.lookups {
+        return Err(Ending::Result(6));
     }
-    let begun = Counts {
-        lookups: used + 1,
-        voids: counts.voids,
-    };
+    progress.counts.lookups += 1;
     let mut to = [0u8; MOST_NAME];
-    let made = target_name::make_target_or(
-        client, sender, helo, receiver, seconds, table, domain, given, spec, begun, life, &mut to,
+    let Some(n) = target_name::make_target_or(mail, table, domain, spec, &mut to, progress, out)?
+    else {
+        return Ok(false);
+    };
+    ask(
+        question,
+        mail.client,
+        prefix,
+        table,
+        bytes::part(&to, 0, n),
+        progress,
         out,
-    );
-    let target = made.target;
-    let met = made.life;
-    match target {
-        Target::Malformed => Stepped {
-            matched: Matched::No,
-            counts: begun,
-            life: met,
-        },
-        Target::Wanting { kind, length: n } => Stepped {
-            matched: Matched::Stop(Ending::Wanting { kind, length: n }),
-            counts: begun,
-            life: met,
-        },
-        Target::Name(n) => ask(
-            question,
-            client,
-            prefix,
-            table,
-            bytes::part(&to, 0, n),
-            begun,
-            met,
-            out,
-        ),
-    }
+    )
 }
 
 // The prefix length of the client's family.
@@ -125,132 +95,101 @@ fn length_of(client: Address, four: u8, six: u8) -> usize
     }
 }
 
-// Whether two places differ.
-fn differ(a: usize, b: usize) -> bool
-    ensures { result ≡ cond (eqb a b) false true }
+// The domain-spec of an `a`, `mx` or `ptr`, whose places are equal where it has none.
+fn given(w: &[u8], from: usize, to: usize) -> Option<&[u8]>
+    ensures { spec_of result ≡ given_at w.now from to }
 {
-    if a == b {
-        return false;
+    if from == to {
+        None
+    } else {
+        Some(bytes::part(w, from, to))
     }
-    true
 }
 
 // What a term comes to. `w` is the term's text.
 pub fn try_plain(
-    client: Address,
-    sender: &[u8],
-    helo: &[u8],
-    receiver: &[u8],
-    seconds: u64,
+    mail: &Mail,
     table: &[u8],
     domain: &[u8],
     w: &[u8],
     term: Term,
-    counts: Counts,
-    life: Life,
+    progress: &mut Progress,
     out: &mut [u8],
-) -> Tried
-    requires { (length sender.now ≤ 320) × (length domain.now ≤ 253) × (counts.voids ≤ 2) }
-    ensures { TriedIs (table_in table.now) (mail_of client sender.now helo.now receiver.now seconds) domain.now w.now term counts life out.old out.new result }
+) -> Result<Tried, Ending>
+    requires { (length domain.now ≤ 253) × (progress.old.counts.voids ≤ 2) }
+    ensures { TriedIs table.now (mail_in mail.now) domain.now w.now term progress.old progress.new result out.old out.new }
 {
     match term {
-        Term::All { sign: _ } => Tried::Step(mechanism_lookups::matched(true, counts, life)),
-        Term::Include { sign: _, from, to } => Tried::Include { from, to },
+        Term::All { .. } => Ok(Tried::Matches(true)),
+        Term::Include { from, to, .. } => Ok(Tried::Include(Span { from, to })),
         Term::A {
-            sign: _,
             from,
             to,
             four,
             six,
-        } => Tried::Step(counted_step(
-            Question::A,
-            length_of(client, four, six),
-            client,
-            sender,
-            helo,
-            receiver,
-            seconds,
-            table,
-            domain,
-            differ(from, to),
-            bytes::part(w, from, to),
-            counts,
-            life,
-            out,
-        )),
+            ..
+        } => {
+            let prefix = length_of(mail.client, four, six);
+            let spec = given(w, from, to);
+            let matches = counted_step(
+                Question::A,
+                prefix,
+                mail,
+                table,
+                domain,
+                spec,
+                progress,
+                out,
+            )?;
+            Ok(Tried::Matches(matches))
+        }
         Term::Mx {
-            sign: _,
             from,
             to,
             four,
             six,
-        } => Tried::Step(counted_step(
-            Question::Mx,
-            length_of(client, four, six),
-            client,
-            sender,
-            helo,
-            receiver,
-            seconds,
-            table,
-            domain,
-            differ(from, to),
-            bytes::part(w, from, to),
-            counts,
-            life,
-            out,
-        )),
-        Term::Ptr { sign: _, from, to } => Tried::Step(counted_step(
-            Question::Ptr,
-            0,
-            client,
-            sender,
-            helo,
-            receiver,
-            seconds,
-            table,
-            domain,
-            differ(from, to),
-            bytes::part(w, from, to),
-            counts,
-            life,
-            out,
-        )),
+            ..
+        } => {
+            let prefix = length_of(mail.client, four, six);
+            let spec = given(w, from, to);
+            let matches = counted_step(
+                Question::Mx,
+                prefix,
+                mail,
+                table,
+                domain,
+                spec,
+                progress,
+                out,
+            )?;
+            Ok(Tried::Matches(matches))
+        }
+        Term::Ptr { from, to, .. } => {
+            let spec = given(w, from, to);
+            let matches = counted_step(Question::Ptr, 0, mail, table, domain, spec, progress, out)?;
+            Ok(Tried::Matches(matches))
+        }
         Term::Network {
-            sign: _,
-            from: _,
-            to: _,
             address,
             length,
-        } => Tried::Step(mechanism_lookups::matched(
-            address::matches(client, address, length as usize),
-            counts,
-            life,
-        )),
-        Term::Exists { sign: _, from, to } => Tried::Step(counted_step(
-            Question::Exists,
-            0,
-            client,
-            sender,
-            helo,
-            receiver,
-            seconds,
-            table,
-            domain,
-            true,
-            bytes::part(w, from, to),
-            counts,
-            life,
-            out,
-        )),
-        Term::Redirect { from: _, to: _ } => Tried::Step(mechanism_lookups::matched(
-            false, counts, life,
-        )),
-        Term::Explanation { from: _, to: _ } => Tried::Step(mechanism_lookups::matched(
-            false, counts, life,
-        )),
-        Term::Unknown { name: _, to: _ } => Tried::Step(mechanism_lookups::matched(
-            false, counts, life,
-        )),
+            ..
+        } => Ok(Tried::Matches(address::matches(mail.client, address, length as usize))),
+        Term::Exists { from, to, .. } => {
+            let spec = Some(bytes::part(w, from, to));
+            let matches = counted_step(
+                Question::Exists,
+                0,
+                mail,
+                table,
+                domain,
+                spec,
+                progress,
+                out,
+            )?;
+            Ok(Tried::Matches(matches))
+        }
+        Term::Redirect { .. } => Ok(Tried::Matches(false)),
+        Term::Explanation { .. } => Ok(Tried::Matches(false)),
+        Term::Unknown { .. } => Ok(Tried::Matches(false)),
     }
 }

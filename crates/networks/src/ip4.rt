@@ -5,19 +5,13 @@ ghost use Rattle.networks.specs.Grammar.{Network4};
 ghost use Rattle.networks.specs.Answers.{NetworkAnswer};
 ghost use Rattle.networks.specs.Reader.{octet_at, dot_octet_at, front_at, read_ip4};
 
-use crate::{Front, Network};
+use crate::Front;
 use address::Address;
 use text::bytes;
 
-// An octet and the place after it, or that none was read.
-#[derive(Clone, Copy)]
-enum Octet {
-    Ends(u8, usize),
-    NoOctet,
-}
-
-// The longest run of digits from a place on as a qnum.
-fn read_octet(s: &[u8], at: usize) -> Octet
+// The longest run of digits from a place on as a qnum, with the place after it.
+// The loop ends where no digit stands, and reads each digit once.
+fn read_octet(s: &[u8], at: usize) -> Option<(u8, usize)>
     ensures { result ≡ octet_at s.now at }
 {
     let mut v: u32 = 0;
@@ -27,7 +21,7 @@ fn read_octet(s: &[u8], at: usize) -> Octet
         if bytes::is_within(b, 48, 57) {
             v = 10 * v + (b - 48) as u32;
             if 255 < v {
-                return Octet::NoOctet;
+                return None;
             }
             i += 1;
         } else {
@@ -35,24 +29,24 @@ fn read_octet(s: &[u8], at: usize) -> Octet
         }
     }
     if i == at {
-        return Octet::NoOctet;
+        return None;
     }
     if 1 < i - at {
         if s[at] == 48 {
-            return Octet::NoOctet;
+            return None;
         }
     }
-    Octet::Ends(v as u8, i)
+    Some((v as u8, i))
 }
 
 // A dot and a qnum.
-fn read_dot_octet(s: &[u8], at: usize) -> Octet
+fn read_dot_octet(s: &[u8], at: usize) -> Option<(u8, usize)>
     ensures { result ≡ dot_octet_at s.now at }
 {
     if bytes::peek(s, at) == 46 {
         return read_octet(s, at + 1);
     }
-    Octet::NoOctet
+    None
 }
 
 // The number that four octets write.
@@ -63,37 +57,27 @@ fn value_of(a: u8, b: u8, c: u8, d: u8) -> u32
 }
 
 // Four octets joined by dots, from a place on.
-pub fn read_front(s: &[u8], at: usize) -> Front
+pub fn read_front(s: &[u8], at: usize) -> Option<Front>
     ensures { result ≡ front_at s.now at }
 {
-    let Octet::Ends(a, i) = read_octet(s, at) else {
-        return Front::NoFront;
-    };
-    let Octet::Ends(b, j) = read_dot_octet(s, i) else {
-        return Front::NoFront;
-    };
-    let Octet::Ends(c, k) = read_dot_octet(s, j) else {
-        return Front::NoFront;
-    };
-    let Octet::Ends(d, end) = read_dot_octet(s, k) else {
-        return Front::NoFront;
-    };
-    Front::Ends {
+    let (a, i) = read_octet(s, at)?;
+    let (b, j) = read_dot_octet(s, i)?;
+    let (c, k) = read_dot_octet(s, j)?;
+    let (d, end) = read_dot_octet(s, k)?;
+    Some(Front {
         value: value_of(a, b, c, d),
         end,
-    }
+    })
 }
 
 // The whole text as an ip4-network.
-pub fn read_ip4(s: &[u8]) -> Network
+pub fn read_ip4(s: &[u8]) -> Option<Address>
     ensures value { result ≡ read_ip4 s.now }
     ensures network_answer { NetworkAnswer (Network4 s.now) result }
 {
-    let Front::Ends { value, end } = read_front(s, 0) else {
-        return Network::NoNetwork;
-    };
+    let Front { value, end } = read_front(s, 0)?;
     if end == s.len() {
-        return Network::Is(Address::IPv4(value));
+        return Some(Address::IPv4(value));
     }
-    Network::NoNetwork
+    None
 }

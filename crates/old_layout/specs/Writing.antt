@@ -1,7 +1,8 @@
 -- For private functions: what is written of an entry, for any bytes, and of a table.
-use Rattle.std.specs.Prelude.{ℕ, ◌+◌, ◌≤◌, List, ◌++◌, length}
+use Rattle.std.specs.Prelude.{ℕ, ◌+◌, ◌≤◌, ◌≡◌, List, ◌++◌, length}
 use Rattle.text.specs.Bytes.{part}
-use Rattle.text.specs.Writing.{Wrote}
+use Rattle.text.specs.Writing.{Writes}
+use Rattle.text.specs.declared.writing.Writer.{Writer}
 use Rattle.answer_table.specs.Answers.{most_bytes}
 use Rattle.answer_table.specs.Reader.{number}
 use Rattle.answer_entry.specs.Encoding.{four_bytes, low_bytes}
@@ -11,6 +12,7 @@ use Rattle.old_layout.specs.Rewriting.{Rewritten}
 unfoldable pub lengthened : List ℕ → List ℕ
 lengthened s = low_bytes (number s + 4) ++ part s 2 5 ++ four_bytes 0 ++ part s 5 (2 + number s)
 
--- what writing a table promises of one that can be rewritten
-pub record PutsTable (old before after : List ℕ) (r : ℕ) : Type 0 where
-  pub by : (new : List ℕ) → Rewritten old new → length new ≤ most_bytes → Wrote new before 0 after r
+-- what writing a table from the front on promises of one that can be rewritten
+pub record PutsTable (old : List ℕ) (before after : Writer) : Type 0 where
+  pub by : before.at ≡ 0 → (new : List ℕ) → Rewritten old new → length new ≤ most_bytes → Writes new before after
+  pub same : after.out.ghost_name ≡ before.out.ghost_name

@@ -1,12 +1,11 @@
 -- What the house rules mean for those who publish, as plain sentences, and what any answer that meets the call's promise says of them. No reader is
 -- named.
-use Rattle.std.specs.Prelude.{ℕ, ◌+◌, ◌*◌, ◌≤◌, ◌<◌, ◌≡◌, List, ◌∷◌, ◌++◌, length}
+use Rattle.std.specs.Prelude.{ℕ, ◌+◌, ◌*◌, ◌≤◌, ◌<◌, ◌≡◌, Ok, List, ◌∷◌, ◌++◌, length}
 use Rattle.text.specs.Bytes.{at}
 use Rattle.records.specs.Readings.{Placed}
 use Rattle.records.specs.Grammar.{Record}
 use Rattle.publishing.specs.House.{Some, Among, Mechanism, Ptr, All, Redirect, RedirectOrExp, WithP, PlusAll, Short, SameNetwork, too_many_bytes, Breach}
 use Rattle.publishing.specs.Listing.{most_name, HouseAnswers}
-use Rattle.publishing.specs.declared.HouseAnswer.{HouseAnswer}
 
 -- A record has one end: one `all`, which no mechanism follows, and no redirect; or no `all` and a redirect, of which the grammar allows one.
 pub data OneEnd (ts : List Placed) : Type 0 where
@@ -43,13 +42,13 @@ place_at list k = at list (3 * k + 1) + 256 * at list (3 * k + 2)
 -- of a name and a record, whatever list is lent
 pub record Desk (domain s before after : List ℕ) : Type 0 where
   -- where no breach is listed the record may be published
-  pub clean : HouseAnswers domain s before after (HouseAnswer.Listed 0) → (ts : List Placed) → Record s ts → Publishable ts (length s) (length domain)
+  pub clean : HouseAnswers domain s before after (Ok 0) → (ts : List Placed) → Record s ts → Publishable ts (length s) (length domain)
   -- and one that may be published has none listed, in any list
   pub none_listed : length domain ≤ most_name → (ts : List Placed) → Record s ts → Publishable ts (length s) (length domain)
-      → HouseAnswers domain s before before (HouseAnswer.Listed 0)
+      → HouseAnswers domain s before before (Ok 0)
   -- each breach that is listed the record really has
-  pub really : (n : ℕ) → HouseAnswers domain s before after (HouseAnswer.Listed n) → (ts : List Placed) → Record s ts → (k : ℕ) → k < n
+  pub really : (n : ℕ) → HouseAnswers domain s before after (Ok n) → (ts : List Placed) → Record s ts → (k : ℕ) → k < n
       → Breach ts (length s) (length domain) (rule_at after k) (place_at after k)
   -- and none that it has is left out
-  pub every : (n : ℕ) → HouseAnswers domain s before after (HouseAnswer.Listed n) → (ts : List Placed) → Record s ts
+  pub every : (n : ℕ) → HouseAnswers domain s before after (Ok n) → (ts : List Placed) → Record s ts
       → (rule place : ℕ) → Breach ts (length s) (length domain) rule place → (k : ℕ) × ((k < n) × ((rule_at after k ≡ rule) × (place_at after k ≡ place)))

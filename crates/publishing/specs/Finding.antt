@@ -1,14 +1,16 @@
 -- The breaches as the code finds them: a test for each rule; the breaches of one term after the other; those of one rule after the other. The laws tie
 -- them to House.
-use Rattle.std.specs.Prelude.{ℕ, zero, suc, ◌+◌, ◌*◌, ◌≤◌, ◌≡◌, length, take, drop, List, [], ◌∷◌, ◌++◌, Bool, true, false, cond, not, ◌&&◌, ◌||◌, leb, ltb, eqb}
+use Rattle.std.specs.Prelude.{ℕ, zero, suc, ◌+◌, ◌*◌, ◌≤◌, ◌≡◌, length, drop, Result, Ok, Err, List, [], ◌∷◌, ◌++◌, Bool, true, false, cond, not, ◌&&◌, ◌||◌, leb, ltb, eqb}
 use Rattle.address.specs.declared.Address.{Address}
 use Rattle.address.specs.declared.Address.TheVariants.{IPv4, IPv6}
 use Rattle.address.specs.Matching.{matches_at}
 use Rattle.text.specs.Lists.{same}
 use Rattle.text.specs.Texts.{bytes}
-use Rattle.text.specs.Writing.{Wrote}
+use Rattle.text.specs.Writing.{Wrote, overwritten}
+use Rattle.text.specs.declared.writing.Writer.{Writer}
 use Rattle.macros.specs.declared.Form.TheVariants.{ModifierValue}
 use Rattle.macros.specs.Reader.{is_macro_string, uses_p}
+use Rattle.duplicates.specs.declared.Row.{Row}
 use Rattle.duplicates.specs.Rows.{most_rows}
 use Rattle.records.specs.Readings.{Optional, absent, present, Placed}
 use Rattle.records.specs.Grammar.{sign_plus}
@@ -19,7 +21,8 @@ use Rattle.publishing.specs.Listing.{Entry, entry, breach_bytes, encoded, most_b
 use Rattle.publishing.specs.Rows.{network_rows, Holds, Marked}
 use Rattle.publishing.specs.declared.offences.Facts.{Facts}
 use Rattle.publishing.specs.declared.offences.Seen.{Seen}
-use Rattle.publishing.specs.declared.HouseAnswer.{HouseAnswer}
+use Rattle.publishing.specs.declared.HouseError.{HouseError}
+use Rattle.publishing.specs.declared.HouseError.TheVariants.{TooMany}
 
 unfoldable pub any : {A : Type 0} → (A → Bool) → List A → Bool
 any p [] = false
@@ -190,31 +193,36 @@ breaks_by whole seen f p marked rule =
     false))))))))
 
 -- what the functions promise, of the terms that the record has from a place on: what stands there, with its networks in a table; all breaches
-pub record Surveys (s : List ℕ) (first : ℕ) (before after : List ℕ) (r : Seen) : Type 0 where
+pub record Surveys (s : List ℕ) (first : ℕ) (before after : List Row) (r : Seen) : Type 0 where
   pub kept : length after ≡ length before
   pub few : r.networks ≤ most_rows
   pub by : (ts : List Placed) → Reads s first ts → (r ≡ seen_of ts) × (Holds after (network_rows ts) × (length (network_rows ts) ≤ most_rows))
 
-pub record PutsOffences (s : List ℕ) (first : ℕ) (whole : Bool) (marks before after : List ℕ) (r : ℕ) : Type 0 where
-  pub kept : length after ≡ length before
-  pub by : (ts : List Placed) → Reads s first ts → whole ≡ any is_all ts → Marked s first marks → Wrote (encoded (offences_of ts [] ts)) before 0 after r
+-- entries were written
+abbrev pub WroteEntries : List Entry → Writer → Writer → Type 0
+WroteEntries es before after = Wrote (encoded es) before.out.now before.at after.out.now after.at
 
-pub record PutsFound (s : List ℕ) (first name : ℕ) (before after : List ℕ) (r : ℕ) : Type 0 where
-  pub by : (ts : List Placed) → Reads s first ts → Wrote (encoded (found ts (length s) name)) before 0 after r
+pub record PutsOffences (s : List ℕ) (first : ℕ) (whole : Bool) (marks : List ℕ) (before after : Writer) : Type 0 where
+  pub same : after.out.ghost_name ≡ before.out.ghost_name
+  pub by : (ts : List Placed) → Reads s first ts → whole ≡ any is_all ts → Marked s first marks → WroteEntries (offences_of ts [] ts) before after
 
--- what writing found breaches in order promises, of those that stand at the front of a buffer: those of a rule; all
-pub record PutsRule (buffer : List ℕ) (size rule : ℕ) (before : List ℕ) (at : ℕ) (after : List ℕ) (r : ℕ) : Type 0 where
-  pub kept : length after ≡ length before
-  pub by : (es : List Entry) → take size buffer ≡ encoded es → Wrote (encoded (of_rule rule es)) before at after r
+pub record PutsFound (s : List ℕ) (first name : ℕ) (before after : Writer) : Type 0 where
+  pub same : after.out.ghost_name ≡ before.out.ghost_name
+  pub by : (ts : List Placed) → Reads s first ts → WroteEntries (found ts (length s) name) before after
 
-pub record PutsOrdered (buffer : List ℕ) (size : ℕ) (before after : List ℕ) (r : ℕ) : Type 0 where
-  pub by : (es : List Entry) → take size buffer ≡ encoded es → Wrote (encoded (ordered es)) before 0 after r
+-- what writing found breaches in order promises: those of a rule; all
+pub record PutsRule (buffer : List ℕ) (rule : ℕ) (before after : Writer) : Type 0 where
+  pub same : after.out.ghost_name ≡ before.out.ghost_name
+  pub by : (es : List Entry) → buffer ≡ encoded es → WroteEntries (of_rule rule es) before after
 
--- entries written into a list, or 70
-pub data Lists (es : List Entry) (before after : List ℕ) : HouseAnswer → Type 0 where
-  no_room : NoRoom es before → after ≡ before → Lists es before after (HouseAnswer.Refused 70)
+pub record PutsOrdered (buffer before after : List ℕ) : Type 0 where
+  pub by : (es : List Entry) → buffer ≡ encoded es → after ≡ overwritten (encoded (ordered es)) before
+
+-- entries written into a list, or too many
+pub data Lists (es : List Entry) (before after : List ℕ) : Result ℕ HouseError → Type 0 where
+  no_room : NoRoom es before → after ≡ before → Lists es before after (Err TooMany)
   listed : length es ≤ most_breaches → breach_bytes * length es ≤ length before → after ≡ encoded es ++ drop (breach_bytes * length es) before
-      → Lists es before after (HouseAnswer.Listed (length es))
+      → Lists es before after (Ok (length es))
 
-pub record ListsBreaches (s : List ℕ) (first name : ℕ) (before after : List ℕ) (r : HouseAnswer) : Type 0 where
+pub record ListsBreaches (s : List ℕ) (first name : ℕ) (before after : List ℕ) (r : Result ℕ HouseError) : Type 0 where
   pub by : (ts : List Placed) → Reads s first ts → Lists (ordered (found ts (length s) name)) before after r

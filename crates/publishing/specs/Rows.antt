@@ -1,15 +1,14 @@
--- The networks of a record as rows of words: one row is the same as another exactly if the networks are (`rows_same`, proofs/Laws/Rows.antt). The rows
--- stand in a table of three columns, one after the other.
-use Rattle.std.specs.Prelude.{ℕ, ◌+◌, ◌*◌, ◌≤◌, ◌<◌, ◌≡◌, ◌↔◌, List, [], ◌∷◌, ◌++◌, length, get_or}
-use Rattle.text.specs.Bytes.{at, part}
+-- The networks of a record as rows: one row is the same as another exactly if the networks are (`rows_same`, proofs/Laws/Rows.antt).
+use Rattle.std.specs.Prelude.{ℕ, ◌+◌, ◌≤◌, ◌<◌, ◌≡◌, ◌↔◌, List, [], ◌∷◌, ◌++◌, length}
+use Rattle.text.specs.Bytes.{at}
 use Rattle.address.specs.declared.Address.{Address}
 use Rattle.address.specs.declared.Address.TheVariants.{IPv4, IPv6}
 use Rattle.address.specs.Clearing.{cleared}
-use Rattle.duplicates.specs.Rows.{Row, Marks, most_rows}
+use Rattle.duplicates.specs.declared.Row.{Row}
+use Rattle.duplicates.specs.Rows.{row_at, most_rows}
 use Rattle.records.specs.Readings.{Optional, absent, present, Placed}
 use Rattle.records.specs.Reader.{Reads}
 use Rattle.records.specs.declared.Term.{Term}
-use Rattle.publishing.specs.declared.rows.Words.{Words}
 use Rattle.publishing.specs.House.{Some, Among, SameNetwork}
 
 -- an address in words, with a number that tells its family and a length
@@ -50,35 +49,14 @@ term_rows (Term.Redirect from to) = []
 term_rows (Term.Explanation from to) = []
 term_rows (Term.Unknown name to) = []
 
--- the row of a number in a table
-abbrev pub table_row : List ℕ → ℕ → Row
-table_row table i = record { kind = at table i; high = at table (most_rows + i); low = at table (2 * most_rows + i) }
-
 -- rows stand in a table from its first on
-abbrev pub no_row : Row
-no_row = record { kind = 0; high = 0; low = 0 }
-
-pub record Holds (table : List ℕ) (rows : List Row) : Type 0 where
-  pub each : (i : ℕ) → i < length rows → table_row table i ≡ get_or rows i no_row
-
--- a row as the code has it
-abbrev pub row_from : Words → Row
-row_from w = record { kind = w.kind; high = w.high; low = w.low }
-
--- what writing a row of a number promises: the row stands there, and the others are as before
-pub record StoresRow (r : Row) (n : ℕ) (before after : List ℕ) : Type 0 where
-  pub kept : length after ≡ length before
-  pub here : table_row after n ≡ r
-  pub others : (i : ℕ) → i < n → table_row after i ≡ table_row before i
+pub record Holds (table rows : List Row) : Type 0 where
+  pub each : (i : ℕ) → i < length rows → row_at table i ≡ row_at rows i
 
 -- what writing one row more promises
-pub record PutsRow (t : Term) (n : ℕ) (before after : List ℕ) : Type 0 where
+pub record PutsRow (t : Term) (n : ℕ) (before after : List Row) : Type 0 where
   pub kept : length after ≡ length before
   pub by : (rows : List Row) → n ≡ length rows → length (rows ++ term_rows t) ≤ most_rows → Holds before rows → Holds after (rows ++ term_rows t)
-
--- what marking the rows of a table promises
-abbrev pub MarksRows : List ℕ → ℕ → List ℕ → Type 0
-MarksRows table n marks = Marks (part table 0 most_rows) (part table most_rows (2 * most_rows)) (part table (2 * most_rows) (3 * most_rows)) n marks
 
 -- what the marks then say, by the record's terms from a place on: that of a network is 1 exactly if an earlier one is the same
 pub record Marked (s : List ℕ) (first : ℕ) (marks : List ℕ) : Type 0 where

@@ -1,6 +1,6 @@
 -- What the three calls answer, by the production of the line. It names no reader. What is lent determines the answer and the buffer afterwards
 -- (`writes_one`, `reads_one`, `unquotes_one`, proofs/Laws/Deciding.antt).
-use Rattle.std.specs.Prelude.{ℕ, ◌≤◌, ◌<◌, ◌≡◌, ◌⊎◌, List, true, false, ◌&&◌, length}
+use Rattle.std.specs.Prelude.{ℕ, ◌≤◌, ◌<◌, ◌≡◌, ◌⊎◌, List, true, false, ◌&&◌, length, Result, Ok, Err}
 use Rattle.text.specs.Bytes.{is_printable}
 use Rattle.text.specs.Lists.{all}
 use Rattle.text.specs.Texts.{bytes}
@@ -10,13 +10,13 @@ use Rattle.address_text.specs.Forms.{readable}
 use Rattle.macros.specs.Expansion.{is_sender, is_host}
 use Rattle.received.specs.Quoting.{escaped}
 use Rattle.received.specs.Line.{Values, Line}
-use Rattle.received.specs.Numbers.{Outcome, refused, written, Says}
+use Rattle.received.specs.Numbers.{Outcome, Says}
+use Rattle.received.specs.declared.Checked.{Checked}
 use Rattle.received.specs.declared.Identity.{Identity}
 use Rattle.received.specs.declared.Identity.TheVariants.{MailFrom, Helo}
-use Rattle.received.specs.declared.Written.{Written}
 use Rattle.received.specs.declared.Parts.{Parts}
-use Rattle.received.specs.declared.LineAnswer.{LineAnswer}
-use Rattle.received.specs.declared.LineAnswer.TheVariants as answers
+use Rattle.received.specs.declared.LineError.{LineError}
+use Rattle.received.specs.declared.LineError.TheVariants.{Sender, Host, NoRoom, NoLine, NoResult}
 
 -- what a line is written from
 pub record Given : Type 0 where
@@ -30,6 +30,10 @@ pub record Given : Type 0 where
 abbrev pub given : ℕ → Address → (sender helo receiver : List ℕ) → Identity → Given
 given result client sender helo receiver identity =
     record { result = result; client = client; sender = sender; helo = helo; receiver = receiver; identity = identity }
+
+-- what the functions are given
+abbrev pub given_of : ℕ → Checked → Given
+given_of result x = given result x.client x.sender.now x.helo.now x.receiver.now x.identity
 
 -- "Identity is `mailfrom` or `helo`."
 abbrev pub identity_text : Identity → List ℕ
@@ -62,15 +66,15 @@ pub record Fit (g : Given) : Type 0 where
 
 -- "writing tests 20, 21, 52, 50"; otherwise the line
 pub data Writes (g : Given) (room : ℕ) : Outcome → Type 0 where
-  no_sender : is_sender g.sender ≡ false → Writes g room (refused 20)
-  no_host : is_sender g.sender ≡ true → (is_host g.helo && is_host g.receiver) ≡ false → Writes g room (refused 21)
-  no_result : is_sender g.sender ≡ true → (is_host g.helo && is_host g.receiver) ≡ true → 7 ≤ g.result → Writes g room (refused 52)
+  no_sender : is_sender g.sender ≡ false → Writes g room (Err Sender)
+  no_host : is_sender g.sender ≡ true → (is_host g.helo && is_host g.receiver) ≡ false → Writes g room (Err Host)
+  no_result : is_sender g.sender ≡ true → (is_host g.helo && is_host g.receiver) ≡ true → 7 ≤ g.result → Writes g room (Err NoResult)
   -- "50 over 1,500 bytes or the buffer"
-  no_room : {xs : List ℕ} {f : Parts} → Fit g → Line g.result (values_of g) xs f → (most_line < length xs) ⊎ (room < length xs) → Writes g room (refused 50)
-  fits : {xs : List ℕ} {f : Parts} → Fit g → Line g.result (values_of g) xs f → length xs ≤ most_line → length xs ≤ room → Writes g room (written xs)
+  no_room : {xs : List ℕ} {f : Parts} → Fit g → Line g.result (values_of g) xs f → (most_line < length xs) ⊎ (room < length xs) → Writes g room (Err NoRoom)
+  fits : {xs : List ℕ} {f : Parts} → Fit g → Line g.result (values_of g) xs f → length xs ≤ most_line → length xs ≤ room → Writes g room (Ok xs)
 
 -- what `write_line` promises of its answer and of the lent buffer afterwards
-pub record WritesLine (g : Given) (r : Written) (before after : List ℕ) : Type 0 where
+pub record WritesLine (g : Given) (r : Result ℕ LineError) (before after : List ℕ) : Type 0 where
   pub outcome : Outcome
   pub writes : Writes g (length before) outcome
   pub says : Says outcome r before after
@@ -83,9 +87,9 @@ pub record LineFor (g : Given) (s : List ℕ) (f : Parts) : Type 0 where
   pub short : length s ≤ most_line
 
 -- "Reading answers the result and each value's part of the line, without quotes"; "reading only 51": "no line .. that writing gives"
-pub data ReadsLine (s : List ℕ) : LineAnswer → Type 0 where
-  reads : {g : Given} {f : Parts} → LineFor g s f → ReadsLine s (answers.Read f)
-  no_line : ((g : Given) (f : Parts) → LineFor g s f → ⊥) → ReadsLine s (answers.Refused 51)
+pub data ReadsLine (s : List ℕ) : Result Parts LineError → Type 0 where
+  reads : {g : Given} {f : Parts} → LineFor g s f → ReadsLine s (Ok f)
+  no_line : ((g : Given) (f : Parts) → LineFor g s f → ⊥) → ReadsLine s (Err NoLine)
 
 -- a part that writing gives: that of a value of at most 320 bytes of 32 to 126. Just these are the parts in the lines that writing gives (`parts_given`,
 -- specs/RoundTrip.antt).
@@ -96,12 +100,12 @@ pub record PartOf (v s : List ℕ) : Type 0 where
 
 -- "the second call 51, 50": "no .. part that writing gives", "over .. the buffer"; otherwise the value
 pub data Unquotes (s : List ℕ) (room : ℕ) : Outcome → Type 0 where
-  no_part : ((v : List ℕ) → PartOf v s → ⊥) → Unquotes s room (refused 51)
-  no_room : {v : List ℕ} → PartOf v s → room < length v → Unquotes s room (refused 50)
-  value : {v : List ℕ} → PartOf v s → length v ≤ room → Unquotes s room (written v)
+  no_part : ((v : List ℕ) → PartOf v s → ⊥) → Unquotes s room (Err NoLine)
+  no_room : {v : List ℕ} → PartOf v s → room < length v → Unquotes s room (Err NoRoom)
+  value : {v : List ℕ} → PartOf v s → length v ≤ room → Unquotes s room (Ok v)
 
 -- what `unquote` promises of its answer and of the lent buffer afterwards
-pub record UnquotesPart (s : List ℕ) (r : Written) (before after : List ℕ) : Type 0 where
+pub record UnquotesPart (s : List ℕ) (r : Result ℕ LineError) (before after : List ℕ) : Type 0 where
   pub outcome : Outcome
   pub unquotes : Unquotes s (length before) outcome
   pub says : Says outcome r before after

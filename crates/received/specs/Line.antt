@@ -4,7 +4,7 @@ use Rattle.std.specs.Prelude.{ℕ, ◌+◌, List, [], ◌∷◌, ◌++◌, lengt
 use Rattle.text.specs.Texts.{bytes}
 use Rattle.received.specs.Atoms.{DotAtomText}
 use Rattle.received.specs.Quoting.{escaped, quoted}
-use Rattle.received.specs.declared.Part.{Part}
+use Rattle.text.specs.declared.spans.Span.{Span as Part}
 use Rattle.received.specs.declared.Parts.{Parts}
 
 -- result = "Pass" / "Fail" / "SoftFail" / "Neutral" / "None" / "TempError" / "PermError": the result's word, in lower case, by its number

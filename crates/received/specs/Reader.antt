@@ -1,6 +1,6 @@
 -- For private functions, and for callers of `read_line`: the reader. Where the parts stand if this is a line, the arguments that they give, and whether
 -- writing these gives the line again; the laws tie it to the production.
-use Rattle.std.specs.Prelude.{ℕ, ◌+◌, ◌-◌, ◌*◌, ◌/◌, ◌%◌, ◌<◌, min, ◌≡◌, List, Bool, false, cond, length, take, drop, eqb, leb, ltb}
+use Rattle.std.specs.Prelude.{ℕ, ◌+◌, ◌-◌, ◌*◌, ◌/◌, ◌%◌, ◌<◌, min, ◌≡◌, List, Bool, false, cond, length, take, drop, eqb, leb, ltb, Result, Ok, Err}
 use Rattle.text.specs.Bytes.{at, part}
 use Rattle.text.specs.Lists.{same, contains}
 use Rattle.text.specs.Runs.{run_end, is_in}
@@ -9,17 +9,17 @@ use Rattle.text.specs.declared.bytes.Class.TheVariants.{NotSpace}
 use Rattle.address.specs.declared.Address.{Address}
 use Rattle.address.specs.declared.Address.TheVariants.{IPv4, IPv6}
 use Rattle.received.specs.Quoting.{quote, unescaped}
-use Rattle.received.specs.Numbers.{Outcome, refused, written}
+use Rattle.received.specs.Numbers.{Outcome}
 use Rattle.received.specs.States.{fold, is_plain, closing}
 use Rattle.received.specs.Answers.{given, most_line, most_value}
 use Rattle.received.specs.Texts.{outcome}
 use Rattle.received.specs.declared.Identity.{Identity}
 use Rattle.received.specs.declared.Identity.TheVariants.{MailFrom, Helo}
 use Rattle.received.specs.declared.clients.Sum.{Sum}
-use Rattle.received.specs.declared.Part.{Part}
+use Rattle.text.specs.declared.spans.Span.{Span as Part}
 use Rattle.received.specs.declared.Parts.{Parts}
-use Rattle.received.specs.declared.LineAnswer.{LineAnswer}
-use Rattle.received.specs.declared.LineAnswer.TheVariants as answers
+use Rattle.received.specs.declared.LineError.{LineError}
+use Rattle.received.specs.declared.LineError.TheVariants.{NoLine}
 
 -- an address from its digits; whether it is one is seen when it is written again
 unfoldable pub digit_value : ℕ → ℕ
@@ -54,16 +54,15 @@ unfoldable pub address_of : List ℕ → Address
 address_of s = cond (contains s 58) (IPv6 (high_on (total 16 s)) (low_on (total 16 s))) (IPv4 (octet_on (total 10 s)))
 
 -- the number of a word, 7 for any other
-unfoldable pub later_number : List ℕ → ℕ
-later_number w = cond (same w (bytes "softfail")) 4 (cond (same w (bytes "temperror")) 5 (cond (same w (bytes "permerror")) 6 7))
-
 unfoldable pub number_of : List ℕ → ℕ
 number_of w =
     cond (same w (bytes "none")) 0
     (cond (same w (bytes "neutral")) 1
     (cond (same w (bytes "pass")) 2
     (cond (same w (bytes "fail")) 3
-    (later_number w))))
+    (cond (same w (bytes "softfail")) 4
+    (cond (same w (bytes "temperror")) 5
+    (cond (same w (bytes "permerror")) 6 7))))))
 
 unfoldable pub identity_of : List ℕ → Identity
 identity_of w = cond (same w (bytes "mailfrom")) MailFrom Helo
@@ -121,8 +120,8 @@ bytes_of s p = part s p.from p.to
 
 -- whether the line was written
 unfoldable pub is_written : Outcome → List ℕ → Bool
-is_written (refused n) s = false
-is_written (written xs) s = same xs s
+is_written (Err n) s = false
+is_written (Ok xs) s = same xs s
 
 -- the most bytes of a HELO name or a receiver, by the test of 21, and of a client's text: eight groups of four digits
 abbrev pub most_host : ℕ
@@ -144,8 +143,8 @@ unfoldable pub is_line : List ℕ → Parts → Bool
 is_line s f = is_line_of s f (value_of most_value s f.sender) (value_of most_host s f.helo) (value_of most_host s f.receiver)
 
 -- a line over 1,500 bytes isn't looked at
-unfoldable pub line_answer : List ℕ → LineAnswer
-line_answer s = cond (leb (length s) most_line) (cond (is_line s (parts_of s)) (answers.Read (parts_of s)) (answers.Refused 51)) (answers.Refused 51)
+unfoldable pub line_answer : List ℕ → Result Parts LineError
+line_answer s = cond (leb (length s) most_line) (cond (is_line s (parts_of s)) (Ok (parts_of s)) (Err NoLine)) (Err NoLine)
 
 -- a value as far as a buffer goes
 pub record Held (x before after : List ℕ) (r : ℕ) : Type 0 where

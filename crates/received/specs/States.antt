@@ -1,22 +1,32 @@
 -- For private functions: tests and readers that go byte by byte.
-use Rattle.std.specs.Prelude.{ℕ, suc, ◌+◌, ◌≤◌, ◌<◌, ◌≡◌, List, [], ◌∷◌, Bool, cond, ◌&&◌, ◌||◌, length, drop, eqb, leb, ltb}
+use Rattle.std.specs.Prelude.{ℕ, suc, ◌+◌, ◌≤◌, ◌<◌, ◌≡◌, List, [], ◌∷◌, Bool, true, false, cond, ◌&&◌, ◌||◌, length, drop, eqb, leb, ltb, Ok, Err}
 use Rattle.text.specs.Bytes.{at, is_printable}
 use Rattle.text.specs.Lists.{all, same}
 use Rattle.received.specs.Atoms.{is_atext}
 use Rattle.received.specs.Quoting.{quote, backslash, escaped}
-use Rattle.received.specs.Numbers.{Outcome, refused, written}
+use Rattle.received.specs.declared.quoting.Atoms.{Atoms}
+use Rattle.received.specs.declared.quoting.Atoms.TheVariants.{Before, Within, Failed}
+use Rattle.received.specs.Numbers.{Outcome}
+use Rattle.received.specs.declared.LineError.TheVariants.{NoRoom, NoLine}
 
 -- a state that each byte moves on
 unfoldable pub fold : {A : Type 0} → (A → ℕ → A) → A → List ℕ → A
 fold f a [] = a
 fold f a (b ∷ s) = fold f (f a b) s
 
--- dot-atom-text: 1 before an atom, 2 within one, 0 where it failed
-unfoldable pub atom_step : ℕ → ℕ → ℕ
-atom_step state b = cond (eqb state 0) 0 (cond (eqb b 46) (cond (eqb state 2) 1 0) (cond (is_atext b) 2 0))
+-- dot-atom-text: before an atom, within one, or failed
+unfoldable pub atom_step : Atoms → ℕ → Atoms
+atom_step Before b = cond (is_atext b) Within Failed
+atom_step Within b = cond (eqb b 46) Before (cond (is_atext b) Within Failed)
+atom_step Failed b = Failed
+
+unfoldable pub is_within : Atoms → Bool
+is_within Before = false
+is_within Within = true
+is_within Failed = false
 
 unfoldable pub is_dot_atom_text : List ℕ → Bool
-is_dot_atom_text s = eqb (fold atom_step 1 s) 2
+is_dot_atom_text s = is_within (fold atom_step Before s)
 
 -- a byte of dot-atom-text
 unfoldable pub is_plain : ℕ → Bool
@@ -43,4 +53,4 @@ closing (b ∷ c ∷ s) = cond (eqb b quote) 0 (cond (eqb b backslash) (suc (suc
 
 -- the second call for a value that its part may have
 unfoldable pub valued : List ℕ → List ℕ → ℕ → Outcome
-valued v s room = cond (all is_printable v && same (escaped v) s) (cond (leb (length v) room) (written v) (refused 50)) (refused 51)
+valued v s room = cond (all is_printable v && same (escaped v) s) (cond (leb (length v) room) (Ok v) (Err NoRoom)) (Err NoLine)

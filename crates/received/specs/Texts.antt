@@ -1,14 +1,15 @@
 -- For private functions: the line as text, piece by piece, and where its parts stand; the laws tie both to the production.
-use Rattle.std.specs.Prelude.{ℕ, ◌+◌, List, ◌++◌, cond, ◌&&◌, length, eqb, leb, ltb}
+use Rattle.std.specs.Prelude.{ℕ, ◌+◌, List, ◌++◌, cond, ◌&&◌, length, eqb, leb, ltb, Ok, Err}
 use Rattle.text.specs.Texts.{bytes}
 use Rattle.macros.specs.Expansion.{is_sender, is_host}
 use Rattle.received.specs.Quoting.{escaped, quoted}
 use Rattle.received.specs.Line.{opening, crlf, part_from}
-use Rattle.received.specs.Numbers.{Outcome, refused, written}
+use Rattle.received.specs.Numbers.{Outcome}
 use Rattle.received.specs.Answers.{Given, values_of, most_line}
 use Rattle.received.specs.States.{is_dot_atom_text}
-use Rattle.received.specs.declared.Part.{Part}
+use Rattle.text.specs.declared.spans.Span.{Span as Part}
 use Rattle.received.specs.declared.Parts.{Parts}
+use Rattle.received.specs.declared.LineError.TheVariants.{Sender, Host, NoRoom, NoResult}
 
 unfoldable pub word_of : ℕ → List ℕ
 word_of n =
@@ -28,17 +29,14 @@ formed v = cond (is_dot_atom_text v) v (quoted v)
 unfoldable pub shown : ℕ → List ℕ → Part
 shown p v = cond (is_dot_atom_text v) (part_from p v) (part_from (p + 1) (escaped v))
 
-unfoldable pub head_text : ℕ → List ℕ → List ℕ
-head_text result receiver = opening ++ (word_of result ++ (bytes " receiver=" ++ formed receiver))
-
-unfoldable pub middle_text : List ℕ → List ℕ → List ℕ
-middle_text client sender = (bytes "; client-ip=" ++ formed client) ++ (bytes "; envelope-from=" ++ formed sender)
-
-unfoldable pub tail_text : List ℕ → List ℕ → List ℕ
-tail_text helo identity = (bytes "; helo=" ++ formed helo) ++ ((bytes "; identity=" ++ formed identity) ++ crlf)
+-- a key and its value
+abbrev pub pair : List ℕ → List ℕ → List ℕ
+pair key v = key ++ formed v
 
 unfoldable pub line_text : ℕ → (receiver client sender helo identity : List ℕ) → List ℕ
-line_text result receiver client sender helo identity = head_text result receiver ++ (middle_text client sender ++ tail_text helo identity)
+line_text result receiver client sender helo identity =
+    opening ++ (word_of result ++ (pair (bytes " receiver=") receiver ++ (pair (bytes "; client-ip=") client
+    ++ (pair (bytes "; envelope-from=") sender ++ (pair (bytes "; helo=") helo ++ (pair (bytes "; identity=") identity ++ crlf))))))
 
 -- where each pair begins: behind the word, the receiver, the client, the sender and the HELO name
 abbrev pub place₀ : ℕ → ℕ
@@ -68,7 +66,7 @@ line_parts result receiver client sender helo identity = record {
 
 -- "50 over 1,500 bytes or the buffer"
 unfoldable pub fitted : List ℕ → ℕ → Outcome
-fitted xs room = cond (leb (length xs) most_line) (cond (leb (length xs) room) (written xs) (refused 50)) (refused 50)
+fitted xs room = cond (leb (length xs) most_line) (cond (leb (length xs) room) (Ok xs) (Err NoRoom)) (Err NoRoom)
 
 abbrev pub text_of : Given → List ℕ
 text_of g = line_text g.result (values_of g).receiver (values_of g).client (values_of g).sender (values_of g).helo (values_of g).identity
@@ -81,6 +79,6 @@ unfoldable pub outcome : Given → ℕ → Outcome
 outcome g room =
     cond (is_sender g.sender)
     (cond (is_host g.helo && is_host g.receiver)
-    (cond (ltb g.result 7) (fitted (text_of g) room) (refused 52))
-    (refused 21))
-    (refused 20)
+    (cond (ltb g.result 7) (fitted (text_of g) room) (Err NoResult))
+    (Err Host))
+    (Err Sender)

@@ -13,27 +13,15 @@ pub struct Sum {
     pub group: u64,
 }
 
-// A byte as a u64.
-fn wide(x: u8) -> u64
-    ensures { (result ≡ x) × (result < 256) }
-{
-    x as u64
-}
-
 // The value of a digit, in hex too.
 fn digit_value(b: u8) -> u64
     ensures { Digit b result }
 {
     if b < 58 {
-        if b < 48 {
-            return 0;
-        }
-        return wide(b - 48);
+        u64::from(b.saturating_sub(b'0'))
+    } else {
+        u64::from(b.saturating_sub(b'a' - 10))
     }
-    if b < 87 {
-        return 0;
-    }
-    wide(b - 87)
 }
 
 // The IPv4 address with one octet more.
@@ -62,25 +50,21 @@ fn push_byte(base: u64, x: Sum, b: u8) -> Sum
     requires { base ≤ 16 }
     ensures { result ≡ push_byte base x b }
 {
-    if b == 46 {
-        return Sum {
-            high: x.high,
+    match b {
+        b'.' => Sum {
             low: octet_on(x),
             group: 0,
-        };
-    }
-    if b == 58 {
-        return Sum {
+            ..x
+        },
+        b':' => Sum {
             high: high_on(x),
             low: low_on(x),
             group: 0,
-        };
-    }
-    let group = (base * (x.group % 65536) + digit_value(b)) % 65536;
-    Sum {
-        high: x.high,
-        low: x.low,
-        group: group,
+        },
+        _ => Sum {
+            group: (base * (x.group % 65536) + digit_value(b)) % 65536,
+            ..x
+        },
     }
 }
 
@@ -94,10 +78,8 @@ fn sum_of(base: u64, s: &[u8]) -> Sum
         low: 0,
         group: 0,
     };
-    let mut i = 0;
-    while i < s.len() {
-        x = push_byte(base, x, s[i]);
-        i += 1;
+    for b in s {
+        x = push_byte(base, x, *b);
     }
     x
 }
@@ -106,9 +88,10 @@ fn sum_of(base: u64, s: &[u8]) -> Sum
 pub fn address_of(s: &[u8]) -> Address
     ensures { result ≡ address_of s.now }
 {
-    if words::contains(s, 58) {
+    if words::contains(s, b':') {
         let x = sum_of(16, s);
-        return Address::IPv6(high_on(x), low_on(x));
+        Address::IPv6(high_on(x), low_on(x))
+    } else {
+        Address::IPv4(octet_on(sum_of(10, s)) as u32)
     }
-    Address::IPv4(octet_on(sum_of(10, s)) as u32)
 }

@@ -1,104 +1,109 @@
 // A value as the line shows it: dot-atom-text as it stands, any other in quotes; and back.
 ghost use Rattle.std.specs.Prelude.{◌≤◌, ◌<◌, ◌≡◌, length};
-ghost use Rattle.text.specs.Writing.{Wrote};
-ghost use Rattle.received.specs.Atoms.{is_atext};
 ghost use Rattle.text.specs.Lists.{same};
+ghost use Rattle.text.specs.Writing.{Writes};
+ghost use Rattle.received.specs.Atoms.{is_atext};
 ghost use Rattle.received.specs.Quoting.{is_marked, escaped_byte, escaped, unescaped};
 ghost use Rattle.received.specs.Numbers.{Says};
 ghost use Rattle.received.specs.Answers.{most_value};
 ghost use Rattle.received.specs.States.{atom_step, is_dot_atom_text, Placed, valued};
 ghost use Rattle.received.specs.Texts.{formed};
 
-use crate::{MOST_PART, Written};
+use crate::{LineError, MOST_PART};
 use text::bytes::Class;
-use text::{bytes, words, writing};
+use text::writing::Writer;
+use text::{bytes, words};
 
 // atext of RFC 5322 section 3.2.3.
 pub fn is_atext(b: u8) -> bool
     ensures { result ≡ is_atext b }
 {
-    if bytes::is_in(Class::Alphanumeric, b) {
-        return true;
-    }
-    words::contains(b"!#$%&'*+-/=?^_`{|}~", b)
+    bytes::is_in(Class::Alphanumeric, b) || words::contains(b"!#$%&'*+-/=?^_`{|}~", b)
 }
 
-// A byte more of dot-atom-text: 1 before an atom, 2 within one, 0 where it failed.
-fn atom_step(state: u8, b: u8) -> u8
+// How far a text is dot-atom-text: before an atom, within one, or not at all.
+#[derive(Clone, Copy)]
+pub enum Atoms {
+    Before,
+    Within,
+    Failed,
+}
+
+// A byte more of dot-atom-text.
+fn atom_step(state: Atoms, b: u8) -> Atoms
     ensures { result ≡ atom_step state b }
 {
-    if state == 0 {
-        return 0;
-    }
-    if b == 46 {
-        if state == 2 {
-            return 1;
+    match state {
+        Atoms::Before => {
+            if is_atext(b) {
+                Atoms::Within
+            } else {
+                Atoms::Failed
+            }
         }
-        return 0;
+        Atoms::Within => {
+            if b == b'.' {
+                Atoms::Before
+            } else if is_atext(b) {
+                Atoms::Within
+            } else {
+                Atoms::Failed
+            }
+        }
+        Atoms::Failed => Atoms::Failed,
     }
-    if is_atext(b) {
-        return 2;
-    }
-    0
 }
 
 // Whether a value is dot-atom-text.
 fn is_dot_atom_text(s: &[u8]) -> bool
     ensures { result ≡ is_dot_atom_text s.now }
 {
-    let mut state: u8 = 1;
-    let mut i = 0;
-    while i < s.len() {
-        state = atom_step(state, s[i]);
-        i += 1;
+    let mut state = Atoms::Before;
+    for b in s {
+        state = atom_step(state, *b);
     }
-    state == 2
+    matches!(state, Atoms::Within)
 }
 
 // Whether a byte is a quote or a backslash.
 fn is_marked(b: u8) -> bool
     ensures { result ≡ is_marked b }
 {
-    if b == 34 {
-        return true;
-    }
-    b == 92
+    b == b'"' || b == b'\\'
 }
 
 // Writes a byte, with a backslash before a quote or a backslash.
-fn put_escaped_byte(b: u8, out: &mut [u8], at: usize) -> usize
-    ensures { Wrote (escaped_byte b) out.old at out.new result }
+fn put_escaped_byte(b: u8, out: &mut Writer)
+    ensures { Writes (escaped_byte b) out.old out.new }
 {
     if is_marked(b) {
-        let next = writing::put(out, at, 92);
-        return writing::put(out, next, b);
+        out.put(b'\\');
     }
-    writing::put(out, at, b)
+    out.put(b);
 }
 
 // Writes a value's part.
-fn put_escaped(s: &[u8], out: &mut [u8], at: usize) -> usize
-    ensures { Wrote (escaped s.now) out.old at out.new result }
+fn put_escaped(s: &[u8], out: &mut Writer)
+    ensures { Writes (escaped s.now) out.old out.new }
 {
-    let mut next = at;
-    let mut i = 0;
-    while i < s.len() {
-        next = put_escaped_byte(s[i], out, next);
-        i += 1;
+    // Read so that its bound is known, which an empty value needs.
+    let _start = out.at;
+    for b in s {
+        put_escaped_byte(*b, out);
     }
-    next
 }
 
 // Writes a value as it stands, or quoted where it isn't dot-atom-text.
-pub fn put_form(s: &[u8], out: &mut [u8], at: usize) -> usize
-    ensures { Wrote (formed s.now) out.old at out.new result }
+pub fn put_form(s: &[u8], out: &mut Writer)
+    ensures { Writes (formed s.now) out.old out.new }
 {
     if is_dot_atom_text(s) {
-        return writing::put_all(s, out, at);
+        out.put_all(s);
+    } else {
+        out.put(b'"');
+        put_escaped(s, out);
+        out.put(b'"');
     }
-    let start = writing::put(out, at, 34);
-    let end = put_escaped(s, out, start);
-    writing::put(out, end, 34)
 }
 
 // Where the byte stands that the byte at i is, or escapes.
@@ -106,27 +111,26 @@ pub fn place_of(s: &[u8], i: usize) -> usize
     requires { i < length s.now }
     ensures { Placed s.now i result }
 {
-    if s[i] == 92 {
-        if i + 1 < s.len() {
-            return i + 1;
-        }
-        return i;
+    if s[i] == b'\\' && i + 1 < s.len() {
+        i + 1
+    } else {
+        i
     }
-    i
 }
 
 // Writes a part without its backslashes.
-pub fn put_unescaped(s: &[u8], out: &mut [u8], at: usize) -> usize
-    ensures { Wrote (unescaped s.now) out.old at out.new result }
+pub fn put_unescaped(s: &[u8], out: &mut Writer)
+    ensures { Writes (unescaped s.now) out.old out.new }
 {
-    let mut next = at;
+    // Read so that its bound is known, which an empty part needs.
+    let _start = out.at;
+    // By places and not `for`: a step takes one byte or two.
     let mut i = 0;
     while i < s.len() {
         let j = place_of(s, i);
-        next = writing::put(out, next, s[j]);
+        out.put(s[j]);
         i = j + 1;
     }
-    next
 }
 
 // Whether a text is the part of a value.
@@ -135,24 +139,26 @@ fn is_part_of(v: &[u8], part: &[u8]) -> bool
     ensures { result ≡ same (escaped v.now) part.now }
 {
     let mut again = [0u8; MOST_PART];
-    let n = put_escaped(v, &mut again, 0);
-    words::equal(&again[..n], part)
+    let mut w = Writer::new(&mut again);
+    put_escaped(v, &mut w);
+    let n = w.at;
+    words::equal(bytes::part(&again, 0, n), part)
 }
 
 // Writes a value to the front of a buffer if it is the one of the part.
-pub fn write_value(v: &[u8], part: &[u8], out: &mut [u8]) -> Written
+pub fn write_value(v: &[u8], part: &[u8], out: &mut [u8]) -> Result<usize, LineError>
     requires { length v.now ≤ most_value }
     ensures { Says (valued v.now part.now (length out.old)) result out.old out.new }
 {
-    if words::every(v, Class::Printable) {
-        if is_part_of(v, part) {
-            if v.len() <= out.len() {
-                writing::put_all(v, out, 0);
-                return Written::Length(v.len());
-            }
-            return Written::Refused(50);
-        }
-        return Written::Refused(51);
+    if !words::every(v, Class::Printable) {
+        return Err(LineError::NoLine);
     }
-    Written::Refused(51)
+    if !is_part_of(v, part) {
+        return Err(LineError::NoLine);
+    }
+    if out.len() < v.len() {
+        return Err(LineError::NoRoom);
+    }
+    Writer::new(out).put_all(v);
+    Ok(v.len())
 }

@@ -10,11 +10,11 @@
 // comes after an answer if the call changed a byte that it doesn't say it wrote. Any other line is printed as it is.
 #![tactic(auto)]
 
-use case_support::{Line, is_kept};
-use received::{Identity, LineAnswer, Part, Parts, Written};
+use case_support::is_kept;
+use received::{Checked, Identity, Parts};
 use std::io;
 use text::bytes::part;
-use text::words;
+use text::spans::Span;
 
 // Prints a number after a space.
 fn print_next(rt: &impl Print, n: usize) -> io::Result<()> {
@@ -25,26 +25,27 @@ fn print_next(rt: &impl Print, n: usize) -> io::Result<()> {
 // Prints the end of an answer, and whether a buffer is kept from a place on.
 fn print_rest(rt: &impl Print, out: &[u8], from: usize) -> io::Result<()> {
     if is_kept(out, from) {
-        return case_support::print_line(rt, b"");
+        case_support::print_line(rt, b"")
+    } else {
+        case_support::print_line(rt, b" touched")
     }
-    case_support::print_line(rt, b" touched")
 }
 
 // Prints a refusal's number.
 fn print_refusal(rt: &impl Print, number: u8) -> io::Result<()> {
     rt.write_all(b"refused")?;
-    print_next(rt, number as usize)
+    print_next(rt, usize::from(number))
 }
 
-// Prints what a call wrote at the front of a buffer.
-fn print_written(rt: &impl Print, answer: Written, out: &[u8]) -> io::Result<()> {
+// Prints what a call wrote at the front of a buffer, or its refusal's number.
+fn print_written(rt: &impl Print, answer: Result<usize, u8>, out: &[u8]) -> io::Result<()> {
     match answer {
-        Written::Length(n) => {
+        Ok(n) => {
             rt.write_all(b"ok ")?;
             case_support::print_bytes(rt, part(out, 0, n))?;
             print_rest(rt, out, n)
         }
-        Written::Refused(number) => {
+        Err(number) => {
             print_refusal(rt, number)?;
             print_rest(rt, out, 0)
         }
@@ -52,14 +53,14 @@ fn print_written(rt: &impl Print, answer: Written, out: &[u8]) -> io::Result<()>
 }
 
 // Prints where a part begins and ends.
-fn print_part(rt: &impl Print, p: Part) -> io::Result<()> {
+fn print_part(rt: &impl Print, p: Span) -> io::Result<()> {
     print_next(rt, p.from)?;
     print_next(rt, p.to)
 }
 
 fn print_parts(rt: &impl Print, parts: Parts) -> io::Result<()> {
     rt.write_all(b"ok")?;
-    print_next(rt, parts.result as usize)?;
+    print_next(rt, usize::from(parts.result))?;
     print_part(rt, parts.receiver)?;
     print_part(rt, parts.client)?;
     print_part(rt, parts.sender)?;
@@ -74,36 +75,20 @@ fn result_of(word: &[u8]) -> u8 {
 
 // The identity of a word, 0 or 1.
 fn identity_of(word: &[u8]) -> Identity {
-    if words::equal(word, b"1") {
-        return Identity::Helo;
+    match word {
+        b"1" => Identity::Helo,
+        _ => Identity::MailFrom,
     }
-    Identity::MailFrom
 }
 
-// Writes a line into the front of a buffer.
-fn write_front(
-    line: &[u8],
-    sender: &[u8],
-    helo: &[u8],
-    receiver: &[u8],
-    out: &mut [u8],
-) -> Written {
+// Writes a line into the front of a buffer; 0 if the buffer is shorter than that.
+fn write_front(line: &[u8], checked: &Checked, out: &mut [u8]) -> Result<usize, u8> {
     let result = result_of(case_support::word(line, 1));
-    let client = case_support::address_of(case_support::word(line, 2));
-    let identity = identity_of(case_support::word(line, 6));
     let room = case_support::number_of(case_support::word(line, 7)) as usize;
-    if room <= out.len() {
-        return received::write_line(
-            result,
-            client,
-            sender,
-            helo,
-            receiver,
-            identity,
-            &mut out[..room],
-        );
+    if out.len() < room {
+        return Err(0);
     }
-    Written::Refused(0)
+    received::write_line(result, checked, &mut out[..room]).map_err(|e| e.number())
 }
 
 fn run_write(rt: &impl Print, line: &[u8]) -> io::Result<()> {
@@ -114,14 +99,15 @@ fn run_write(rt: &impl Print, line: &[u8]) -> io::Result<()> {
     let s = case_support::unhex(case_support::word(line, 3), &mut sender);
     let h = case_support::unhex(case_support::word(line, 4), &mut helo);
     let r = case_support::unhex(case_support::word(line, 5), &mut receiver);
+    let checked = Checked {
+        client: case_support::address_of(case_support::word(line, 2)),
+        sender: part(&sender, 0, s),
+        helo: part(&helo, 0, h),
+        receiver: part(&receiver, 0, r),
+        identity: identity_of(case_support::word(line, 6)),
+    };
     case_support::fill(&mut out);
-    let answer = write_front(
-        line,
-        part(&sender, 0, s),
-        part(&helo, 0, h),
-        part(&receiver, 0, r),
-        &mut out,
-    );
+    let answer = write_front(line, &checked, &mut out);
     print_written(rt, answer, &out)
 }
 
@@ -129,19 +115,19 @@ fn run_read(rt: &impl Print, line: &[u8]) -> io::Result<()> {
     let mut s = [0u8; 4097];
     let n = case_support::unhex(case_support::word(line, 1), &mut s);
     match received::read_line(part(&s, 0, n)) {
-        LineAnswer::Read(parts) => print_parts(rt, parts)?,
-        LineAnswer::Refused(number) => print_refusal(rt, number)?,
+        Ok(parts) => print_parts(rt, parts)?,
+        Err(e) => print_refusal(rt, e.number())?,
     }
     case_support::print_line(rt, b"")
 }
 
-// Writes a part's value into the front of a buffer.
-fn unquote_front(line: &[u8], s: &[u8], out: &mut [u8]) -> Written {
+// Writes a part's value into the front of a buffer; 0 if the buffer is shorter than that.
+fn unquote_front(line: &[u8], s: &[u8], out: &mut [u8]) -> Result<usize, u8> {
     let room = case_support::number_of(case_support::word(line, 2)) as usize;
-    if room <= out.len() {
-        return received::unquote(s, &mut out[..room]);
+    if out.len() < room {
+        return Err(0);
     }
-    Written::Refused(0)
+    received::unquote(s, &mut out[..room]).map_err(|e| e.number())
 }
 
 fn run_unquote(rt: &impl Print, line: &[u8]) -> io::Result<()> {
@@ -156,9 +142,10 @@ fn run_unquote(rt: &impl Print, line: &[u8]) -> io::Result<()> {
 // Writes what is printed of an input into the front of a buffer, the 1,500 bytes that are enough.
 fn answer_front(s: &[u8], out: &mut [u8]) -> usize {
     if 1500 <= out.len() {
-        return line_input::answer_input(s, &mut out[..1500]);
+        line_input::answer_input(s, &mut out[..1500])
+    } else {
+        0
     }
-    0
 }
 
 fn run_print(rt: &impl Print, line: &[u8]) -> io::Result<()> {
@@ -172,33 +159,24 @@ fn run_print(rt: &impl Print, line: &[u8]) -> io::Result<()> {
 }
 
 fn run_line(rt: &impl Print, line: &[u8]) -> io::Result<()> {
-    let kind = case_support::word(line, 0);
-    if words::equal(kind, b"write") {
-        return run_write(rt, line);
+    match case_support::word(line, 0) {
+        b"write" => run_write(rt, line),
+        b"read" => run_read(rt, line),
+        b"unquote" => run_unquote(rt, line),
+        b"print" => run_print(rt, line),
+        _ => case_support::print_line(rt, line),
     }
-    if words::equal(kind, b"read") {
-        return run_read(rt, line);
-    }
-    if words::equal(kind, b"unquote") {
-        return run_unquote(rt, line);
-    }
-    if words::equal(kind, b"print") {
-        return run_print(rt, line);
-    }
-    case_support::print_line(rt, line)
 }
 
-// At most as many lines as the budget says.
+// At most a million lines.
 fn main(rt: HostRuntime) -> io::Result<()> {
     let mut input = rt.reader();
     let mut line = [0u8; 10000];
-    let mut budget: usize = 1000000;
-    while 0 < budget {
-        let Line::Of(n) = case_support::read_line(&mut input, &mut line)? else {
+    for _ in 0..1000000 {
+        let Some(n) = case_support::read_line(&mut input, &mut line)? else {
             return Ok(());
         };
         run_line(&rt, part(&line, 0, n))?;
-        budget -= 1;
     }
     Ok(())
 }

@@ -1,16 +1,17 @@
 -- What the record printer prints: it "drops one final newline, and prints a header and a line per term: place, name in lower case, sign, argument
 -- led by `:` or `=`, IPv4 length, IPv6 length; `.` where the term has none. A refusal prints `refused`, number, `at`, place, and no header."
-use Rattle.std.specs.Prelude.{ℕ, ◌-◌, ◌≤◌, ◌≡◌, List, [], ◌∷◌, ◌++◌, map, Bool, cond, length, take, eqb}
+use Rattle.std.specs.Prelude.{ℕ, ◌-◌, ◌≤◌, ◌≡◌, List, [], ◌∷◌, ◌++◌, map, cond, length, take, eqb, None, Option, Some}
+use Rattle.std.specs.Borrow.{Bor}
+use Rattle.record_listing.specs.declared.Columns.{Columns}
 use Rattle.text.specs.Bytes.{at, lower}
 use Rattle.text.specs.Texts.{bytes}
-use Rattle.text.specs.Writing.{overwritten}
+use Rattle.text.specs.Writing.{overwritten, Wrote}
+use Rattle.text.specs.declared.writing.Writer.{Writer}
 use Rattle.address_text.specs.Digits.{in_decimal}
 use Rattle.records.specs.Readings.{Optional, absent, present, Said, Placed}
 use Rattle.records.specs.Grammar.{Record}
 use Rattle.records.specs.Numbers.{RecordReport, accepted, refused, TermReport, end, term}
 use Rattle.records.specs.Answers.{most_bytes, RecordAnswers}
-use Rattle.record_listing.specs.declared.Column.{Column}
-use Rattle.record_listing.specs.declared.Column.TheVariants.{Of, Absent}
 
 -- "sign"; "`.` where the term has none"
 unfoldable pub sign_text : Optional ℕ → List ℕ
@@ -68,6 +69,12 @@ pub record Listed (s before after : List ℕ) (n : ℕ) : Type 0 where
   pub size : n ≡ length text
   pub buffer : after ≡ overwritten text before
 
+-- what is printed of a record was written
+pub record Shown (s : List ℕ) (before after : Writer) : Type 0 where
+  pub text : List ℕ
+  pub prints : Prints s text
+  pub wrote : Wrote text before.out.now before.at after.out.now after.at
+
 -- what is printed never has more bytes (`prints_length`, proofs/Laws/Room.antt)
 abbrev pub room : ℕ
 room = 320000
@@ -87,10 +94,13 @@ term_line (refused number place) = refusal_line number place
 term_line (term next t) = in_decimal t.place ++ bytes " " ++ in_decimal next ++ bytes " " ++ said_line t.said
 
 -- a column as the code has it
-abbrev pub column_of : Column → Optional ℕ
-column_of (Of n) = present n
-column_of Absent = absent
+abbrev pub column_of : Option ℕ → Optional ℕ
+column_of (Some n) = present n
+column_of None = absent
 
--- an argument that a test says is absent
-abbrev pub given : Bool → List ℕ → Optional (List ℕ)
-given lacks a = cond lacks absent (present a)
+abbrev pub argument_of : Option (Bor (List ℕ)) → Optional (List ℕ)
+argument_of (Some a) = present a.now
+argument_of None = absent
+
+abbrev pub columns_of : Columns → List ℕ
+columns_of c = columns c.name.now (column_of c.sign) (argument_of c.argument) (column_of c.four) (column_of c.six)

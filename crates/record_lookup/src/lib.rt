@@ -8,35 +8,36 @@ ghost use Rattle.rules.specs.Evaluation.{versioned};
 ghost use Rattle.rules.specs.Outcomes.{SaysSelection};
 ghost use Rattle.record_lookup.specs.Picking.{one_more, joined, PickedIs};
 
-use answer_table::{Found, items};
-use rules::{Life, LookedUp, Selected, Span};
+use answer_table::items;
+use rules::{LookedUp, Selected};
 use text::bytes;
+use text::spans::Span;
 
-// Which of some texts are records: none; several; or one, by its place in the table.
+// Which of some texts are records: none; several; or one, by its place in the table. An Option would lose the several, which is no error yet.
 #[derive(Clone, Copy)]
 pub enum Picked {
     Nothing,
     Several,
-    One { from: usize, to: usize },
+    One(Span),
 }
 
 // The records so far and one more.
-fn one_more(earlier: Picked, from: usize, to: usize) -> Picked
-    ensures { result ≡ one_more earlier from to }
+fn one_more(earlier: Picked, place: Span) -> Picked
+    ensures { result ≡ one_more earlier place }
 {
     match earlier {
-        Picked::Nothing => Picked::One { from, to },
+        Picked::Nothing => Picked::One(place),
         Picked::Several => Picked::Several,
-        Picked::One { from: _, to: _ } => Picked::Several,
+        Picked::One(_) => Picked::Several,
     }
 }
 
 // The records so far and a further text, which is one if it has a version section.
-fn join_text(table: &[u8], earlier: Picked, from: usize, to: usize) -> Picked
-    ensures { result ≡ joined table.now earlier from to }
+fn join_text(table: &[u8], earlier: Picked, place: Span) -> Picked
+    ensures { result ≡ joined table.now earlier place }
 {
-    if records::has_version(bytes::part(table, from, to)) {
-        return one_more(earlier, from, to);
+    if records::has_version(place.of(table)) {
+        return one_more(earlier, place);
     }
     earlier
 }
@@ -50,53 +51,43 @@ fn pick(table: &[u8], start: usize, end: usize) -> Picked
     let mut seen = Picked::Nothing;
     while at < texts.len() {
         let next = items::next_item(texts, at);
-        seen = join_text(table, seen, start + at + 2, start + next);
+        let place = Span {
+            from: start + at + 2,
+            to: start + next,
+        };
+        seen = join_text(table, seen, place);
         at = next;
     }
     seen
 }
 
 // The record of a domain, among the texts of its TXT question, and the lifetime after it.
-pub fn select_record(table: &[u8], domain: &[u8], life: Life) -> LookedUp
+pub fn select_record(table: &[u8], domain: &[u8], life: Option<u32>) -> LookedUp
     ensures { SaysSelection domain.now table.now life result }
 {
-    let Found::Entry {
-        status,
-        lifetime,
-        start,
-        end,
-    } = answer_table::find(table, 16, domain)
-    else {
+    let Some(found) = answer_table::find(table, 16, domain) else {
         return LookedUp {
             selected: Selected::Missing,
             life,
         };
     };
-    let life = client_match::sooner(life, lifetime);
-    if status == 2 {
+    let life = Some(client_match::sooner(life, found.lifetime));
+    if found.status == 2 {
         return LookedUp {
             selected: Selected::Ends(5),
             life,
         };
     }
-    match pick(table, start, end) {
-        Picked::Nothing => LookedUp {
-            selected: Selected::Ends(0),
-            life,
-        },
-        Picked::Several => LookedUp {
-            selected: Selected::Ends(6),
-            life,
-        },
-        Picked::One { from, to } => LookedUp {
-            selected: Selected::One {
-                domain: Span {
-                    from: start - domain.len(),
-                    to: start,
-                },
-                text: Span { from, to },
+    let selected = match pick(table, found.start, found.end) {
+        Picked::Nothing => Selected::Ends(0),
+        Picked::Several => Selected::Ends(6),
+        Picked::One(text) => Selected::One {
+            domain: Span {
+                from: found.start - domain.len(),
+                to: found.start,
             },
-            life,
+            text,
         },
-    }
+    };
+    LookedUp { selected, life }
 }

@@ -5,10 +5,8 @@ use Rattle.text.specs.Lists.{all}
 use Rattle.text.specs.Texts.{bytes}
 use Rattle.records.specs.Readings.{Said, Placed, argument_bytes}
 use Rattle.records.specs.Grammar.{Literal, TermText, Terms, Once, Record}
-use Rattle.records.specs.Numbers.{RecordReport, accepted, refused, record_report, said_of, TermReport, end, term, term_report}
+use Rattle.records.specs.Numbers.{RecordReport, accepted, refused, record_report, said_of, TermReport, end, term, term_report, TermAnswer, RecordAnswer}
 use Rattle.records.specs.declared.Term.{Term}
-use Rattle.records.specs.declared.TermAnswer.{TermAnswer}
-use Rattle.records.specs.declared.RecordAnswer.{RecordAnswer}
 
 -- 30 "record over 4,096 bytes"
 abbrev pub most_bytes : ℕ

@@ -1,15 +1,16 @@
 -- The longest beginning of a run of non-spaces with which some term begins, as the code finds it: an end of one of a few terms is put after a front, and if
 -- that is a term, some term begins with the front. `Beginnings` says that no other ends are needed. The places of W-201 stand on it.
-use Rattle.std.specs.Prelude.{◌≡◌, ℕ, zero, suc, ◌+◌, List, ◌++◌, Bool, true, false, cond, ◌||◌, ◌↔◌, length, take, eqb}
+use Rattle.records.specs.Numbers.{TermAnswer, RecordAnswer, refusal}
+use Rattle.std.specs.Prelude.{◌≡◌, ℕ, zero, suc, ◌+◌, List, ◌++◌, Bool, true, false, cond, ◌||◌, ◌↔◌, length, take, None, Option, Some, Ok, Err}
 use Rattle.text.specs.Bytes.{part}
 use Rattle.text.specs.Texts.{bytes}
 use Rattle.text.specs.Runs.{is_in, run_end}
 use Rattle.text.specs.declared.bytes.Class.TheVariants.{NotSpace}
 use Rattle.records.specs.Answers.{Begun, Longest}
 use Rattle.records.specs.Reader.{token_of, read_term, read_record}
-use Rattle.records.specs.declared.Token.{Token}
-use Rattle.records.specs.declared.TermAnswer.{TermAnswer}
-use Rattle.records.specs.declared.RecordAnswer.{RecordAnswer}
+use Rattle.records.specs.declared.Term.{Term}
+use Rattle.records.specs.declared.Reason.{Reason}
+use Rattle.records.specs.declared.Refusal.{Refusal}
 
 -- terms whose ends complete whatever a term begins with
 abbrev pub models : List ℕ
@@ -23,9 +24,9 @@ room_bytes = 4160
 unfoldable pub ending : List ℕ → ℕ → List ℕ
 ending terms i = part terms i (run_end (is_in NotSpace) terms i)
 
-unfoldable pub is_term : Token → Bool
-is_term (Token.Is x) = true
-is_term Token.Outside = false
+unfoldable pub is_term : Option Term → Bool
+is_term (Some x) = true
+is_term None = false
 
 -- whether a test holds at a place up to n
 unfoldable pub some_up_to : (ℕ → Bool) → ℕ → Bool
@@ -44,19 +45,25 @@ longest_up_to w (suc n) = cond (begins_term (take (suc n) w)) (suc n) (longest_u
 abbrev pub longest : List ℕ → ℕ
 longest w = longest_up_to w (length w)
 
--- the place of a refusal that was found at a place: 32's is just after the longest beginning of the term there, every other stays
-unfoldable pub pointed : List ℕ → ℕ → ℕ → ℕ
-pointed s number p = cond (eqb number 32) (p + longest (part s p (run_end (is_in NotSpace) s p))) p
+-- the place of a refusal that was found at a place: that of a run outside the grammar is just after the longest beginning of the run, every other stays
+unfoldable pub pointed : List ℕ → Reason → ℕ → ℕ
+pointed s Reason.Outside p = p + longest (part s p (run_end (is_in NotSpace) s p))
+pointed s Reason.TooLong p = p
+pointed s Reason.NoVersion p = p
+pointed s Reason.Repeated p = p
+pointed s Reason.Beyond p = p
 
--- reading a term and reading a record with these places
+-- refusing, reading a term and reading a record with these places
+abbrev pub point_refusal : List ℕ → Refusal → Refusal
+point_refusal s x = refusal x.reason (pointed s x.reason x.at)
+
 unfoldable pub point_term : List ℕ → TermAnswer → TermAnswer
-point_term s (TermAnswer.Is at next x) = TermAnswer.Is at next x
-point_term s TermAnswer.End = TermAnswer.End
-point_term s (TermAnswer.Refused number p) = TermAnswer.Refused number (pointed s number p)
+point_term s (Ok x) = Ok x
+point_term s (Err x) = Err (point_refusal s x)
 
 unfoldable pub point_record : List ℕ → RecordAnswer → RecordAnswer
-point_record s (RecordAnswer.Accepted next) = RecordAnswer.Accepted next
-point_record s (RecordAnswer.Refused number p) = RecordAnswer.Refused number (pointed s number p)
+point_record s (Ok next) = Ok next
+point_record s (Err x) = Err (point_refusal s x)
 
 abbrev pub pointed_term : List ℕ → ℕ → TermAnswer
 pointed_term s i = point_term s (read_term s i)

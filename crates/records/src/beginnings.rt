@@ -5,10 +5,10 @@ ghost use Rattle.records.specs.Answers.{most_bytes, Longest};
 ghost use Rattle.records.specs.Reader.{token_of};
 ghost use Rattle.records.specs.Beginnings.{room_bytes, ending, is_term, begins_term, longest};
 
-use crate::Token;
 use crate::terms::read_token;
+use text::bytes;
 use text::bytes::Class;
-use text::{bytes, writing};
+use text::writing::Writer;
 
 // Room for the longest run and for any end after it.
 const ROOM: usize = 4160;
@@ -19,15 +19,6 @@ fn room() -> [u8; ROOM]
     [0; ROOM]
 }
 
-fn is_term(token: Token) -> bool
-    ensures { result ≡ is_term token }
-{
-    match token {
-        Token::Is(_) => true,
-        Token::Outside => false,
-    }
-}
-
 // Whether the end of a term, from a place in it on, makes a term of the first n bytes of a buffer. It is written after them.
 fn completes(terms: &[u8], from: usize, n: usize, room: &mut [u8]) -> bool
     requires { n + length terms.now ≤ length room.old }
@@ -35,8 +26,13 @@ fn completes(terms: &[u8], from: usize, n: usize, room: &mut [u8]) -> bool
     ensures room_unchanged { take n room.new ≡ take n room.old }
 {
     let to = bytes::run_end(terms, from, Class::NotSpace);
-    let end = writing::put_all(bytes::part(terms, from, to), room, n);
-    is_term(read_token(bytes::part(room, 0, end)))
+    let mut w = Writer {
+        out: &mut *room,
+        at: n,
+    };
+    w.put_all(bytes::part(terms, from, to));
+    let end = w.at;
+    read_token(bytes::part(room, 0, end)).is_some()
 }
 
 // Whether some term begins with the first n bytes of a run.
@@ -45,13 +41,13 @@ fn begins_term(w: &[u8], n: usize, room: &mut [u8]) -> bool
     ensures { result ≡ begins_term (take n w.now) }
 {
     let terms = b"x=.a a//0 ip4:0.0.0.0 ip6::: exists:%{d01} all mx ptr include:%%";
-    let end = writing::put_all(bytes::part(w, 0, n), room, 0);
-    let mut from = 0;
-    while from <= terms.len() {
+    let mut front = Writer::new(room);
+    front.put_all(bytes::part(w, 0, n));
+    let end = front.at;
+    for from in 0..=terms.len() {
         if completes(terms, from, end, room) {
             return true;
         }
-        from += 1;
     }
     false
 }
@@ -65,6 +61,7 @@ pub fn longest_beginning(w: &[u8]) -> usize
     let mut room = room();
     let mut begun = 0;
     let mut beyond = w.len() + 1;
+    // By halves; `partition_point` is over the items of a slice.
     while begun + 1 < beyond {
         let middle = begun + (beyond - begun) / 2;
         if begins_term(w, middle, &mut room) {

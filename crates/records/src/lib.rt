@@ -1,14 +1,15 @@
 // Records and their terms.
 #![tactic(auto)]
 
-ghost use Rattle.std.specs.Prelude.{◌≡◌, ◌+◌, ◌≤◌, ◌<◌, length};
+ghost use Rattle.std.specs.Prelude.{◌≡◌, ◌+◌, ◌≤◌, length};
 ghost use Rattle.text.specs.Bytes.{part};
 ghost use Rattle.records.specs.Answers.{most_bytes, ReadsRecord, ReadsTerm, ReadsArgument};
 ghost use Rattle.records.specs.Reader.{has_version, term_from, read_term};
-ghost use Rattle.records.specs.Beginnings.{pointed, pointed_term, pointed_record};
+ghost use Rattle.records.specs.Beginnings.{point_refusal, pointed_term, pointed_record};
+ghost use Rattle.records.specs.Numbers.{number_of, sign_of};
+ghost use Rattle.records.specs.declared.Reason.{Reason};
 
 use address::Address;
-use opening::Opening;
 use terms::read_token;
 use text::bytes::Class;
 use text::{bytes, words};
@@ -74,26 +75,64 @@ pub enum Term {
     },
 }
 
-// A run of non-spaces: a term, or outside the grammar.
-#[derive(Clone, Copy)]
-pub enum Token {
-    Is(Term),
+impl Term {
+    // A mechanism's sign; a modifier has none.
+    pub fn sign(self) -> Option<u8>
+        ensures { result ≡ sign_of self }
+    {
+        match self {
+            Term::All { sign } => Some(sign),
+            Term::Include { sign, .. } => Some(sign),
+            Term::A { sign, .. } => Some(sign),
+            Term::Mx { sign, .. } => Some(sign),
+            Term::Ptr { sign, .. } => Some(sign),
+            Term::Network { sign, .. } => Some(sign),
+            Term::Exists { sign, .. } => Some(sign),
+            Term::Redirect { .. } => None,
+            Term::Explanation { .. } => None,
+            Term::Unknown { .. } => None,
+        }
+    }
+}
+
+// Why a record or a term is refused.
+#[derive(Clone, Copy, PartialEq, Eq)]
+pub enum Reason {
+    TooLong,
+    NoVersion,
     Outside,
+    Repeated,
+    Beyond,
 }
 
-// What reading a term answers: a term with its first byte's place and the next place; the end; or a refusal with its number and place.
-#[derive(Clone, Copy)]
-pub enum TermAnswer {
-    Is { at: usize, next: usize, term: Term },
-    End,
-    Refused { number: u8, at: usize },
+impl Reason {
+    // The refusal's number.
+    pub fn number(self) -> u8
+        ensures { result ≡ number_of self }
+    {
+        match self {
+            Reason::TooLong => 30,
+            Reason::NoVersion => 31,
+            Reason::Outside => 32,
+            Reason::Repeated => 33,
+            Reason::Beyond => 34,
+        }
+    }
 }
 
-// What reading a record answers: the place just after the version, or a refusal with its number and place.
+// A refusal with its place.
 #[derive(Clone, Copy)]
-pub enum RecordAnswer {
-    Accepted(usize),
-    Refused { number: u8, at: usize },
+pub struct Refusal {
+    pub reason: Reason,
+    pub at: usize,
+}
+
+// A term that was read, with its first byte's place and the next place.
+#[derive(Clone, Copy)]
+pub struct ReadTerm {
+    pub at: usize,
+    pub next: usize,
+    pub term: Term,
 }
 
 // A longer text is refused with 30.
@@ -103,58 +142,67 @@ pub const MOST_BYTES: usize = 4096;
 pub const AFTER_VERSION: usize = 6;
 
 // The term at a place where no space stands, or the end.
-fn term_from(s: &[u8], at: usize) -> TermAnswer
+fn term_from(s: &[u8], at: usize) -> Result<Option<ReadTerm>, Refusal>
     requires { at ≤ length s.now }
     ensures { result ≡ term_from s.now at }
 {
     if at == s.len() {
-        return TermAnswer::End;
+        return Ok(None);
     }
     let next = bytes::run_end(s, at, Class::NotSpace);
-    let Token::Is(term) = read_token(&s[at..next]) else {
-        return TermAnswer::Refused { number: 32, at };
+    let Some(term) = read_token(&s[at..next]) else {
+        return Err(Refusal {
+            reason: Reason::Outside,
+            at,
+        });
     };
-    TermAnswer::Is { at, next, term }
+    Ok(Some(ReadTerm { at, next, term }))
 }
 
-// Reads one term from a place on as read_term does, but 32 has the place of the term's first byte, which costs nothing to find.
-pub fn next_term(s: &[u8], at: usize) -> TermAnswer
+// Reads one term from a place on as read_term does, but a run outside the grammar is refused at its first byte, which costs nothing to find.
+pub fn next_term(s: &[u8], at: usize) -> Result<Option<ReadTerm>, Refusal>
     ensures { result ≡ read_term s.now at }
 {
     if MOST_BYTES < s.len() {
-        return TermAnswer::Refused { number: 30, at: 0 };
+        return Err(Refusal {
+            reason: Reason::TooLong,
+            at: 0,
+        });
     }
     if s.len() < at {
-        return TermAnswer::Refused { number: 34, at };
+        return Err(Refusal {
+            reason: Reason::Beyond,
+            at,
+        });
     }
     term_from(s, bytes::run_end(s, at, Class::Space))
 }
 
-// The place of a refusal that was found at a place: 32's is just after the longest beginning of the term there with which some term begins.
-fn point(s: &[u8], number: u8, at: usize) -> usize
-    requires { 30 < number → length s.now ≤ most_bytes }
-    ensures { result ≡ pointed s.now number at }
+// A refusal with the place that is answered: of a run outside the grammar that just after the longest beginning with which some term begins.
+fn point(s: &[u8], refusal: Refusal) -> Refusal
+    requires { refusal.reason ≡ Reason.Outside → length s.now ≤ most_bytes }
+    ensures { result ≡ point_refusal s.now refusal }
 {
-    if number == 32 {
-        let end = bytes::run_end(s, at, Class::NotSpace);
-        return at + beginnings::longest_beginning(bytes::part(s, at, end));
+    let Refusal { reason, at } = refusal;
+    match reason {
+        Reason::Outside => {
+            let end = bytes::run_end(s, at, Class::NotSpace);
+            let at = at + beginnings::longest_beginning(bytes::part(s, at, end));
+            Refusal { reason, at }
+        }
+        _ => refusal,
     }
-    at
 }
 
-// Reads one term from a place on: 30, 34, the end, 32 with the place just after the longest beginning with which some term begins, or the term with
-// the next place.
-pub fn read_term(s: &[u8], at: usize) -> TermAnswer
+// Reads one term from a place on: a refusal, the end, or the term with the next place. A run outside the grammar is refused just after the longest
+// beginning with which some term begins.
+pub fn read_term(s: &[u8], at: usize) -> Result<Option<ReadTerm>, Refusal>
     ensures value { result ≡ pointed_term s.now at }
     ensures reads_term { ReadsTerm s.now at result }
 {
-    let answer = next_term(s, at);
-    let TermAnswer::Refused { number, at: place } = answer else {
-        return answer;
-    };
-    TermAnswer::Refused {
-        number,
-        at: point(s, number, place),
+    match next_term(s, at) {
+        Ok(read) => Ok(read),
+        Err(refusal) => Err(point(s, refusal)),
     }
 }
 
@@ -174,31 +222,13 @@ pub fn argument(s: &[u8], at: usize, next: usize, term: Term) -> &[u8]
 {
     let w = bytes::part(s, at, next);
     match term {
-        Term::All { sign: _ } => bytes::part(w, w.len(), w.len()),
-        Term::Include { sign: _, from, to } => bytes::part(w, from, to),
-        Term::A {
-            sign: _,
-            from,
-            to,
-            four: _,
-            six: _,
-        } => bytes::part(w, from, to),
-        Term::Mx {
-            sign: _,
-            from,
-            to,
-            four: _,
-            six: _,
-        } => bytes::part(w, from, to),
-        Term::Ptr { sign: _, from, to } => bytes::part(w, from, to),
-        Term::Network {
-            sign: _,
-            from,
-            to,
-            address: _,
-            length: _,
-        } => bytes::part(w, from, to),
-        Term::Exists { sign: _, from, to } => bytes::part(w, from, to),
+        Term::All { .. } => bytes::part(w, w.len(), w.len()),
+        Term::Include { from, to, .. } => bytes::part(w, from, to),
+        Term::A { from, to, .. } => bytes::part(w, from, to),
+        Term::Mx { from, to, .. } => bytes::part(w, from, to),
+        Term::Ptr { from, to, .. } => bytes::part(w, from, to),
+        Term::Network { from, to, .. } => bytes::part(w, from, to),
+        Term::Exists { from, to, .. } => bytes::part(w, from, to),
         Term::Redirect { from, to } => bytes::part(w, from, to),
         Term::Explanation { from, to } => bytes::part(w, from, to),
         Term::Unknown { name, to } => value_part(w, name, to),
@@ -209,28 +239,18 @@ pub fn argument(s: &[u8], at: usize, next: usize, term: Term) -> &[u8]
 pub fn has_version(s: &[u8]) -> bool
     ensures { result ≡ has_version s.now }
 {
-    if words::equal_word(bytes::part(s, 0, AFTER_VERSION), b"v=spf1") {
-        if s.len() == AFTER_VERSION {
-            return true;
-        }
-        return bytes::peek(s, AFTER_VERSION) == 32;
-    }
-    false
+    words::equal_word(bytes::part(s, 0, AFTER_VERSION), b"v=spf1")
+        && (s.len() == AFTER_VERSION || bytes::peek(s, AFTER_VERSION) == 32)
 }
 
-// Reads a record: 30, 31, then 32 or 33, whichever term begins first, with its place, or accepted with the place just after the version. The answer
-// is the same for every client.
-pub fn read_record(s: &[u8]) -> RecordAnswer
+// Reads a record: a refusal with its place, of a term outside the grammar and a repeated modifier that which begins first; or accepted with the place
+// just after the version. The answer is the same for every client.
+pub fn read_record(s: &[u8]) -> Result<usize, Refusal>
     ensures value { result ≡ pointed_record s.now }
     ensures reads_record { ReadsRecord s.now result }
 {
-    let opening = opening::open_record(s, Address::IPv4(0)).opening;
-    match opening {
-        Opening::Matched { sign: _ } => RecordAnswer::Accepted(AFTER_VERSION),
-        Opening::Open { at: _ } => RecordAnswer::Accepted(AFTER_VERSION),
-        Opening::Refused { number, at } => RecordAnswer::Refused {
-            number,
-            at: point(s, number, at),
-        },
+    match opening::open_record(s, Address::IPv4(0)) {
+        Ok(_) => Ok(AFTER_VERSION),
+        Err(refusal) => Err(point(s, refusal)),
     }
 }

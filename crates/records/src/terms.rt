@@ -1,13 +1,14 @@
 // One term of a record: a run of non-spaces.
 ghost use Rattle.std.specs.Prelude.{◌≡◌, ◌≤◌, ◌<◌, ◌&&◌, eqb, length};
 ghost use Rattle.records.specs.Grammar.{is_qualifier};
-ghost use Rattle.records.specs.Reader.{later_kind, kind_of, spec_at, all_of, include_of, exists_of, ptr_of, cut_of, hosts_cut, hosts_at, a_of, mx_of, network_term, ip4_of, ip6_of, mechanism_by, sign_by, name_by, modifier_of, token_of};
+ghost use Rattle.records.specs.Reader.{later_kind, kind_of, spec_at, cut_of, hosts_cut, hosts_at, network_term, ip4_of, ip6_of, mechanism_by, sign_by, name_by, modifier_of, token_of};
 
-use crate::{Term, Token};
+use crate::Term;
 use address::Address;
 use macros::Form;
-use networks::{Dual, Front, Length, Network};
+use networks::{Front, Lengths};
 use text::bytes::Class;
+use text::spans::Span;
 use text::{bytes, words};
 
 // Which mechanism a name is.
@@ -21,145 +22,74 @@ pub enum Kind {
     Ip4,
     Ip6,
     Exists,
-    NoKind,
-}
-
-// A domain-spec after its colon, by where it begins; absent; or neither.
-#[derive(Clone, Copy)]
-pub enum Spec {
-    From(usize),
-    Absent,
-    Bad,
 }
 
 // The domain-spec and the prefix lengths of an `a` or `mx` term.
 #[derive(Clone, Copy)]
-pub enum Hosts {
-    Of {
-        from: usize,
-        to: usize,
-        four: u8,
-        six: u8,
-    },
-    Bad,
+pub struct Hosts {
+    pub domain: Span,
+    pub lengths: Lengths,
 }
 
 // Whether a byte is a sign.
 fn is_qualifier(b: u8) -> bool
     ensures { result ≡ is_qualifier b }
 {
-    if b == 43 {
-        return true;
-    }
-    if b == 45 {
-        return true;
-    }
-    if b == 63 {
-        return true;
-    }
-    b == 126
+    matches!(b, b'+' | b'-' | b'?' | b'~')
 }
 
 // Which mechanism a name is that is none of the first five.
-fn later_kind(name: &[u8]) -> Kind
+fn later_kind(name: &[u8]) -> Option<Kind>
     ensures { result ≡ later_kind name.now }
 {
     if words::equal_word(name, b"ip4") {
-        return Kind::Ip4;
+        return Some(Kind::Ip4);
     }
     if words::equal_word(name, b"ip6") {
-        return Kind::Ip6;
+        return Some(Kind::Ip6);
     }
     if words::equal_word(name, b"exists") {
-        return Kind::Exists;
+        return Some(Kind::Exists);
     }
-    Kind::NoKind
+    None
 }
 
 // Which mechanism a name is, in either case of its letters.
-fn kind_of(name: &[u8]) -> Kind
+// One test after another: a `match` can't compare in either case, and a table would need a loop over it.
+fn kind_of(name: &[u8]) -> Option<Kind>
     ensures { result ≡ kind_of name.now }
 {
     if words::equal_word(name, b"all") {
-        return Kind::All;
+        return Some(Kind::All);
     }
     if words::equal_word(name, b"include") {
-        return Kind::Include;
+        return Some(Kind::Include);
     }
     if words::equal_word(name, b"a") {
-        return Kind::A;
+        return Some(Kind::A);
     }
     if words::equal_word(name, b"mx") {
-        return Kind::Mx;
+        return Some(Kind::Mx);
     }
     if words::equal_word(name, b"ptr") {
-        return Kind::Ptr;
+        return Some(Kind::Ptr);
     }
     later_kind(name)
 }
 
-// [ ":" domain-spec ] from a place up to another.
-fn read_spec(w: &[u8], k: usize, to: usize) -> Spec
+// [ ":" domain-spec ] from a place up to another: where the domain-spec begins, if there is one.
+fn read_spec(w: &[u8], k: usize, to: usize) -> Option<Option<usize>>
     requires { (k ≤ to) × (to ≤ length w.now) }
     ensures { result ≡ spec_at w.now k to }
 {
     if k == to {
-        return Spec::Absent;
+        return Some(None);
     }
     if bytes::peek(w, k) == 58 {
         let from = k + 1;
-        if macros::read_macro_string(Form::DomainSpec, &w[from..to]) {
-            return Spec::From(from);
-        }
-        return Spec::Bad;
+        return macros::read_macro_string(Form::DomainSpec, &w[from..to]).then_some(Some(from));
     }
-    Spec::Bad
-}
-
-// Each mechanism, with its name up to k.
-fn read_all(sign: u8, k: usize, w: &[u8]) -> Token
-    ensures { result ≡ all_of sign k w.now }
-{
-    if k == w.len() {
-        return Token::Is(Term::All { sign });
-    }
-    Token::Outside
-}
-
-fn read_include(sign: u8, k: usize, w: &[u8]) -> Token
-    requires { k ≤ length w.now }
-    ensures { result ≡ include_of sign k w.now }
-{
-    let to = w.len();
-    match read_spec(w, k, to) {
-        Spec::From(from) => Token::Is(Term::Include { sign, from, to }),
-        Spec::Absent => Token::Outside,
-        Spec::Bad => Token::Outside,
-    }
-}
-
-fn read_exists(sign: u8, k: usize, w: &[u8]) -> Token
-    requires { k ≤ length w.now }
-    ensures { result ≡ exists_of sign k w.now }
-{
-    let to = w.len();
-    match read_spec(w, k, to) {
-        Spec::From(from) => Token::Is(Term::Exists { sign, from, to }),
-        Spec::Absent => Token::Outside,
-        Spec::Bad => Token::Outside,
-    }
-}
-
-fn read_ptr(sign: u8, k: usize, w: &[u8]) -> Token
-    requires { k ≤ length w.now }
-    ensures { result ≡ ptr_of sign k w.now }
-{
-    let to = w.len();
-    match read_spec(w, k, to) {
-        Spec::From(from) => Token::Is(Term::Ptr { sign, from, to }),
-        Spec::Absent => Token::Is(Term::Ptr { sign, from: to, to }),
-        Spec::Bad => Token::Outside,
-    }
+    None
 }
 
 // Where the prefix lengths of an `a` or `mx` begin, after its name.
@@ -170,32 +100,20 @@ fn lengths_start(t: &[u8]) -> usize
 }
 
 // [ ":" domain-spec ] up to the cut, and the lengths from there on.
-fn read_hosts_cut(w: &[u8], k: usize, cut: usize) -> Hosts
+fn read_hosts_cut(w: &[u8], k: usize, cut: usize) -> Option<Hosts>
     requires { (k ≤ cut) × (cut ≤ length w.now) }
     ensures { result ≡ hosts_cut w.now k cut }
 {
-    let Dual::Both(four, six) = networks::read_dual(&w[cut..]) else {
-        return Hosts::Bad;
-    };
-    match read_spec(w, k, cut) {
-        Spec::From(from) => Hosts::Of {
-            from,
-            to: cut,
-            four,
-            six,
-        },
-        Spec::Absent => Hosts::Of {
-            from: cut,
-            to: cut,
-            four,
-            six,
-        },
-        Spec::Bad => Hosts::Bad,
-    }
+    let lengths = networks::read_dual(&w[cut..])?;
+    let from = read_spec(w, k, cut)?.unwrap_or(cut);
+    Some(Hosts {
+        domain: Span { from, to: cut },
+        lengths,
+    })
 }
 
 // [ ":" domain-spec ] [ dual-cidr-length ], with the name up to k.
-fn read_hosts(w: &[u8], k: usize) -> Hosts
+fn read_hosts(w: &[u8], k: usize) -> Option<Hosts>
     requires { k ≤ length w.now }
     ensures { result ≡ hosts_at w.now k }
 {
@@ -203,61 +121,19 @@ fn read_hosts(w: &[u8], k: usize) -> Hosts
     read_hosts_cut(w, k, cut)
 }
 
-fn read_a(sign: u8, k: usize, w: &[u8]) -> Token
-    requires { k ≤ length w.now }
-    ensures { result ≡ a_of sign k w.now }
-{
-    let Hosts::Of {
-        from,
-        to,
-        four,
-        six,
-    } = read_hosts(w, k)
-    else {
-        return Token::Outside;
-    };
-    Token::Is(Term::A {
-        sign,
-        from,
-        to,
-        four,
-        six,
-    })
-}
-
-fn read_mx(sign: u8, k: usize, w: &[u8]) -> Token
-    requires { k ≤ length w.now }
-    ensures { result ≡ mx_of sign k w.now }
-{
-    let Hosts::Of {
-        from,
-        to,
-        four,
-        six,
-    } = read_hosts(w, k)
-    else {
-        return Token::Outside;
-    };
-    Token::Is(Term::Mx {
-        sign,
-        from,
-        to,
-        four,
-        six,
-    })
-}
-
 // The term of a network and its length, as they were read; the network's text stands from one place up to another.
-fn network_term(sign: u8, from: usize, to: usize, network: Network, size: Length) -> Token
+fn network_term(
+    sign: u8,
+    from: usize,
+    to: usize,
+    network: Option<Address>,
+    size: Option<u8>,
+) -> Option<Term>
     ensures { result ≡ network_term sign from to network size }
 {
-    let Network::Is(address) = network else {
-        return Token::Outside;
-    };
-    let Length::Of(length) = size else {
-        return Token::Outside;
-    };
-    Token::Is(Term::Network {
+    let address = network?;
+    let length = size?;
+    Some(Term::Network {
         sign,
         from,
         to,
@@ -267,22 +143,20 @@ fn network_term(sign: u8, from: usize, to: usize, network: Network, size: Length
 }
 
 // A network as far as its octets go, and its length from there on.
-fn read_ip4(sign: u8, k: usize, w: &[u8]) -> Token
+fn read_ip4(sign: u8, k: usize, w: &[u8]) -> Option<Term>
     ensures { result ≡ ip4_of sign k w.now }
 {
     if bytes::peek(w, k) == 58 {
         let from = k + 1;
-        let Front::Ends { value, end } = networks::read_front(w, from) else {
-            return Token::Outside;
-        };
+        let Front { value, end } = networks::read_front(w, from)?;
         let length = networks::read_length4(&w[end..]);
-        return network_term(sign, from, end, Network::Is(Address::IPv4(value)), length);
+        return network_term(sign, from, end, Some(Address::IPv4(value)), length);
     }
-    Token::Outside
+    None
 }
 
 // A network up to the first slash, and its length from there on.
-fn read_ip6(sign: u8, k: usize, w: &[u8]) -> Token
+fn read_ip6(sign: u8, k: usize, w: &[u8]) -> Option<Term>
     ensures { result ≡ ip6_of sign k w.now }
 {
     if bytes::peek(w, k) == 58 {
@@ -292,29 +166,60 @@ fn read_ip6(sign: u8, k: usize, w: &[u8]) -> Token
         let length = networks::read_length6(&w[slash..]);
         return network_term(sign, from, slash, network, length);
     }
-    Token::Outside
+    None
 }
 
 // A mechanism of a kind, with its name up to k.
-fn read_mechanism_by(kind: Kind, sign: u8, k: usize, w: &[u8]) -> Token
+fn read_mechanism_by(kind: Kind, sign: u8, k: usize, w: &[u8]) -> Option<Term>
     requires { k ≤ length w.now }
-    ensures { result ≡ mechanism_by kind sign k w.now }
+    ensures { result ≡ mechanism_by (Some kind) sign k w.now }
 {
+    let to = w.len();
     match kind {
-        Kind::All => read_all(sign, k, w),
-        Kind::Include => read_include(sign, k, w),
-        Kind::A => read_a(sign, k, w),
-        Kind::Mx => read_mx(sign, k, w),
-        Kind::Ptr => read_ptr(sign, k, w),
+        Kind::All => (k == to).then_some(Term::All { sign }),
+        Kind::Include => {
+            let from = read_spec(w, k, to)??;
+            Some(Term::Include { sign, from, to })
+        }
+        Kind::A => {
+            let Hosts { domain, lengths } = read_hosts(w, k)?;
+            let Span { from, to } = domain;
+            let Lengths { four, six } = lengths;
+            Some(Term::A {
+                sign,
+                from,
+                to,
+                four,
+                six,
+            })
+        }
+        Kind::Mx => {
+            let Hosts { domain, lengths } = read_hosts(w, k)?;
+            let Span { from, to } = domain;
+            let Lengths { four, six } = lengths;
+            Some(Term::Mx {
+                sign,
+                from,
+                to,
+                four,
+                six,
+            })
+        }
+        Kind::Ptr => {
+            let from = read_spec(w, k, to)?.unwrap_or(to);
+            Some(Term::Ptr { sign, from, to })
+        }
         Kind::Ip4 => read_ip4(sign, k, w),
         Kind::Ip6 => read_ip6(sign, k, w),
-        Kind::Exists => read_exists(sign, k, w),
-        Kind::NoKind => Token::Outside,
+        Kind::Exists => {
+            let from = read_spec(w, k, to)??;
+            Some(Term::Exists { sign, from, to })
+        }
     }
 }
 
 // A modifier, with its name up to k, where `=` stands.
-fn read_modifier(k: usize, w: &[u8]) -> Token
+fn read_modifier(k: usize, w: &[u8]) -> Option<Term>
     requires { k < length w.now }
     ensures { result ≡ modifier_of k w.now }
 {
@@ -323,57 +228,48 @@ fn read_modifier(k: usize, w: &[u8]) -> Token
     let value = bytes::part(w, k + 1, to);
     if bytes::is_in(Class::Alpha, bytes::peek(w, 0)) {
         if words::equal_word(name, b"redirect") {
-            if macros::read_macro_string(Form::DomainSpec, value) {
-                return Token::Is(Term::Redirect { from: k + 1, to });
-            }
-            return Token::Outside;
+            return macros::read_macro_string(Form::DomainSpec, value).then_some(Term::Redirect {
+                from: k + 1,
+                to,
+            });
         }
         if words::equal_word(name, b"exp") {
-            if macros::read_macro_string(Form::DomainSpec, value) {
-                return Token::Is(Term::Explanation { from: k + 1, to });
-            }
-            return Token::Outside;
+            return macros::read_macro_string(Form::DomainSpec, value).then_some(Term::Explanation {
+                from: k + 1,
+                to,
+            });
         }
-        if macros::read_macro_string(Form::ModifierValue, value) {
-            return Token::Is(Term::Unknown { name: k, to });
-        }
-        return Token::Outside;
+        return macros::read_macro_string(Form::ModifierValue, value).then_some(Term::Unknown {
+            name: k,
+            to,
+        });
     }
-    Token::Outside
+    None
 }
 
 // The sign of a term, by its first byte.
 fn sign_by(first: u8) -> u8
     ensures { result ≡ sign_by first }
 {
-    if is_qualifier(first) {
-        return first;
-    }
-    43
+    if is_qualifier(first) { first } else { 43 }
 }
 
 // Where the name of a term begins, by its first byte.
 fn name_by(first: u8) -> usize
     ensures { result ≡ name_by first }
 {
-    if is_qualifier(first) {
-        return 1;
-    }
-    0
+    if is_qualifier(first) { 1 } else { 0 }
 }
 
 // Whether a term is a modifier, by where its name begins and the byte after its name.
 fn is_modifier(i: usize, b: u8) -> bool
     ensures { result ≡ (eqb i 0 && eqb b 61) }
 {
-    if i == 0 {
-        return b == 61;
-    }
-    false
+    i == 0 && b == 61
 }
 
 // A run of non-spaces as a term.
-pub fn read_token(w: &[u8]) -> Token
+pub fn read_token(w: &[u8]) -> Option<Term>
     ensures { result ≡ token_of w.now }
 {
     let first = bytes::peek(w, 0);
@@ -382,5 +278,5 @@ pub fn read_token(w: &[u8]) -> Token
     if is_modifier(i, bytes::peek(w, k)) {
         return read_modifier(k, w);
     }
-    read_mechanism_by(kind_of(&w[i..k]), sign_by(first), k, w)
+    read_mechanism_by(kind_of(&w[i..k])?, sign_by(first), k, w)
 }

@@ -7,11 +7,10 @@
 // is.
 #![tactic(auto)]
 
-use case_support::{Line, is_kept};
-use old_layout::Added;
+use answer_table::TableError;
+use case_support::is_kept;
 use std::io;
 use text::bytes::part;
-use text::words;
 
 // Prints the end of an answer, and whether a buffer is kept from a place on.
 fn print_rest(rt: &impl Print, out: &[u8], from: usize) -> io::Result<()> {
@@ -29,34 +28,27 @@ fn print_refusal(rt: &impl Print, number: u64, place: usize) -> io::Result<()> {
     rt.print(place)
 }
 
-fn print_answer(rt: &impl Print, answer: Added, out: &[u8]) -> io::Result<()> {
+fn print_answer(rt: &impl Print, answer: Result<usize, TableError>, out: &[u8]) -> io::Result<()> {
+    let mut written = 0;
     match answer {
-        Added::Written(n) => {
+        Ok(n) => {
             rt.write_all(b"ok ")?;
             case_support::print_bytes(rt, part(out, 0, n))?;
-            print_rest(rt, out, n)
+            written = n;
         }
-        Added::TooLong => {
-            rt.write_all(b"refused 24 .")?;
-            print_rest(rt, out, 0)
-        }
-        Added::Malformed(place) => {
-            print_refusal(rt, 25, place)?;
-            print_rest(rt, out, 0)
-        }
-        Added::Repeated(place) => {
-            print_refusal(rt, 26, place)?;
-            print_rest(rt, out, 0)
-        }
+        Err(TableError::TooLong) => rt.write_all(b"refused 24 .")?,
+        Err(TableError::Malformed(place)) => print_refusal(rt, 25, place)?,
+        Err(TableError::Repeated(place)) => print_refusal(rt, 26, place)?,
     }
+    print_rest(rt, out, written)
 }
 
 // Lends the front of a buffer.
-fn lend(old: &[u8], room: usize, out: &mut [u8]) -> Added {
+fn lend(old: &[u8], room: usize, out: &mut [u8]) -> Result<usize, TableError> {
     if room <= out.len() {
         return old_layout::add_lifetimes(old, &mut out[..room]);
     }
-    Added::TooLong
+    Err(TableError::TooLong)
 }
 
 fn run_call(rt: &impl Print, line: &[u8]) -> io::Result<()> {
@@ -81,26 +73,24 @@ fn run_program(rt: &impl Print, line: &[u8]) -> io::Result<()> {
 
 fn run_line(rt: &impl Print, line: &[u8]) -> io::Result<()> {
     let kind = case_support::word(line, 0);
-    if words::equal(kind, b"call") {
-        return run_call(rt, line);
+    if kind == b"call".as_slice() {
+        run_call(rt, line)
+    } else if kind == b"program".as_slice() {
+        run_program(rt, line)
+    } else {
+        case_support::print_line(rt, line)
     }
-    if words::equal(kind, b"program") {
-        return run_program(rt, line);
-    }
-    case_support::print_line(rt, line)
 }
 
 // At most as many lines as the budget says.
 fn main(rt: HostRuntime) -> io::Result<()> {
     let mut input = rt.reader();
     let mut line = [0u8; 140000];
-    let mut budget: usize = 1000000;
-    while 0 < budget {
-        let Line::Of(n) = case_support::read_line(&mut input, &mut line)? else {
+    for _ in 0..1000000 {
+        let Some(n) = case_support::read_line(&mut input, &mut line)? else {
             return Ok(());
         };
         run_line(&rt, part(&line, 0, n))?;
-        budget -= 1;
     }
     Ok(())
 }

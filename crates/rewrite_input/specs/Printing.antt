@@ -6,6 +6,8 @@ use Rattle.text.specs.Writing.{overwritten}
 use Rattle.answer_table.specs.Numbers.{Place, nowhere, byte, accepted, refused}
 use Rattle.answer_table.specs.Answers.{most_bytes, TableAnswersIn}
 use Rattle.answer_table.specs.declared.Layout.TheVariants.{Old}
+use Rattle.answer_table.specs.declared.TableError.{TableError}
+use Rattle.answer_table.specs.declared.TableError.TheVariants.{TooLong, Malformed, Repeated}
 use Rattle.record_listing.specs.Lines.{refusal_line}
 use Rattle.old_layout.specs.Rewriting.{Rewritten}
 
@@ -13,6 +15,12 @@ use Rattle.old_layout.specs.Rewriting.{Rewritten}
 abbrev pub shown : Place → ℕ
 shown nowhere = 0
 shown (byte p) = p
+
+-- the line of a table that is refused
+abbrev pub error_line : TableError → List ℕ
+error_line TooLong = refusal_line 24 0
+error_line (Malformed p) = refusal_line 25 p
+error_line (Repeated p) = refusal_line 26 p
 
 -- what is printed; it is one text (`prints_one`, proofs/Laws/Printing.antt)
 pub data Prints (input : List ℕ) : List ℕ → Type 0 where

@@ -11,51 +11,45 @@
 
 mod relay;
 
-use case_support::Line;
+use relay::Case;
 use std::io;
 use text::bytes::part;
-use text::{words, writing};
+use text::writing::Writer;
 
 // Adds an entry to a zone of a size; answers the new size.
 fn add_entry(line: &[u8], zone: &mut [u8], size: usize) -> usize {
     let mut entry = [0u8; 512];
-    let n = case_support::unhex(case_support::word(line, 3), &mut entry);
-    writing::put_all(part(&entry, 0, n), zone, size)
+    let mut w = Writer {
+        out: zone,
+        at: size,
+    };
+    w.put_all(case_support::unhexed(case_support::word(line, 3), &mut entry));
+    w.at
 }
 
 fn run_case(rt: &impl Print, line: &[u8], zone: &[u8]) -> io::Result<()> {
     let mut domain = [0u8; 512];
     let mut sender = [0u8; 512];
     let mut helo = [0u8; 512];
-    let d = case_support::unhex(case_support::word(line, 3), &mut domain);
-    let s = case_support::unhex(case_support::word(line, 4), &mut sender);
-    let h = case_support::unhex(case_support::word(line, 5), &mut helo);
+    let case = Case {
+        client: case_support::address_of(case_support::word(line, 2)),
+        domain: case_support::unhexed(case_support::word(line, 3), &mut domain),
+        sender: case_support::unhexed(case_support::word(line, 4), &mut sender),
+        helo: case_support::unhexed(case_support::word(line, 5), &mut helo),
+    };
     rt.write_all(case_support::word(line, 1))?;
     rt.write_all(b" ")?;
-    relay::run(
-        rt,
-        zone,
-        case_support::address_of(case_support::word(line, 2)),
-        part(&domain, 0, d),
-        part(&sender, 0, s),
-        part(&helo, 0, h),
-    )
+    relay::run(rt, zone, case)
 }
 
 // Runs a line over a zone of a size; answers the zone's new size.
 fn run_line(rt: &impl Print, line: &[u8], zone: &mut [u8], size: usize) -> io::Result<usize> {
-    let kind = case_support::word(line, 0);
-    if words::equal(kind, b"zone") {
-        return Ok(0);
+    match case_support::word(line, 0) {
+        b"zone" => return Ok(0),
+        b"entry" => return Ok(add_entry(line, zone, size)),
+        b"case" => run_case(rt, line, part(zone, 0, size))?,
+        _ => case_support::print_line(rt, line)?,
     }
-    if words::equal(kind, b"entry") {
-        return Ok(add_entry(line, zone, size));
-    }
-    if words::equal(kind, b"case") {
-        run_case(rt, line, part(zone, 0, size))?;
-        return Ok(size);
-    }
-    case_support::print_line(rt, line)?;
     Ok(size)
 }
 
@@ -65,13 +59,11 @@ fn main(rt: HostRuntime) -> io::Result<()> {
     let mut line = [0u8; 1024];
     let mut zone = [0u8; 12288];
     let mut size: usize = 0;
-    let mut budget: usize = 1000000;
-    while 0 < budget {
-        let Line::Of(n) = case_support::read_line(&mut input, &mut line)? else {
-            return Ok(());
+    for _ in 0..1000000 {
+        let Some(n) = case_support::read_line(&mut input, &mut line)? else {
+            break;
         };
         size = run_line(&rt, part(&line, 0, n), &mut zone, size)?;
-        budget -= 1;
     }
     Ok(())
 }

@@ -1,45 +1,39 @@
 // The relay: it begins with an empty table, fetches each answer that is missing from the zone, and asks again until the check is decided; for a fail it
 // then asks for the explanation in the same way.
 use address::Address;
-use answer_entry::{AppendAnswer, append_entry};
-use answer_table::Found;
+use answer_entry::{NewEntry, append_entry};
 use evaluation::explaining::{Explanation, explain};
-use evaluation::{Answer, evaluate};
+use evaluation::{Answer, Refusal, evaluate};
 use std::io;
 use text::bytes::part;
 
-// The status of what the zone has for a question; a name that it lacks doesn't exist.
-fn status_of(found: Found) -> u8 {
-    match found {
-        Found::Entry {
-            status,
-            lifetime: _,
-            start: _,
-            end: _,
-        } => status,
-        Found::Missing => 3,
-    }
+// A case's arguments.
+#[derive(Clone, Copy)]
+pub struct Case<'a> {
+    pub client: Address,
+    pub domain: &'a [u8],
+    pub sender: &'a [u8],
+    pub helo: &'a [u8],
 }
 
 // The suite names no lifetimes: every answer has this one. The program prints none.
 const LIFETIME: u32 = 300;
 
-// Appends the zone's answer to a question to a table; answers the table's new size. One that is refused leaves the table, and the check undecided.
+// Appends the zone's answer to a question to a table; answers the table's new size. A name that the zone lacks doesn't exist, which is status 3. An entry that
+// is refused leaves the table, and the check undecided.
 fn append_answer(zone: &[u8], kind: u16, name: &[u8], table: &mut [u8], size: usize) -> usize {
     let found = answer_table::find(zone, kind, name);
-    let items = answer_table::found_items(zone, found);
-    let AppendAnswer::Appended(end) = append_entry(
+    let entry = NewEntry {
         kind,
-        status_of(found),
-        LIFETIME,
+        status: match found {
+            Some(entry) => entry.status,
+            None => 3,
+        },
+        lifetime: LIFETIME,
         name,
-        items,
-        table,
-        size,
-    ) else {
-        return size;
+        items: answer_table::found_items(zone, found),
     };
-    end
+    append_entry(&entry, table, size).unwrap_or(size)
 }
 
 fn print(rt: &impl Print, s: &[u8]) -> io::Result<()> {
@@ -67,9 +61,9 @@ fn print_decided(rt: &impl Print, value: u8, text: &[u8]) -> io::Result<()> {
     case_support::print_line(rt, text)
 }
 
-fn print_refused(rt: &impl Print, number: u8) -> io::Result<()> {
+fn print_refused(rt: &impl Print, refusal: Refusal) -> io::Result<()> {
     print(rt, b"refused ")?;
-    case_support::print_number_line(rt, number as usize)
+    case_support::print_number_line(rt, refusal.number() as usize)
 }
 
 // Asks for the text of a fail over the table that decided it, adds the zone's answer to each question that is missing, and prints the fail and its text.
@@ -77,10 +71,7 @@ fn print_refused(rt: &impl Print, number: u8) -> io::Result<()> {
 fn explain_fail(
     rt: &impl Print,
     zone: &[u8],
-    client: Address,
-    domain: &[u8],
-    sender: &[u8],
-    helo: &[u8],
+    case: Case,
     place: usize,
     length: usize,
     table: &mut [u8],
@@ -89,12 +80,12 @@ fn explain_fail(
     let mut name = [0u8; 253];
     let mut text = [0u8; 500];
     let mut size = decided;
-    for _ in 0..13usize {
+    for _ in 0..13 {
         match explain(
-            client,
-            domain,
-            sender,
-            helo,
+            case.client,
+            case.domain,
+            case.sender,
+            case.helo,
             b"",
             0,
             part(table, 0, size),
@@ -103,97 +94,68 @@ fn explain_fail(
             &mut name,
             &mut text,
         ) {
-            Explanation::Text(n) => return print_decided(rt, 3, part(&text, 0, n)),
-            Explanation::Wanting { kind, length: n } => {
-                size = append_answer(zone, kind, part(&name, 0, n), table, size);
+            Ok(Explanation::Text(n)) => return print_decided(rt, 3, part(&text, 0, n)),
+            Ok(Explanation::Wanting(question)) => {
+                let asked = part(&name, 0, question.length);
+                size = append_answer(zone, question.kind, asked, table, size);
             }
-            Explanation::Refused(number) => return print_refused(rt, number),
-            Explanation::RefusedAt { number, at: _ } => return print_refused(rt, number),
+            Err(refusal) => return print_refused(rt, refusal),
         }
     }
     case_support::print_line(rt, b"undecided")
 }
 
+// A check over the answers in the front of a table.
+fn check(case: Case, table: &[u8], size: usize, name: &mut [u8]) -> Result<Answer, Refusal> {
+    evaluate(
+        case.client,
+        case.domain,
+        case.sender,
+        case.helo,
+        b"",
+        0,
+        part(table, 0, size),
+        name,
+    )
+}
+
 // Fills an empty table with the zone's answer to each question that the check wants; answers the table's size. 130 questions are more than any check of
 // the suite puts.
-fn collect_answers(
-    zone: &[u8],
-    client: Address,
-    domain: &[u8],
-    sender: &[u8],
-    helo: &[u8],
-    table: &mut [u8],
-) -> usize {
+fn collect_answers(zone: &[u8], case: Case, table: &mut [u8]) -> usize {
     let mut name = [0u8; 253];
     let mut size: usize = 0;
-    for _ in 0..130usize {
-        let Answer::Wanting {
-            kind,
-            length: n,
-            counts: _,
-            lifetime: _,
-        } = evaluate(
-            client,
-            domain,
-            sender,
-            helo,
-            b"",
-            0,
-            part(table, 0, size),
-            &mut name,
-        )
-        else {
-            return size;
+    for _ in 0..130 {
+        let Ok(Answer::Wanting { question, .. }) = check(case, table, size, &mut name) else {
+            break;
         };
-        size = append_answer(zone, kind, part(&name, 0, n), table, size);
+        let asked = part(&name, 0, question.length);
+        size = append_answer(zone, question.kind, asked, table, size);
     }
     size
 }
 
 // Checks over the answers that the zone has for it, and prints what the check comes to.
-pub fn run(
-    rt: &impl Print,
-    zone: &[u8],
-    client: Address,
-    domain: &[u8],
-    sender: &[u8],
-    helo: &[u8],
-) -> io::Result<()> {
+pub fn run(rt: &impl Print, zone: &[u8], case: Case) -> io::Result<()> {
     let mut table = [0u8; 8192];
     let mut name = [0u8; 253];
-    let size = collect_answers(zone, client, domain, sender, helo, &mut table);
-    let t = part(&table, 0, size);
-    match evaluate(client, domain, sender, helo, b"", 0, t, &mut name) {
-        Answer::Decided {
-            value,
-            counts: _,
-            lifetime: _,
-        } => print_decided(rt, value, b""),
-        Answer::Fail {
-            counts: _,
-            lifetime: _,
-            domain: n,
-            place,
-            length,
-        } => explain_fail(
-            rt,
-            zone,
-            client,
-            part(&name, 0, n),
-            sender,
-            helo,
-            place,
-            length,
-            &mut table,
-            size,
-        ),
-        Answer::Wanting {
-            kind: _,
-            length: _,
-            counts: _,
-            lifetime: _,
-        } => case_support::print_line(rt, b"undecided"),
-        Answer::Refused(number) => print_refused(rt, number),
-        Answer::RefusedAt { number, at: _ } => print_refused(rt, number),
+    let size = collect_answers(zone, case, &mut table);
+    match check(case, &table, size, &mut name) {
+        Ok(Answer::Decided { value, .. }) => print_decided(rt, value, b""),
+        Ok(
+            Answer::Fail {
+                domain: n,
+                place,
+                length,
+                ..
+            },
+        ) => {
+            let failing = Case {
+                domain: part(&name, 0, n),
+                ..case
+            };
+            explain_fail(rt, zone, failing, place, length, &mut table, size)
+        }
+        Ok(Answer::Wanting { .. }) => case_support::print_line(rt, b"undecided"),
+        Err(refusal) => print_refused(rt, refusal),
     }
 }

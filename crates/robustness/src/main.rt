@@ -10,67 +10,36 @@ mod explanations;
 mod readings;
 mod turns;
 
-use address::Address;
-use robustness_inputs::{arguments, random, tally};
+use robustness_inputs::{arguments, random, tally, texts};
 use std::io;
-use text::bytes::part;
+use std::ops::Range;
+use text::writing::Writer;
+use turns::Mail;
 
-// The calls on a record, and the evaluations, with the same arguments.
-fn run_calls(
-    seed: u64,
-    client: Address,
-    domain: &[u8],
-    sender: &[u8],
-    helo: &[u8],
-    receiver: &[u8],
-    table: &mut [u8],
-    counts: &mut [u64],
-    digest: u64,
-) -> u64 {
-    let read = readings::run(
-        random::draw(seed, 1),
-        client,
-        domain,
-        sender,
-        helo,
-        receiver,
-        counts,
-        digest,
-    );
-    checks::run(
-        random::draw(seed, 2),
-        client,
-        domain,
-        sender,
-        helo,
-        receiver,
-        table,
-        counts,
-        read,
-    )
-}
-
-// One round: arguments are made, and the calls.
+// One round: arguments are made, and then the calls on a record and the evaluations with them.
 fn run_round(seed: u64, table: &mut [u8], counts: &mut [u64], digest: u64) -> u64 {
     let mut domain = [0u8; 512];
     let mut sender = [0u8; 512];
     let mut helo = [0u8; 512];
     let mut receiver = [0u8; 512];
-    let d = arguments::put_domain(random::draw(seed, 1), &mut domain);
-    let s = arguments::put_sender(random::draw(seed, 2), &mut sender);
-    let h = arguments::put_helo(random::draw(seed, 3), &mut helo);
-    let r = arguments::put_receiver(random::draw(seed, 4), &mut receiver);
-    run_calls(
-        random::draw(seed, 5),
-        arguments::pick_client(random::draw(seed, 6)),
-        part(&domain, 0, d),
-        part(&sender, 0, s),
-        part(&helo, 0, h),
-        part(&receiver, 0, r),
-        table,
-        counts,
-        digest,
-    )
+    let mut domain = Writer::new(&mut domain);
+    let mut sender = Writer::new(&mut sender);
+    let mut helo = Writer::new(&mut helo);
+    let mut receiver = Writer::new(&mut receiver);
+    arguments::put_domain(random::draw(seed, 1), &mut domain);
+    arguments::put_sender(random::draw(seed, 2), &mut sender);
+    arguments::put_helo(random::draw(seed, 3), &mut helo);
+    arguments::put_receiver(random::draw(seed, 4), &mut receiver);
+    let mail = Mail {
+        client: arguments::pick_client(random::draw(seed, 6)),
+        domain: texts::written(&domain),
+        sender: texts::written(&sender),
+        helo: texts::written(&helo),
+        receiver: texts::written(&receiver),
+    };
+    let drawn = random::draw(seed, 5);
+    let read = readings::run(random::draw(drawn, 1), mail, counts, digest);
+    checks::run(random::draw(drawn, 2), mail, table, counts, read)
 }
 
 // Prints a count.
@@ -102,26 +71,23 @@ fn print_number(
     print_place(rt, counts, start as usize + number as usize)
 }
 
-// Prints the counts of a call's answers from one number up to another.
+// Prints the counts of a call's answers with the numbers of a range.
 fn print_numbers(
     rt: &impl Print,
     call: &[u8],
-    from: u8,
-    to: u8,
+    numbers: Range<u8>,
     counts: &[u64],
     start: u8,
 ) -> io::Result<()> {
-    let mut n = from;
-    while n < to {
+    for n in numbers {
         print_number(rt, call, n, counts, start)?;
-        n += 1;
     }
     Ok(())
 }
 
 fn print_counts(rt: &impl Print, counts: &[u64]) -> io::Result<()> {
-    print_numbers(rt, b"evaluate", 0, 8, counts, tally::EVALUATE)?;
-    print_numbers(rt, b"evaluate", 20, 27, counts, tally::EVALUATE)?;
+    print_numbers(rt, b"evaluate", 0..8, counts, tally::EVALUATE)?;
+    print_numbers(rt, b"evaluate", 20..27, counts, tally::EVALUATE)?;
     print_count(rt, b"permerrors after 10 lookups", counts, tally::TENTHS)?;
     print_count(rt, b"permerrors after 3 voids", counts, tally::VOIDS)?;
     print_count(rt, b"lifetimes of 0", counts, tally::ZEROS)?;
@@ -129,19 +95,19 @@ fn print_counts(rt: &impl Print, counts: &[u64]) -> io::Result<()> {
     print_count(rt, b"lifetimes of no entry", counts, tally::STRAYS)?;
     print_number(rt, b"explain", 3, counts, tally::EXPLAIN)?;
     print_number(rt, b"explain", 7, counts, tally::EXPLAIN)?;
-    print_numbers(rt, b"explain", 20, 27, counts, tally::EXPLAIN)?;
+    print_numbers(rt, b"explain", 20..27, counts, tally::EXPLAIN)?;
     print_number(rt, b"explain", 28, counts, tally::EXPLAIN)?;
     print_count(rt, b"explanations with a text", counts, tally::TEXTS)?;
     print_count(rt, b"read_record accepted", counts, tally::RECORD)?;
-    print_numbers(rt, b"read_record", 30, 34, counts, tally::RECORD)?;
+    print_numbers(rt, b"read_record", 30..34, counts, tally::RECORD)?;
     print_count(rt, b"read_term a term", counts, tally::TERM)?;
     print_count(rt, b"read_term the end", counts, tally::ENDS)?;
     print_number(rt, b"read_term", 30, counts, tally::TERM)?;
     print_number(rt, b"read_term", 32, counts, tally::TERM)?;
     print_number(rt, b"read_term", 34, counts, tally::TERM)?;
     print_count(rt, b"expand written", counts, tally::EXPAND)?;
-    print_numbers(rt, b"expand", 20, 23, counts, tally::EXPAND)?;
-    print_numbers(rt, b"expand", 40, 42, counts, tally::EXPAND)?;
+    print_numbers(rt, b"expand", 20..23, counts, tally::EXPAND)?;
+    print_numbers(rt, b"expand", 40..42, counts, tally::EXPAND)?;
     print_count(rt, b"buffers kept", counts, tally::KEPT)?;
     print_count(rt, b"buffers changed", counts, tally::CHANGED)
 }
@@ -149,10 +115,8 @@ fn print_counts(rt: &impl Print, counts: &[u64]) -> io::Result<()> {
 // Runs the rounds; answers the digest.
 fn run_rounds(table: &mut [u8], counts: &mut [u64]) -> u64 {
     let mut digest = tally::START;
-    let mut budget: usize = 20000;
-    while 0 < budget {
-        digest = run_round(random::draw(7208, budget as u64), table, counts, digest);
-        budget -= 1;
+    for round in 0..20000u64 {
+        digest = run_round(random::draw(7208, 20000 - round), table, counts, digest);
     }
     digest
 }

@@ -1,7 +1,7 @@
 // The arguments of a call: clients, domains, senders, hosts, and the lengths of the lent buffers, of small sets, with odd and over-long ones among them.
 use crate::{random, texts};
 use address::Address;
-use text::writing;
+use text::writing::Writer;
 
 // A client of either family, or an IPv4 one in its mapped form.
 pub fn pick_client(seed: u64) -> Address {
@@ -16,73 +16,75 @@ pub fn pick_client(seed: u64) -> Address {
 }
 
 // A text of a list, or rarely an over-long one, or with a byte damaged.
-fn put_argument(seed: u64, list: &[u8], out: &mut [u8]) -> usize {
+fn put_argument(seed: u64, list: &[u8], out: &mut Writer) {
     if random::chance(seed, 1, 30) {
-        return texts::put_long(random::draw(seed, 2), out, 0);
+        texts::put_long(random::draw(seed, 2), out);
+    } else {
+        let at = out.at;
+        texts::put_word(seed, 3, list, out);
+        texts::damage(random::draw(seed, 4), 20, at, out);
     }
-    let n = texts::put_word(seed, 3, list, out, 0);
-    texts::damage(random::draw(seed, 4), 20, out, 0, n);
-    n
 }
 
 // A domain to check.
-pub fn put_domain(seed: u64, out: &mut [u8]) -> usize {
+pub fn put_domain(seed: u64, out: &mut Writer) {
     if random::chance(seed, 12, 15) {
-        return texts::put_long(random::draw(seed, 13), out, 0);
+        texts::put_long(random::draw(seed, 13), out);
+    } else if random::chance(seed, 10, 750) {
+        texts::put_nth_name(random::up_to(seed, 11, 8), out);
+    } else {
+        put_argument(
+            seed,
+            b"A.Example b.example. C.EXAMPLE. E.test D.example mail.A.example C.d.Example. single a..example .a.example %41.example d.example..  a_b.test",
+            out,
+        );
     }
-    if random::chance(seed, 10, 750) {
-        return texts::put_nth_name(random::up_to(seed, 11, 8), out, 0);
-    }
-    put_argument(
-        seed,
-        b"A.Example b.example. C.EXAMPLE. E.test D.example mail.A.example C.d.Example. single a..example .a.example %41.example d.example..  a_b.test",
-        out,
-    )
 }
 
 // The domain for an explanation: that which an evaluation handed out, or rarely another.
-pub fn put_failing(seed: u64, domain: &[u8], out: &mut [u8]) -> usize {
+pub fn put_failing(seed: u64, domain: &[u8], out: &mut Writer) {
     if random::chance(seed, 1, 40) {
-        return put_domain(random::draw(seed, 2), out);
+        put_domain(random::draw(seed, 2), out);
+    } else {
+        out.put_all(domain);
     }
-    writing::put_all(domain, out, 0)
 }
 
 // A place or length for an explanation: that which an evaluation handed out, or rarely the next or the last one, 0, or any number.
 pub fn pick_near(seed: u64, n: usize) -> usize {
     match random::up_to(seed, 1, 99) {
-        0..=1 => std::num::wrapping_add_u64(n as u64, 1) as usize,
-        2..=3 => std::num::wrapping_add_u64(n as u64, 18446744073709551615) as usize,
+        0..=1 => n.wrapping_add(1),
+        2..=3 => n.wrapping_sub(1),
         4 => 0,
         5 => random::draw(seed, 2) as usize,
         _ => n,
     }
 }
 
-pub fn put_sender(seed: u64, out: &mut [u8]) -> usize {
+pub fn put_sender(seed: u64, out: &mut Writer) {
     put_argument(
         seed,
         b"user@a.example strong-bad@b.example @c.example d.example a@b@c.example postmaster@ first.last+tag@a.example User@E.Test x@single a/b=c@d.example",
         out,
-    )
+    );
 }
 
 // A HELO name.
-pub fn put_helo(seed: u64, out: &mut [u8]) -> usize {
+pub fn put_helo(seed: u64, out: &mut Writer) {
     put_argument(
         seed,
         b"mail.a.example b.example [192.0.2.1] single x_y.example  Host.B.Example",
         out,
-    )
+    );
 }
 
-pub fn put_receiver(seed: u64, out: &mut [u8]) -> usize {
-    put_argument(seed, b"  rx.example mx1.a.example", out)
+pub fn put_receiver(seed: u64, out: &mut Writer) {
+    put_argument(seed, b"  rx.example mx1.a.example", out);
 }
 
 // A value of p for an expansion.
-pub fn put_p(seed: u64, out: &mut [u8]) -> usize {
-    put_argument(seed, b"unknown mail.a.example a.example ", out)
+pub fn put_p(seed: u64, out: &mut Writer) {
+    put_argument(seed, b"unknown mail.a.example a.example ", out);
 }
 
 // The time.

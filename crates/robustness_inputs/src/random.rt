@@ -19,17 +19,18 @@ fn mix(x: u64) -> u64 {
 
 // The number that a seed has at an index.
 pub fn draw(seed: u64, index: u64) -> u64 {
-    mix(std::num::wrapping_add_u64(seed, index % 4294967296 * 2654435769))
+    mix(seed.wrapping_add(index % 4294967296 * 2654435769))
 }
 
 // A number from 0 to a limit.
 pub fn up_to(seed: u64, index: u64, limit: usize) -> usize
     ensures { result ≤ limit }
 {
-    if limit < 18446744073709551615 {
-        return draw(seed, index) as usize % (limit + 1);
+    let drawn = draw(seed, index) as usize;
+    match limit.checked_add(1) {
+        Some(count) => drawn % count,
+        None => drawn,
     }
-    draw(seed, index) as usize
 }
 
 // A byte.

@@ -37,54 +37,36 @@ pub const STRAYS: u8 = 109;
 // The digest of nothing.
 pub const START: u64 = 14695981039346656037;
 
-// A digest with one byte more: the byte is laid over it, and the sum of 2^40 times and 435 times the number is taken modulo 2^64.
+// A digest with one byte more: the byte is laid over it, and the number is multiplied modulo 2^64 by 2^40 + 435.
 fn fold(digest: u64, b: u8) -> u64 {
-    let x = digest ^ b as u64;
-    let low = x % 4294967296 * 435;
-    let high = x / 4294967296 % 4294967296 * 435 % 4294967296 * 4294967296;
-    let top = x % 16777216 * 1099511627776;
-    std::num::wrapping_add_u64(std::num::wrapping_add_u64(low, high), top)
+    (digest ^ b as u64).wrapping_mul(1099511628211)
+}
+
+// A digest with bytes more.
+fn fold_all(digest: u64, s: &[u8]) -> u64 {
+    s.iter().fold(digest, |d, b| fold(d, *b))
 }
 
 // A digest with a number below 2^24 more.
 pub fn fold_number(digest: u64, n: usize) -> u64 {
-    fold(
-        fold(fold(digest, (n % 256) as u8), (n / 256 % 256) as u8),
-        (n / 65536 % 256) as u8,
-    )
+    fold_all(digest, &n.to_le_bytes()[..3])
 }
 
 // A digest with a text and its length more.
 pub fn fold_bytes(digest: u64, s: &[u8]) -> u64 {
-    let mut folded = fold_number(digest, s.len());
-    let mut i = 0;
-    while i < s.len() {
-        folded = fold(folded, s[i]);
-        i += 1;
-    }
-    folded
+    fold_all(fold_number(digest, s.len()), s)
 }
 
 // Counts one more at a number behind a place.
 pub fn count(counts: &mut [u64], start: u8, number: u8) {
     let at = start as usize + number as usize;
     if at < counts.len() {
-        let n = counts[at];
-        if n < 18446744073709551615 {
-            counts[at] = n + 1;
-        }
+        counts[at] = counts[at].saturating_add(1);
     }
 }
 
 // Counts whether two buffers are as they were filled but for so many bytes at the front of each.
 pub fn count_kept(a: &[u8], a_end: usize, b: &[u8], b_end: usize, counts: &mut [u64]) {
-    if case_support::is_kept(a, a_end) {
-        if case_support::is_kept(b, b_end) {
-            count(counts, KEPT, 0);
-            return;
-        }
-        count(counts, CHANGED, 0);
-        return;
-    }
-    count(counts, CHANGED, 0);
+    let is_kept = case_support::is_kept(a, a_end) && case_support::is_kept(b, b_end);
+    count(counts, if is_kept { KEPT } else { CHANGED }, 0);
 }

@@ -1,5 +1,5 @@
 -- Record lookup, terms, include, redirect and the explanation, in the words and order of the house rules.
-use Rattle.std.specs.Prelude.{ℕ, zero, suc, List, [], ◌∷◌, cond, ◌&&◌, length, leb, eqb}
+use Rattle.std.specs.Prelude.{ℕ, zero, suc, List, [], ◌∷◌, cond, ◌&&◌, length, leb, eqb, Ok, Err, Result as Either}
 use Rattle.text.specs.Bytes.{is_printable}
 use Rattle.text.specs.Lists.{all, same}
 use Rattle.text.specs.Texts.{bytes}
@@ -15,7 +15,7 @@ use Rattle.records.specs.Grammar.{sign_plus, sign_minus, sign_tilde, sign_questi
 use Rattle.records.specs.Readings.{Optional, absent, present, Said, Placed}
 use Rattle.records.specs.Reader.{read_record, has_version, read_term}
 use Rattle.records.specs.Numbers.{TermReport, term, term_report, end, refused}
-use Rattle.records.specs.declared.RecordAnswer.{RecordAnswer}
+use Rattle.records.specs.declared.Refusal.{Refusal}
 use Rattle.rules.specs.declared.Counts.{Counts}
 use Rattle.rules.specs.Results.{result_none, result_neutral, result_pass, result_fail, result_softfail, result_temperror, result_permerror}
 use Rattle.rules.specs.Tree.{Reply, failed, items, Check, give, ask, bind}
@@ -166,9 +166,9 @@ unfoldable pub terms_of : List ℕ → ℕ → List Placed
 terms_of s i = terms_from (suc (length s)) s i
 
 -- "The whole record is read before any term is tried; outside the grammar gives permerror."
-unfoldable pub read_outcome : Mail → Sub → List ℕ → List ℕ → RecordAnswer → Counts → Check Result
-read_outcome mail sub d s (RecordAnswer.Accepted next) c = try_terms mail sub d (terms_of s next) (terms_of s next) c
-read_outcome mail sub d s (RecordAnswer.Refused number at) c = ended result_permerror c
+unfoldable pub read_outcome : Mail → Sub → List ℕ → List ℕ → Either ℕ Refusal → Counts → Check Result
+read_outcome mail sub d s (Ok next) c = try_terms mail sub d (terms_of s next) (terms_of s next) c
+read_outcome mail sub d s (Err e) c = ended result_permerror c
 
 -- "Of the texts with a version section"
 unfoldable pub versioned : List (List ℕ) → List (List ℕ)

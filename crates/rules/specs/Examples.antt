@@ -1,6 +1,6 @@
 -- The scope paper's cases about evaluation, its "Errors that look right", and one example for each of its sentences (Rules.antt), computed: each is a zone, a
 -- mail and what the evaluation answers.
-use Rattle.std.specs.Prelude.{ℕ, ◌≡◌, refl, List, [], ◌∷◌, ◌++◌}
+use Rattle.std.specs.Prelude.{ℕ, ◌≡◌, refl, List, [], ◌∷◌, ◌++◌, None, Option}
 use Rattle.text.specs.Texts.{bytes}
 use Rattle.text.specs.Bytes.{within, is_space, is_not_space, is_not_slash, is_upper, is_not_upper, is_alpha, is_digit, is_length_byte, is_alphanumeric, is_hex_digit, is_visible, is_printable, is_label_byte, is_name_byte, is_toplabel_byte, is_macro_literal, is_delimiter, lower}
 use Rattle.text.specs.Decimal.{decimal_from, decimal, is_decimal, read_decimal, pushed, has_no_leading_zero, read_number}
@@ -15,16 +15,15 @@ use Rattle.domain.specs.Shortening.{shorter_labels, shortened}
 use Rattle.answer_table.specs.Reader.{number}
 use Rattle.address_text.specs.Digits.{digit, numeral, in_decimal, in_hex}
 use Rattle.address_text.specs.Forms.{nibbles, hex_groups, octet_texts, nibble_texts, dotted, readable, family, reversed_name}
-use Rattle.address_text.specs.Rows.{parts_of, text_of as address-text-rows-of-textOf, ordered, place, separated, row as address-text-rows-of-row}
 use Rattle.transformers.specs.Transform.{is_listed, reversed_if, kept, is_unreserved, hex_digit, escaped_byte, escaped, transformed}
-use Rattle.macros.specs.Expansion.{last_part as macros-expansion-of-lastPart, sender_domain, front_parts, local_as_written, local_part, receiver_name, letters_of, letter_value, later_value, escape_text, piece_text, macro_text, text_of as macros-expansion-of-textOf, is_sender, is_host, is_short}
+use Rattle.macros.specs.Expansion.{last_part as macros-expansion-of-lastPart, sender_domain, front_parts, local_as_written, local_part, receiver_name, letters_of, letter_value, escape_text, piece_text, text_of as macros-expansion-of-textOf, is_sender, is_host, is_short}
 use Rattle.macros.specs.Grammar.{is_letter, is_part_count}
 use Rattle.macros.specs.Numbers.{fitted, outcome}
 use Rattle.macros.specs.Question.{question_name}
 use Rattle.macros.specs.Reader.{is_literal, is_escape, is_reverse, closed_at, delimiters_at, reversal_at, digits_at, braces_of, piece_of, macro_of, pieces_after, pieces_from, pieces, ends_in_macro, is_toplabel, last_label, ends_in_label, ends_right, is_macro_string, is_p, any_p, scan_of, uses_p}
 use Rattle.networks.specs.Grammar.{hex_value, hex_from, groups_from, address_of, filled}
 use Rattle.networks.specs.Reader.{octet_at, dot_octet_at, read_ip4, slash_number, read_length, read_length4, read_length6, front_end, second_length, read_dual}
-use Rattle.networks.specs.Reader6.{first_colon, is_double_colon, double_colon, read_h16, tail_of, last_of, last_part as networks-reader6-of-lastPart, push, row_of, read_row, read_side, full_of, short_of, read_ip6, first_of, read_address, octet_pairs, network_of}
+use Rattle.networks.specs.Reader6.{first_colon, is_double_colon, double_colon, read_h16, tail_of, last_of, last_part as networks-reader6-of-lastPart, push, row_of, read_row, read_side, full_of, short_of, read_ip6, first_of, read_address, octet_pairs}
 use Rattle.records.specs.Grammar.{is_qualifier, is_reserved, count_of}
 use Rattle.records.specs.Numbers.{said_of}
 use Rattle.records.specs.Reader.{later_kind, kind_of, spec_at, all_of, with_spec, ptr_of, cut_of, hosts_cut, hosts_at, with_hosts, network_term, network_cut, network_by, mechanism_by, mechanism_of, modifier_of as records-reader-of-modifierOf, token_of, token_answer, term_from, read_term, is_redirect, is_explanation, check_after, check_from, has_version, read_record}
@@ -32,7 +31,6 @@ use Rattle.rules.specs.Evaluation.{include_match, check_target, begun_check, inc
 use Rattle.rules.specs.Mechanisms.{address_kind, item_matches, any_matches, width, includes_client, with_valid, validated, names_of, holds_name, first_below, first_or, chosen, gives_chosen, p_reply, p_value, expansion, gives_expansion, expanded, gives_name, target, target_or, counting, void_step, own_reply, a_step, exists_step, insert_host, by_preference, mx_items, mx_step, ptr_step, at_target, target_step, counted_step, on_match, until_match, ask_host}
 use Rattle.rules.specs.Tables.{reply_by, answer_of, table_in}
 use Rattle.rules.specs.Tree.{items, settled, wanting, bind, then, answered, sooner, run}
-use Rattle.rules.specs.declared.Life.{Life}
 use Rattle.rules.specs.Zones.{zone, aside, txt, nothing, answer, answer6, decided, result, lifetime}
 use Rattle.rules.specs.Lifetimes.{seconds, life_of}
 use Rattle.rules.specs.Rules.{Rules}
@@ -43,7 +41,7 @@ long = bytes "aaaaaaaaaabbbbbbbbbbccccccccccddddddddddeeeeeeeeeeffffffffff."
 
 pub record Cases : Type 0 where
   -- nothing is known yet: the TXT question is wanting
-  pub first_question : answer [] ≡ wanting 16 (bytes "example.com") (record { lookups = 0; voids = 0 }) Life.Unmet
+  pub first_question : answer [] ≡ wanting 16 (bytes "example.com") (record { lookups = 0; voids = 0 }) None
   pub plain_fail : answer (txt (bytes "example.com") (bytes "v=spf1 -all") ∷ []) ≡ decided 3 0 0
   -- 192.0.2.129 against 192.0.2.0 at /24 and /25
   pub within_24 : answer (txt (bytes "example.com") (bytes "v=spf1 ip4:192.0.2.0/24 -all") ∷ []) ≡ decided 2 0 0
@@ -59,7 +57,7 @@ pub record Cases : Type 0 where
   pub length_33 : answer (txt (bytes "example.com") (bytes "v=spf1 ip4:192.0.2.0/33 -all") ∷ []) ≡ decided 6 0 0
   -- a name of 254 bytes loses its first label, not its first byte
   pub long_name : answer (txt (bytes "example.com") (bytes "v=spf1 exists:" ++ (long ++ (long ++ (long ++ (long ++ bytes "bc.example"))))) ∷ [])
-      ≡ wanting 1 (long ++ (long ++ (long ++ bytes "bc.example"))) (record { lookups = 1; voids = 0 }) Life.Unmet
+      ≡ wanting 1 (long ++ (long ++ (long ++ bytes "bc.example"))) (record { lookups = 1; voids = 0 }) None
   -- two void exists and `-all` give 3, three give 6
   pub two_voids : answer (txt (bytes "example.com") (bytes "v=spf1 exists:a.b exists:a.b -all") ∷ nothing (bytes "a.b") ∷ []) ≡ decided 3 2 2
   pub three_voids : answer (txt (bytes "example.com") (bytes "v=spf1 exists:a.b exists:a.b exists:a.b -all") ∷ nothing (bytes "a.b") ∷ []) ≡ decided 6 3 3
@@ -74,7 +72,7 @@ pub record Cases : Type 0 where
       ∷ txt (bytes "a8.b") (bytes "v=spf1 redirect=a9.b") ∷ txt (bytes "a9.b") (bytes "v=spf1 redirect=b0.b") ∷ txt (bytes "b0.b") (bytes "v=spf1 -all") ∷ []) ≡ decided 6 10 0
   -- the explanation of a fail, expanded
   pub explained_fail : answer (txt (bytes "example.com") (bytes "v=spf1 -all exp=e.example") ∷ txt (bytes "e.example") (bytes "%{i} at %{t}") ∷ [])
-      ≡ settled (record { value = 3; counts = record { lookups = 0; voids = 0 }; text = bytes "192.0.2.129 at 7" }) Life.Unmet
+      ≡ settled (record { value = 3; counts = record { lookups = 0; voids = 0 }; text = bytes "192.0.2.129 at 7" }) None
 
 -- the paper's cases, and its sentences
 pub record Computed : Type 0 where
@@ -82,7 +80,7 @@ pub record Computed : Type 0 where
   pub rules : Rules
 
 pub computed : Computed
-unfolding zone answer answer6 result number within is_space is_not_space is_not_slash is_upper is_not_upper is_alpha is_digit is_length_byte is_alphanumeric is_hex_digit is_visible is_printable is_label_byte is_name_byte is_toplabel_byte is_macro_literal is_delimiter lower decimal_from decimal is_decimal read_decimal pushed has_no_leading_zero read_number same same_word contains all rightmost grow split is_in text-runs-of-run run_end trailing_start overwritten bits_of bits agree matches_at octets_of octets value_from value_of from_octets mapped_prefix client_octets as_client labels is_label is_name is_table_name label_count at_or_below without_dot lowered normal shorter_labels shortened digit numeral in_decimal in_hex nibbles hex_groups octet_texts nibble_texts dotted readable family reversed_name parts_of address-text-rows-of-textOf ordered place separator_before join_by separated address-text-rows-of-row is_listed reversed_if kept is_unreserved hex_digit escaped_byte escaped transformed macros-expansion-of-lastPart sender_domain front_parts local_as_written local_part receiver_name letters_of letter_value later_value escape_text piece_text macro_text macros-expansion-of-textOf is_sender is_host is_short is_letter is_part_count fitted outcome question_name is_literal is_escape is_reverse closed_at delimiters_at reversal_at digits_at braces_of piece_of macro_of pieces_after pieces_from pieces ends_in_macro is_toplabel last_label ends_in_label ends_right is_macro_string is_p any_p scan_of uses_p hex_value hex_from groups_from octet_at dot_octet_at read_ip4 slash_number read_length read_length4 read_length6 front_end second_length read_dual first_colon is_double_colon double_colon read_h16 tail_of last_of networks-reader6-of-lastPart push row_of read_row read_side address_of filled full_of short_of read_ip6 first_of read_address octet_pairs network_of is_qualifier is_reserved count_of said_of later_kind kind_of spec_at all_of with_spec ptr_of cut_of hosts_cut hosts_at with_hosts network_term network_cut network_by mechanism_by mechanism_of records-reader-of-modifierOf token_of token_answer term_from read_term is_redirect is_explanation check_after check_from has_version read_record include_match check_target begun_check include_of include_step length_for network_step mechanism_step term_step sign_result modifier_of signed none_is_permerror redirect_of no_match after_step try_terms terms_after terms_from terms_of read_outcome versioned selection text_reply record_lookup after_lookup check_name check evaluation shown gives_shown explained explain_reply explain_name explanation explanation_of verdict address_kind item_matches any_matches width includes_client with_valid validated names_of holds_name first_below first_or chosen gives_chosen p_reply p_value expansion gives_expansion expanded gives_name target target_or counting void_step own_reply a_step exists_step insert_host by_preference mx_items mx_step ptr_step reply_by answer_of table_in bind then answered sooner run aside seconds life_of lifetime having plain_step match_result at_target target_step counted_step on_match until_match ask_host
+unfolding zone answer answer6 result number within is_space is_not_space is_not_slash is_upper is_not_upper is_alpha is_digit is_length_byte is_alphanumeric is_hex_digit is_visible is_printable is_label_byte is_name_byte is_toplabel_byte is_macro_literal is_delimiter lower decimal_from decimal is_decimal read_decimal pushed has_no_leading_zero read_number same same_word contains all rightmost grow split is_in text-runs-of-run run_end trailing_start overwritten bits_of bits agree matches_at octets_of octets value_from value_of from_octets mapped_prefix client_octets as_client labels is_label is_name is_table_name label_count at_or_below without_dot lowered normal shorter_labels shortened digit numeral in_decimal in_hex nibbles hex_groups octet_texts nibble_texts dotted readable family reversed_name separator_before join_by is_listed reversed_if kept is_unreserved hex_digit escaped_byte escaped transformed macros-expansion-of-lastPart sender_domain front_parts local_as_written local_part receiver_name letters_of letter_value escape_text piece_text macros-expansion-of-textOf is_sender is_host is_short is_letter is_part_count fitted outcome question_name is_literal is_escape is_reverse closed_at delimiters_at reversal_at digits_at braces_of piece_of macro_of pieces_after pieces_from pieces ends_in_macro is_toplabel last_label ends_in_label ends_right is_macro_string is_p any_p scan_of uses_p hex_value hex_from groups_from octet_at dot_octet_at read_ip4 slash_number read_length read_length4 read_length6 front_end second_length read_dual first_colon is_double_colon double_colon read_h16 tail_of last_of networks-reader6-of-lastPart push row_of read_row read_side address_of filled full_of short_of read_ip6 first_of read_address octet_pairs is_qualifier is_reserved count_of said_of later_kind kind_of spec_at all_of with_spec ptr_of cut_of hosts_cut hosts_at with_hosts network_term network_cut network_by mechanism_by mechanism_of records-reader-of-modifierOf token_of token_answer term_from read_term is_redirect is_explanation check_after check_from has_version read_record include_match check_target begun_check include_of include_step length_for network_step mechanism_step term_step sign_result modifier_of signed none_is_permerror redirect_of no_match after_step try_terms terms_after terms_from terms_of read_outcome versioned selection text_reply record_lookup after_lookup check_name check evaluation shown gives_shown explained explain_reply explain_name explanation explanation_of verdict address_kind item_matches any_matches width includes_client with_valid validated names_of holds_name first_below first_or chosen gives_chosen p_reply p_value expansion gives_expansion expanded gives_name target target_or counting void_step own_reply a_step exists_step insert_host by_preference mx_items mx_step ptr_step reply_by answer_of table_in bind then answered sooner run aside seconds life_of lifetime having plain_step match_result at_target target_step counted_step on_match until_match ask_host
 computed = record {
   scope = record {
     first_question = refl;

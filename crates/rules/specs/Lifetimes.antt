@@ -1,8 +1,7 @@
 -- How long a decision may be kept. W-209: "the first call's result, 7 included, the smallest among the entries it consulted, or 0 if none". The entries
 -- consulted are those that a question found, whatever their answers and whether or not the result hung on them.
-use Rattle.std.specs.Prelude.{ℕ, ◌≤◌, List, [], ◌∷◌}
+use Rattle.std.specs.Prelude.{ℕ, ◌≤◌, List, [], ◌∷◌, None, Option, Some}
 use Rattle.records.specs.Readings.{Optional, absent, present}
-use Rattle.rules.specs.declared.Life.{Life}
 use Rattle.rules.specs.Tree.{Answer, Table, Settled, settled, wanting}
 use Rattle.rules.specs.Trail.{Question}
 
@@ -26,10 +25,10 @@ pub data Smallest : List ℕ → ℕ → Type 0 where
   some : {n : ℕ} {ns : List ℕ} → OneOf n ns → ((m : ℕ) → OneOf m ns → n ≤ m) → Smallest ns n
 
 -- the lifetime that a run ends with, and as it is answered
-unfoldable pub life_of : {A : Type 0} → Settled A → Life
+unfoldable pub life_of : {A : Type 0} → Settled A → Option ℕ
 life_of (settled a l) = l
 life_of (wanting kind n c l) = l
 
-unfoldable pub seconds : Life → ℕ
-seconds Life.Unmet = 0
-seconds (Life.Least n) = n
+unfoldable pub seconds : Option ℕ → ℕ
+seconds None = 0
+seconds (Some n) = n

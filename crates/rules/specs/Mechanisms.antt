@@ -1,11 +1,9 @@
 -- What each mechanism asks and whether it matches, in the words and order of the house rules.
-use Rattle.std.specs.Prelude.{ℕ, ◌+◌, List, [], ◌∷◌, ◌++◌, Bool, false, cond, ◌&&◌, ◌||◌, length, take, drop, ltb, leb, eqb}
+use Rattle.std.specs.Prelude.{ℕ, ◌+◌, List, [], ◌∷◌, ◌++◌, Bool, false, cond, ◌&&◌, ◌||◌, length, take, drop, ltb, leb, eqb, None, Option, Some}
 use Rattle.text.specs.Lists.{same}
 use Rattle.text.specs.Texts.{bytes}
 use Rattle.address.specs.declared.Address.{Address}
 use Rattle.address.specs.declared.Address.TheVariants.{IPv4, IPv6}
-use Rattle.address.specs.declared.FromOctets.{FromOctets}
-use Rattle.address.specs.declared.FromOctets.TheVariants.{Is, NoAddress}
 use Rattle.address.specs.Octets.{from_octets}
 use Rattle.address.specs.Matching.{matches_at}
 use Rattle.domain.specs.Names.{at_or_below}
@@ -49,9 +47,9 @@ address_kind (IPv4 v) = kind_a
 address_kind (IPv6 h l) = kind_aaaa
 
 -- whether an item of an address answer matches the client at a prefix length
-unfoldable pub item_matches : Address → ℕ → FromOctets → Bool
-item_matches client n (Is a) = matches_at client a n
-item_matches client n NoAddress = false
+unfoldable pub item_matches : Address → ℕ → Option Address → Bool
+item_matches client n (Some a) = matches_at client a n
+item_matches client n None = false
 
 unfoldable pub any_matches : Address → ℕ → List (List ℕ) → Bool
 any_matches client n [] = false

@@ -1,5 +1,5 @@
 -- An evaluation that comes, by an include and then a redirect, to a record outside the grammar: how the check is reached, and what is answered.
-use Rattle.std.specs.Prelude.{ℕ, ◌≤◌, ◌≡◌, refl, true, List, [], ◌∷◌, length, take, drop, ltb}
+use Rattle.std.specs.Prelude.{ℕ, ◌≤◌, ◌≡◌, refl, true, List, [], ◌∷◌, length, take, drop, ltb, Ok}
 use Rattle.std.proofs.Common.{arith, sym, subst, ltb-true}
 use Rattle.text.specs.Bytes.{within, is_space, is_not_space, is_not_slash, is_upper, is_not_upper, is_alpha, is_digit, is_length_byte, is_alphanumeric, is_hex_digit, is_visible, is_printable, is_label_byte, is_name_byte, is_toplabel_byte, is_macro_literal, is_delimiter, lower}
 use Rattle.text.specs.Lists.{same, same_word, contains, all, rightmost, grow, split, separator_before, join_by}
@@ -16,7 +16,6 @@ use Rattle.records.specs.Numbers.{said_of}
 use Rattle.records.specs.Reader.{later_kind, kind_of, spec_at, all_of, with_spec, mechanism_by, mechanism_of, modifier_of as records-reader-of-modifierOf, token_of, token_answer, term_from, read_term, is_redirect, is_explanation, check_after, check_from, has_version, read_record, Reads, stop, step}
 use Rattle.records.specs.Readings.{Placed}
 use Rattle.records.specs.Answers.{most_bytes}
-use Rattle.records.specs.declared.RecordAnswer.{RecordAnswer}
 use Rattle.records.proofs.Laws.Versions.{version_of}
 use Rattle.records.proofs.Laws.Records.{record_sound, record_complete, reads_one}
 use Rattle.rules.specs.Evaluation.{include_match, check_target, begun_check, include_of, include_step, having, mechanism_step, term_step, modifier_of, none_is_permerror, redirect_of, no_match, after_step, try_terms, terms_after, terms_from, terms_of, read_outcome, versioned, selection, text_reply, record_lookup, after_lookup, check_name, check, evaluation, explanation_of, verdict, no_counts}
@@ -31,7 +30,7 @@ rows = txt (bytes "example.com") (bytes "v=spf1 include:b.example -all") ∷ txt
     ∷ txt (bytes "c.example") (bytes "v=spf1 moo") ∷ []
 
 -- a text that is read whole is a record with the terms that are read
-made : (s : List ℕ) (ts : List Placed) → length s ≤ most_bytes → read_record s ≡ RecordAnswer.Accepted 6 → Reads s 6 ts → Record s ts
+made : (s : List ℕ) (ts : List Placed) → length s ≤ most_bytes → read_record s ≡ Ok 6 → Reads s 6 ts → Record s ts
 made s ts h e w =
     let d = record_sound s 6 e in
     subst (Record s) (sym (reads_one w (record_complete d.1 h).walk)) d.1

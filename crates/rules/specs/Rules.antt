@@ -1,17 +1,16 @@
 -- The sentences on evaluation, one computed example for each: a zone, and what example.com's evaluation answers for a client. Examples.antt computes them.
-use Rattle.std.specs.Prelude.{ℕ, ◌≡◌, List, [], ◌∷◌, ◌++◌, replicate}
+use Rattle.std.specs.Prelude.{ℕ, ◌≡◌, List, [], ◌∷◌, ◌++◌, replicate, None, Option}
 use Rattle.text.specs.Texts.{bytes}
 use Rattle.rules.specs.Tree.{run}
 use Rattle.rules.specs.Evaluation.{verdict}
 use Rattle.records.specs.Readings.{absent, present}
-use Rattle.rules.specs.declared.Life.{Life}
 use Rattle.rules.specs.Zones.{Row, zone, aside, lasting, txt, row, broken, spf, included, mail, here, elsewhere, here6, elsewhere6, answer, answer6, lifetime, decided, fails, wants, result, failed_in}
 
 -- record lookup
 pub record LookupRules : Type 0 where
   -- "A malformed or single-label domain gives none."
-  pub malformed_domain : aside (run (zone []) Life.Unmet (verdict mail (bytes "example..com"))) ≡ decided 0 0 0
-  pub single_label : aside (run (zone []) Life.Unmet (verdict mail (bytes "localhost."))) ≡ decided 0 0 0
+  pub malformed_domain : aside (run (zone []) None (verdict mail (bytes "example..com"))) ≡ decided 0 0 0
+  pub single_label : aside (run (zone []) None (verdict mail (bytes "localhost."))) ≡ decided 0 0 0
   -- "Failed gives temperror."
   pub lookup_failed : answer (broken 16 "example.com" ∷ []) ≡ decided 5 0 0
   -- "none gives none, several permerror, a single one is selected"

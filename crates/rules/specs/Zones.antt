@@ -1,12 +1,11 @@
 -- Zones for computed examples: what a list of entries answers, a mail, and what an evaluation over a zone comes to.
-use Rattle.std.specs.Prelude.{ℕ, List, [], ◌∷◌, cond, ◌&&◌, eqb}
+use Rattle.std.specs.Prelude.{ℕ, List, [], ◌∷◌, cond, ◌&&◌, eqb, None, Option}
 use Prim.Native.String.{String}
 use Rattle.text.specs.Lists.{same}
 use Rattle.text.specs.Texts.{bytes}
 use Rattle.address.specs.declared.Address.TheVariants.{IPv4, IPv6}
 use Rattle.records.specs.Readings.{Optional, absent, present}
 use Rattle.rules.specs.Tree.{Reply, failed, items, Table, Settled, settled, wanting, run}
-use Rattle.rules.specs.declared.Life.{Life}
 use Rattle.rules.specs.Lifetimes.{seconds, life_of}
 use Rattle.rules.specs.Mechanisms.{Mail}
 use Rattle.rules.specs.Evaluation.{Result, evaluation, Verdict, verdict}
@@ -72,37 +71,37 @@ elsewhere6 = 32 ∷ 1 ∷ 13 ∷ 184 ∷ 0 ∷ 0 ∷ 0 ∷ 0 ∷ 0 ∷ 0 ∷ 0 �
 
 -- what is settled, the lifetime set aside; `lifetime` is of it
 unfoldable pub aside : {A : Type 0} → Settled A → Settled A
-aside (settled a l) = settled a Life.Unmet
-aside (wanting kind n c l) = wanting kind n c Life.Unmet
+aside (settled a l) = settled a None
+aside (wanting kind n c l) = wanting kind n c None
 
 -- what example.com's evaluation answers over a zone, for the first client and for the second
 unfoldable pub answer : List Row → Settled Verdict
-answer rs = aside (run (zone rs) Life.Unmet (verdict mail (bytes "example.com")))
+answer rs = aside (run (zone rs) None (verdict mail (bytes "example.com")))
 
 unfoldable pub answer6 : List Row → Settled Verdict
-answer6 rs = aside (run (zone rs) Life.Unmet (verdict mail6 (bytes "example.com")))
+answer6 rs = aside (run (zone rs) None (verdict mail6 (bytes "example.com")))
 
 -- what its first call settles
 unfoldable pub result : List Row → Settled Result
-result rs = aside (run (zone rs) Life.Unmet (evaluation mail (bytes "example.com")))
+result rs = aside (run (zone rs) None (evaluation mail (bytes "example.com")))
 
 -- the lifetime that its first call answers
 unfoldable pub lifetime : List Row → ℕ
-lifetime rs = seconds (life_of (run (zone rs) Life.Unmet (evaluation mail (bytes "example.com"))))
+lifetime rs = seconds (life_of (run (zone rs) None (evaluation mail (bytes "example.com"))))
 
 -- a fail after so many lookups of the record of a domain with an exp, or without one
 abbrev pub failed_in : ℕ → String → Optional (List ℕ) → Settled Result
 failed_in l d exp =
-    settled (record { value = 3; counts = record { lookups = l; voids = 0 }; failing = present (record { domain = bytes d; exp = exp }) }) Life.Unmet
+    settled (record { value = 3; counts = record { lookups = l; voids = 0 }; failing = present (record { domain = bytes d; exp = exp }) }) None
 
 -- a number and both counts, without a text
 abbrev pub decided : ℕ → ℕ → ℕ → Settled Verdict
-decided v l w = settled (record { value = v; counts = record { lookups = l; voids = w }; text = [] }) Life.Unmet
+decided v l w = settled (record { value = v; counts = record { lookups = l; voids = w }; text = [] }) None
 
 -- a fail with a text
 abbrev pub fails : ℕ → List ℕ → Settled Verdict
-fails l s = settled (record { value = 3; counts = record { lookups = l; voids = 0 }; text = s }) Life.Unmet
+fails l s = settled (record { value = 3; counts = record { lookups = l; voids = 0 }; text = s }) None
 
 -- a question that is missing, after that many lookups
 abbrev pub wants : ℕ → String → ℕ → Settled Verdict
-wants kind owner l = wanting kind (bytes owner) (record { lookups = l; voids = 0 }) Life.Unmet
+wants kind owner l = wanting kind (bytes owner) (record { lookups = l; voids = 0 }) None

@@ -1,81 +1,78 @@
-// The types that an evaluation is said in. This crate has no functions: its specs are the rules of evaluation as definitions, and theorems on them.
+// The types that an evaluation is said in. Its specs are the rules of evaluation as definitions, and theorems on them.
 #![tactic(auto)]
 
-use records::opening::Modifier;
+ghost use Rattle.std.specs.Prelude.{◌≡◌, ◌≤◌, length};
+ghost use Rattle.macros.specs.Expansion.{given, given_of};
+ghost use Rattle.rules.specs.declared.Ending.TheVariants.{Wanting};
+
+use address::Address;
+use macros::Given;
+use text::spans::Span;
+
+// What a relay tells of a mail: the client's address, the sender, the HELO name, the receiver and the time in seconds. A longer
+// sender is refused before an evaluation begins.
+#[derive(Clone, Copy)]
+pub struct Mail<'a> {
+    pub client: Address,
+    pub sender: &'a [u8],
+    pub helo: &'a [u8],
+    pub receiver: &'a [u8],
+    pub seconds: u64,
+    ghost sender_fits: { length sender.now ≤ 320 },
+}
+
+impl<'a> Mail<'a> {
+    // What a macro string is expanded with, in a domain and with a value of p.
+    pub fn given(&self, domain: &'a [u8], p: &'a [u8]) -> Given<'a>
+        ensures value { given_of result ≡ given self.now.sender.now self.now.helo.now self.now.receiver.now domain.now p.now self.now.client self.now.seconds }
+        ensures sender_fits { length result.sender.now ≤ 320 }
+    {
+        Given {
+            sender: self.sender,
+            helo: self.helo,
+            receiver: self.receiver,
+            domain,
+            p,
+            client: self.client,
+            seconds: self.seconds,
+        }
+    }
+}
 
 // The lookups begun and the void answers met so far.
-#[derive(Clone, Copy)]
+#[derive(Clone, Copy, PartialEq, Eq)]
 pub struct Counts {
     pub lookups: u8,
     pub voids: u8,
 }
 
-// How a check ends: the result by its number, or a question without an entry, its kind and its name's length.
+// What a check has come to so far: the counts, and the smallest lifetime of the entries consulted, none where no entry was.
+#[derive(Clone, Copy, PartialEq, Eq)]
+pub struct Progress {
+    pub counts: Counts,
+    pub life: Option<u32>,
+}
+
+// A question without an entry: its kind, by its number in the DNS, and the length of its name, which stands at the front of the name buffer.
+#[derive(Clone, Copy, PartialEq, Eq)]
+pub struct Wanted {
+    pub kind: u16,
+    pub length: usize,
+}
+
+// What ends a check before its last term: a result by its number, or a question without an entry.
 #[derive(Clone, Copy)]
 pub enum Ending {
     Result(u8),
-    Wanting { kind: u16, length: usize },
+    Wanting(Wanted),
 }
 
-// The smallest lifetime of the entries consulted so far; none where no entry was.
-#[derive(Clone, Copy)]
-pub enum Life {
-    Unmet,
-    Least(u32),
-}
+impl From<Wanted> for Ending {
+    ghost from_gives = { λ w e. e ≡ Wanting w };
 
-// Whether a term matches.
-#[derive(Clone, Copy)]
-pub enum Matched {
-    Yes,
-    No,
-    Stop(Ending),
-}
-
-// What a term comes to, with the counts and the lifetime after it.
-#[derive(Clone, Copy)]
-pub struct Stepped {
-    pub matched: Matched,
-    pub counts: Counts,
-    pub life: Life,
-}
-
-// What a domain-spec names: a name that was written, with its length; nothing; or a question of p without an entry.
-#[derive(Clone, Copy)]
-pub enum Target {
-    Name(usize),
-    Malformed,
-    Wanting { kind: u16, length: usize },
-}
-
-// A domain-spec's name, with the lifetime after it.
-#[derive(Clone, Copy)]
-pub struct Targeted {
-    pub target: Target,
-    pub life: Life,
-}
-
-// The value of p: the current domain, a name that stands in the table, `unknown`, or a question without an entry.
-#[derive(Clone, Copy)]
-pub enum PValue {
-    Current,
-    Listed { from: usize, to: usize },
-    Unknown,
-    Wanting { kind: u16, length: usize },
-}
-
-// The value of p, with the lifetime after it.
-#[derive(Clone, Copy)]
-pub struct PFound {
-    pub value: PValue,
-    pub life: Life,
-}
-
-// A part of the table, by its places.
-#[derive(Clone, Copy)]
-pub struct Span {
-    pub from: usize,
-    pub to: usize,
+    fn from(w: Wanted) -> Ending {
+        Ending::Wanting(w)
+    }
 }
 
 // What record lookup comes to: a result; the record that is selected, where its domain's name and its text stand in the table; or no entry for the
@@ -91,28 +88,19 @@ pub enum Selected {
 #[derive(Clone, Copy)]
 pub struct LookedUp {
     pub selected: Selected,
-    pub life: Life,
+    pub life: Option<u32>,
 }
 
-// Which record failed: none; or the one whose domain's name stands in the table, and where in the table the argument of its exp stands.
+// Which record failed: where its domain's name and the argument of its exp, if it has one, stand in the table.
 #[derive(Clone, Copy)]
-pub enum FailingPlace {
-    Nowhere,
-    In { domain: Span, exp: Modifier },
+pub struct FailingPlace {
+    pub domain: Span,
+    pub exp: Option<Span>,
 }
 
-// What a check comes to, with the counts and the lifetime after it, and for a fail which record failed.
+// A check's result by its number, and for a fail the record that failed.
 #[derive(Clone, Copy)]
 pub struct Checked {
-    pub ending: Ending,
-    pub counts: Counts,
-    pub life: Life,
-    pub failing: FailingPlace,
-}
-
-// What fetching an explanation comes to: the length of its text, or a question without an entry.
-#[derive(Clone, Copy)]
-pub enum Explained {
-    Text(usize),
-    Wanting { kind: u16, length: usize },
+    pub value: u8,
+    pub failing: Option<FailingPlace>,
 }

@@ -4,16 +4,15 @@ ghost use Rattle.check_input.specs.Keeping.{most_kept, held_room};
 
 use address::Address;
 use check_input::keeping::hold;
-use check_input::lines::{put_line, put_named, put_number, put_placed};
+use check_input::lines::{put_line, put_named, put_number, put_refusal};
 use evaluation::explaining::Explanation;
 use evaluation::{Answer, evaluate, explaining};
-use networks::Network;
 use rules::Counts;
 use std::io;
 use text::bytes::part;
 use text::decimal;
-use text::decimal::Number;
 use text::fields::{after_fields, field};
+use text::writing::Writer;
 
 // Prints the answer to what is held.
 fn print_held(rt: &impl Print, input: &[u8]) -> io::Result<()> {
@@ -39,12 +38,10 @@ fn hold_many(held: &mut [u8], n: usize, byte: u8, count: usize) -> usize
 {
     let chunk = [byte; 4096];
     let mut size = n;
-    let mut left = count;
-    while 4096 < left {
+    for _ in 0..count / 4096 {
         size = hold(held, size, &chunk, 4096);
-        left -= 4096;
     }
-    hold(held, size, &chunk, left)
+    hold(held, size, &chunk, count % 4096)
 }
 
 // Runs the input that two words write in hex, with so many of a byte between them.
@@ -66,7 +63,7 @@ pub fn run_wide(
     print_held(rt, part(&held, 0, size))
 }
 
-// Prints the second call's answer with the counts and the lifetime of the first, from buffers of some length; `domain` is the failing record's.
+// Writes the second call's answer with the counts and the lifetime of the first; `domain` is the failing record's.
 fn explain_lent(
     client: Address,
     domain: &[u8],
@@ -78,12 +75,8 @@ fn explain_lent(
     lifetime: u32,
     name: &mut [u8],
     text: &mut [u8],
-    out: &mut [u8],
-) -> usize {
-    let none = Counts {
-        lookups: 0,
-        voids: 0,
-    };
+    out: &mut Writer,
+) {
     match explaining::explain(
         client,
         domain,
@@ -97,19 +90,19 @@ fn explain_lent(
         name,
         text,
     ) {
-        Explanation::Text(n) => {
-            let next = put_number(3, counts, lifetime, out, 0);
-            put_line(part(text, 0, n), out, next)
+        Ok(Explanation::Text(n)) => {
+            put_number(3, counts, lifetime, out);
+            put_line(part(text, 0, n), out);
         }
-        Explanation::Wanting { kind, length: n } => {
-            put_named(kind, counts, lifetime, part(name, 0, n), out, 0)
+        Ok(Explanation::Wanting(question)) => {
+            let asked = part(name, 0, question.length);
+            put_named(question.kind, counts, lifetime, asked, out);
         }
-        Explanation::Refused(number) => put_number(number, none, 0, out, 0),
-        Explanation::RefusedAt { number, at } => put_placed(number, at as u64, none, 0, out, 0),
+        Err(refusal) => put_refusal(refusal, out),
     }
 }
 
-// Prints what both calls give, from buffers of some length; the second is lent another name buffer.
+// Writes what both calls give; the second is lent another name buffer.
 fn call_lent(
     client: Address,
     input: &[u8],
@@ -117,12 +110,8 @@ fn call_lent(
     name: &mut [u8],
     question: &mut [u8],
     text: &mut [u8],
-    out: &mut [u8],
-) -> usize {
-    let none = Counts {
-        lookups: 0,
-        voids: 0,
-    };
+    out: &mut Writer,
+) {
     match evaluate(
         client,
         field(input, 10, 1),
@@ -133,18 +122,22 @@ fn call_lent(
         after_fields(input, 10, 6),
         name,
     ) {
-        Answer::Decided {
-            value,
-            counts,
-            lifetime,
-        } => put_number(value, counts, lifetime, out, 0),
-        Answer::Fail {
-            counts,
-            lifetime,
-            domain: n,
-            place,
-            length: size,
-        } => explain_lent(
+        Ok(
+            Answer::Decided {
+                value,
+                counts,
+                lifetime,
+            },
+        ) => put_number(value, counts, lifetime, out),
+        Ok(
+            Answer::Fail {
+                counts,
+                lifetime,
+                domain: n,
+                place,
+                length: size,
+            },
+        ) => explain_lent(
             client,
             part(name, 0, n),
             input,
@@ -157,14 +150,17 @@ fn call_lent(
             text,
             out,
         ),
-        Answer::Wanting {
-            kind,
-            length: n,
-            counts,
-            lifetime,
-        } => put_named(kind, counts, lifetime, part(name, 0, n), out, 0),
-        Answer::Refused(number) => put_number(number, none, 0, out, 0),
-        Answer::RefusedAt { number, at } => put_placed(number, at as u64, none, 0, out, 0),
+        Ok(
+            Answer::Wanting {
+                question,
+                counts,
+                lifetime,
+            },
+        ) => {
+            let asked = part(name, 0, question.length);
+            put_named(question.kind, counts, lifetime, asked, out);
+        }
+        Err(refusal) => put_refusal(refusal, out),
     }
 }
 
@@ -174,15 +170,15 @@ fn read_lent(
     name: &mut [u8],
     question: &mut [u8],
     text: &mut [u8],
-    out: &mut [u8],
-) -> usize {
-    let Network::Is(a) = networks::read_address(field(input, 10, 0)) else {
-        return put_line(b"input", out, 0);
+    out: &mut Writer,
+) {
+    let Some(a) = networks::read_address(field(input, 10, 0)) else {
+        return put_line(b"input", out);
     };
-    let Number::Value(t) = decimal::read_decimal(field(input, 10, 5), 18446744073709551615) else {
-        return put_line(b"input", out, 0);
+    let Some(t) = decimal::read_decimal(field(input, 10, 5), u64::MAX) else {
+        return put_line(b"input", out);
     };
-    call_lent(a, input, t, name, question, text, out)
+    call_lent(a, input, t, name, question, text, out);
 }
 
 // Prints both calls' lines.
@@ -194,63 +190,10 @@ fn print_lent(
     text: &mut [u8],
 ) -> io::Result<()> {
     let mut out = [0u8; 2048];
-    let size = read_lent(input, name, question, text, &mut out);
+    let mut w = Writer::new(&mut out);
+    read_lent(input, name, question, text, &mut w);
+    let size = w.at;
     rt.write_all(part(&out, 0, size))
-}
-
-// The check with the front of the text buffer.
-fn check_text(
-    rt: &impl Print,
-    input: &[u8],
-    name: &mut [u8],
-    question: &mut [u8],
-    text: &mut [u8],
-    text_room: usize,
-) -> io::Result<()> {
-    if text_room <= text.len() {
-        return print_lent(rt, input, name, question, &mut text[..text_room]);
-    }
-    case_support::print_line(rt, b"too long")
-}
-
-// The check with the front of the second call's name buffer.
-fn check_question(
-    rt: &impl Print,
-    input: &[u8],
-    name: &mut [u8],
-    question: &mut [u8],
-    text: &mut [u8],
-    name_room: usize,
-    text_room: usize,
-) -> io::Result<()> {
-    if name_room <= question.len() {
-        return check_text(rt, input, name, &mut question[..name_room], text, text_room);
-    }
-    case_support::print_line(rt, b"too long")
-}
-
-// The check with the fronts of all buffers.
-fn check_front(
-    rt: &impl Print,
-    input: &[u8],
-    name: &mut [u8],
-    question: &mut [u8],
-    text: &mut [u8],
-    name_room: usize,
-    text_room: usize,
-) -> io::Result<()> {
-    if name_room <= name.len() {
-        return check_question(
-            rt,
-            input,
-            &mut name[..name_room],
-            question,
-            text,
-            name_room,
-            text_room,
-        );
-    }
-    case_support::print_line(rt, b"too long")
 }
 
 // Runs the check that a word writes in hex, with buffers of at most 1,024 bytes and so many zero bytes after its table.
@@ -266,16 +209,14 @@ pub fn run_lent(
     let mut question = [0u8; 1024];
     let mut text = [0u8; 1024];
     let n = case_support::unhex(word, &mut input);
-    if zeros <= 65536 {
-        return check_front(
-            rt,
-            part(&input, 0, n + zeros),
-            &mut name,
-            &mut question,
-            &mut text,
-            name_room,
-            text_room,
-        );
+    if 65536 < zeros || 1024 < name_room || 1024 < text_room {
+        return case_support::print_line(rt, b"too long");
     }
-    case_support::print_line(rt, b"too long")
+    print_lent(
+        rt,
+        part(&input, 0, n + zeros),
+        &mut name[..name_room],
+        &mut question[..name_room],
+        &mut text[..text_room],
+    )
 }

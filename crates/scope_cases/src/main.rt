@@ -19,17 +19,15 @@
 
 mod checks;
 
-use case_support::Line;
-use macros::{Expanded, Form};
+use case_support::{number_of, unhexed, word};
+use macros::{ExpandError, Form, Given};
 use std::io;
 use text::bytes::part;
-use text::words;
 
 fn run_record(rt: &impl Print, line: &[u8]) -> io::Result<()> {
     let mut s = [0u8; 8192];
     let mut out = [0u8; 64];
-    let n = case_support::unhex(case_support::word(line, 2), &mut s);
-    let size = record_listing::put_reading(part(&s, 0, n), &mut out);
+    let size = record_listing::put_reading(unhexed(word(line, 2), &mut s), &mut out);
     rt.write_all(part(&out, 0, size))
 }
 
@@ -37,7 +35,7 @@ fn run_record(rt: &impl Print, line: &[u8]) -> io::Result<()> {
 fn run_listing(rt: &impl Print, line: &[u8]) -> io::Result<()> {
     let mut input = [0u8; 8192];
     let mut out = record_listing::buffer();
-    let n = case_support::unhex(case_support::word(line, 2), &mut input);
+    let n = case_support::unhex(word(line, 2), &mut input);
     let size = record_listing::list_input(&input, n, &mut out);
     rt.write_all(part(&out, 0, size))
 }
@@ -51,27 +49,23 @@ fn print_term_at(rt: &impl Print, s: &[u8], place: usize) -> io::Result<()> {
 
 fn run_term(rt: &impl Print, line: &[u8]) -> io::Result<()> {
     let mut s = [0u8; 8192];
-    let n = case_support::unhex(case_support::word(line, 2), &mut s);
-    print_term_at(
-        rt,
-        part(&s, 0, n),
-        case_support::number_of(case_support::word(line, 3)) as usize,
-    )
+    let place = number_of(word(line, 3)) as usize;
+    print_term_at(rt, unhexed(word(line, 2), &mut s), place)
 }
 
 fn run_match(rt: &impl Print, line: &[u8]) -> io::Result<()> {
-    let client = case_support::address_of(case_support::word(line, 2));
-    let network = case_support::address_of(case_support::word(line, 3));
-    let length = case_support::number_of(case_support::word(line, 4)) as usize;
+    let client = case_support::address_of(word(line, 2));
+    let network = case_support::address_of(word(line, 3));
+    let length = number_of(word(line, 4)) as usize;
     case_support::print_test(rt, address::matches(client, network, length))
 }
 
 // The form that a word names.
 fn form_of(word: &[u8]) -> Form {
-    if words::equal(word, b"explanation") {
-        return Form::Explanation;
+    match word {
+        b"explanation" => Form::Explanation,
+        _ => Form::DomainSpec,
     }
-    Form::DomainSpec
 }
 
 // Prints a text with a space before it, if there is one, and the line's end.
@@ -83,15 +77,19 @@ fn print_rest(rt: &impl Print, text: &[u8]) -> io::Result<()> {
 }
 
 // Prints what an expansion answered.
-fn print_expanded(rt: &impl Print, answer: Expanded, out: &[u8]) -> io::Result<()> {
+fn print_expanded(
+    rt: &impl Print,
+    answer: Result<usize, ExpandError>,
+    out: &[u8],
+) -> io::Result<()> {
     match answer {
-        Expanded::Written(n) => {
+        Ok(n) => {
             rt.write_all(b"ok")?;
             print_rest(rt, part(out, 0, n))
         }
-        Expanded::Refused(n) => {
+        Err(e) => {
             rt.write_all(b"refused ")?;
-            case_support::print_number_line(rt, n as usize)
+            case_support::print_number_line(rt, e.number() as usize)
         }
     }
 }
@@ -102,126 +100,77 @@ fn run_expand(rt: &impl Print, line: &[u8]) -> io::Result<()> {
     let mut p = [0u8; 1024];
     let mut text = [0u8; 8192];
     let mut out = [0u8; 4096];
-    let d = case_support::unhex(case_support::word(line, 4), &mut domain);
-    let s = case_support::unhex(case_support::word(line, 5), &mut sender);
-    let q = case_support::unhex(case_support::word(line, 6), &mut p);
-    let t = case_support::unhex(case_support::word(line, 7), &mut text);
-    let answer = macros::expand(
-        form_of(case_support::word(line, 2)),
-        part(&text, 0, t),
-        part(&sender, 0, s),
-        b"helo.example",
-        b"",
-        part(&domain, 0, d),
-        part(&p, 0, q),
-        case_support::address_of(case_support::word(line, 3)),
-        7,
-        &mut out,
-    );
+    let given = Given {
+        sender: unhexed(word(line, 5), &mut sender),
+        helo: b"helo.example",
+        receiver: b"",
+        domain: unhexed(word(line, 4), &mut domain),
+        p: unhexed(word(line, 6), &mut p),
+        client: case_support::address_of(word(line, 3)),
+        seconds: 7,
+    };
+    let text = unhexed(word(line, 7), &mut text);
+    let answer = macros::expand(form_of(word(line, 2)), text, &given, &mut out);
     print_expanded(rt, answer, &out)
 }
 
 // A number that a word writes, as a length.
 fn length_of(word: &[u8]) -> usize {
-    (case_support::number_of(word) % 65537) as usize
+    (number_of(word) % 65537) as usize
 }
 
 fn run_check(rt: &impl Print, line: &[u8]) -> io::Result<()> {
-    checks::run(rt, case_support::word(line, 2))
+    checks::run(rt, word(line, 2))
 }
 
 fn run_wide(rt: &impl Print, line: &[u8]) -> io::Result<()> {
-    let count = case_support::number_of(case_support::word(line, 2)) % 1000000;
-    let byte = case_support::number_of(case_support::word(line, 3)) % 256;
-    checks::run_wide(
-        rt,
-        case_support::word(line, 4),
-        case_support::word(line, 5),
-        byte as u8,
-        count as usize,
-    )
+    let count = number_of(word(line, 2)) % 1000000;
+    let byte = number_of(word(line, 3)) % 256;
+    checks::run_wide(rt, word(line, 4), word(line, 5), byte as u8, count as usize)
 }
 
 fn run_lent(rt: &impl Print, line: &[u8]) -> io::Result<()> {
-    let name = length_of(case_support::word(line, 2));
-    let text = length_of(case_support::word(line, 3));
-    let zeros = length_of(case_support::word(line, 4));
-    checks::run_lent(rt, case_support::word(line, 5), name, text, zeros)
+    let name = length_of(word(line, 2));
+    let text = length_of(word(line, 3));
+    let zeros = length_of(word(line, 4));
+    checks::run_lent(rt, word(line, 5), name, text, zeros)
 }
 
 // Runs a case of a kind, once its label is printed.
 fn run_case(rt: &impl Print, kind: &[u8], line: &[u8]) -> io::Result<()> {
-    if words::equal(kind, b"record") {
-        return run_record(rt, line);
+    match kind {
+        b"record" => run_record(rt, line),
+        b"listing" => run_listing(rt, line),
+        b"term" => run_term(rt, line),
+        b"expand" => run_expand(rt, line),
+        b"match" => run_match(rt, line),
+        b"wide" => run_wide(rt, line),
+        b"lent" => run_lent(rt, line),
+        _ => run_check(rt, line),
     }
-    if words::equal(kind, b"listing") {
-        return run_listing(rt, line);
-    }
-    if words::equal(kind, b"term") {
-        return run_term(rt, line);
-    }
-    if words::equal(kind, b"expand") {
-        return run_expand(rt, line);
-    }
-    if words::equal(kind, b"match") {
-        return run_match(rt, line);
-    }
-    if words::equal(kind, b"wide") {
-        return run_wide(rt, line);
-    }
-    if words::equal(kind, b"lent") {
-        return run_lent(rt, line);
-    }
-    run_check(rt, line)
-}
-
-// Whether a word is the kind of a case.
-fn is_kind(kind: &[u8]) -> bool {
-    if words::equal(kind, b"check") {
-        return true;
-    }
-    if words::equal(kind, b"wide") {
-        return true;
-    }
-    if words::equal(kind, b"lent") {
-        return true;
-    }
-    if words::equal(kind, b"record") {
-        return true;
-    }
-    if words::equal(kind, b"listing") {
-        return true;
-    }
-    if words::equal(kind, b"term") {
-        return true;
-    }
-    if words::equal(kind, b"expand") {
-        return true;
-    }
-    words::equal(kind, b"match")
 }
 
 fn run_line(rt: &impl Print, line: &[u8]) -> io::Result<()> {
-    let kind = case_support::word(line, 0);
-    if is_kind(kind) {
-        rt.write_all(case_support::word(line, 1))?;
-        rt.write_all(b" ")?;
-        return run_case(rt, kind, line);
+    let kind = word(line, 0);
+    match kind {
+        b"check" | b"wide" | b"lent" | b"record" | b"listing" | b"term" | b"expand" | b"match" => {
+            rt.write_all(word(line, 1))?;
+            rt.write_all(b" ")?;
+            run_case(rt, kind, line)
+        }
+        _ => case_support::print_line(rt, line),
     }
-    case_support::print_line(rt, line)
 }
 
 // At most as many lines as the budget says.
 fn main(rt: HostRuntime) -> io::Result<()> {
     let mut input = rt.reader();
     let mut line = [0u8; 20000];
-    let mut budget: usize = 1000000;
-    while 0 < budget {
-        let Line::Of(n) = case_support::read_line(&mut input, &mut line)? else {
-            return Ok(());
+    for _ in 0..1000000 {
+        let Some(n) = case_support::read_line(&mut input, &mut line)? else {
+            break;
         };
         run_line(&rt, part(&line, 0, n))?;
-        budget -= 1;
     }
     Ok(())
 }

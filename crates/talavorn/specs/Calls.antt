@@ -1,10 +1,8 @@
 -- What each call comes to: the numbers that it hands back, the lent arrays and the lent buffers afterwards.
-use Rattle.std.specs.Prelude.{ℕ, ◌+◌, ◌-◌, ◌≡◌, ◌↔◌, List, map, length}
+use Rattle.std.specs.Prelude.{ℕ, ◌+◌, ◌-◌, ◌≡◌, ◌↔◌, List, [], ◌∷◌, map, length, None, Option, Some, Result, Ok, Err}
 use Rattle.text.specs.Bytes.{part, lower}
 use Rattle.text.specs.Writing.{overwritten}
 use Rattle.address.specs.declared.Address.{Address}
-use Rattle.address.specs.declared.FromOctets.{FromOctets}
-use Rattle.address.specs.declared.FromOctets.TheVariants.{Is, NoAddress}
 use Rattle.address.specs.Matching.{Matches}
 use Rattle.networks.specs.Reader6.{read_address}
 use Rattle.networks.specs.Answers.{NetworkAnswer, AddressText}
@@ -15,59 +13,48 @@ use Rattle.answer_entry.specs.Appending.{Outcome as AppendOutcome, Appends}
 use Rattle.old_layout.specs.Rewriting.{Outcome as AddOutcome, Rewrites}
 use Rattle.macros.specs.declared.Form.{Form}
 use Rattle.macros.specs.Expansion.{Given}
-use Rattle.macros.specs.Numbers.{Outcome as Expansion, refused as expansion-refused, answer_of as expandedOf, buffer_of}
+use Rattle.macros.specs.Numbers.{Outcome as Expansion, answer_of as expandedOf, buffer_of}
 use Rattle.macros.specs.Answers.{Expands}
 use Rattle.records.specs.Readings.{argument_bytes}
-use Rattle.records.specs.Numbers.{record_report, said_of, term_report}
+use Rattle.records.specs.Numbers.{TermAnswer, record_report, said_of, term_report}
 use Rattle.records.specs.Answers.{RecordAnswers, TermAnswers}
 use Rattle.records.specs.Beginnings.{pointed_term, pointed_record}
-use Rattle.records.specs.declared.TermAnswer.{TermAnswer}
-use Rattle.received.specs.Numbers.{Outcome as Line, refused as line_refused, answer_of as written_of, buffer_of as lineBuffer}
+use Rattle.received.specs.Numbers.{Outcome as Line, answer_of as written_of, buffer_of as lineBuffer}
 use Rattle.received.specs.Answers.{Given as LineGiven, Writes, ReadsLine, Unquotes}
 use Rattle.received.specs.declared.Identity.{Identity}
-use Rattle.received.specs.declared.LineAnswer.{LineAnswer}
-use Rattle.publishing.specs.declared.HouseAnswer.{HouseAnswer}
+use Rattle.received.specs.declared.LineError.{LineError}
+use Rattle.received.specs.declared.Parts.{Parts}
+use Rattle.publishing.specs.declared.HouseError.{HouseError}
 use Rattle.publishing.specs.Listing.{HouseAnswers}
 use Rattle.evaluation.specs.First as first
 use Rattle.evaluation.specs.Second as second
-use Rattle.talavorn.specs.declared.numbers.FormAnswer.{FormAnswer}
-use Rattle.talavorn.specs.declared.numbers.IdentityAnswer.{IdentityAnswer}
-use Rattle.talavorn.specs.Numbers.{no_address, no_form, no_identity, encoded, encoded_explanation, record_numbers, table_numbers, appended_numbers, expanded_numbers, written_numbers, line_numbers, house_numbers, added_numbers, match_number, address_octets, shape_of, term_numbers, term_octets}
+use Rattle.talavorn.specs.Numbers.{no_address, no_form, no_identity, refused_row, encoded, encoded_explanation, record_numbers, table_numbers, appended_numbers, expanded_numbers, written_numbers, line_numbers, house_numbers, added_numbers, match_number, address_octets, shape_of, term_numbers, term_octets}
 
 -- an evaluation, by the table's list of entries: octets that are no client's are refused before all else. What is lent determines what is handed back
 -- (`first_one`, evaluation/proofs/Laws/Deciding.antt)
-pub data EvaluateOutcome (client : FromOctets) (domain sender helo receiver : List ℕ) (seconds : ℕ) (table name : List ℕ) : first.Outcome → Type 0 where
-  no_client : client ≡ NoAddress → EvaluateOutcome client domain sender helo receiver seconds table name (first.refused no_address)
-  for_client : {a : Address} {o : first.Outcome} → client ≡ Is a → first.Answers (first.lent a domain sender helo receiver seconds table name) o
-      → EvaluateOutcome client domain sender helo receiver seconds table name o
-
 pub record EvaluateSays (o : first.Outcome) (numbers name name' : List ℕ) : Type 0 where
   pub answer : numbers ≡ encoded (first.answer_of o)
   pub name_buffer_lem : name' ≡ first.name_after o name
 
-pub record EvaluateAnswers (client : FromOctets) (domain sender helo receiver : List ℕ) (seconds : ℕ) (table numbers name name' : List ℕ) : Type 0 where
-  pub outcome : first.Outcome
-  pub answers : EvaluateOutcome client domain sender helo receiver seconds table name outcome
-  pub says : EvaluateSays outcome numbers name name'
+pub data EvaluateAnswers (client : Option Address) (domain sender helo receiver : List ℕ) (seconds : ℕ) (table numbers name name' : List ℕ) : Type 0 where
+  no_client : client ≡ None → numbers ≡ refused_row no_address 0 → name' ≡ name
+      → EvaluateAnswers client domain sender helo receiver seconds table numbers name name'
+  for_client : {a : Address} {o : first.Outcome} → client ≡ Some a → first.Answers (first.lent a domain sender helo receiver seconds table name) o
+      → EvaluateSays o numbers name name' → EvaluateAnswers client domain sender helo receiver seconds table numbers name name'
 
 -- an explanation, likewise (`second_one`, evaluation/proofs/Laws/Explaining.antt)
-pub data ExplainOutcome (client : FromOctets) (domain sender helo receiver : List ℕ) (seconds : ℕ) (table : List ℕ) (place size : ℕ) (name text : List ℕ)
-    : second.Outcome → Type 0 where
-  no_client : client ≡ NoAddress → ExplainOutcome client domain sender helo receiver seconds table place size name text (second.refused no_address)
-  for_client : {a : Address} {o : second.Outcome} → client ≡ Is a
-      → second.Answers (second.lent a domain sender helo receiver seconds table place size name text) o
-      → ExplainOutcome client domain sender helo receiver seconds table place size name text o
-
 pub record ExplainSays (o : second.Outcome) (numbers name name' text text' : List ℕ) : Type 0 where
   pub answer : numbers ≡ encoded_explanation (second.answer_of o)
   pub name_buffer_lem : name' ≡ second.name_after o name
   pub text_buffer_lem : text' ≡ second.text_after o text
 
-pub record ExplainAnswers (client : FromOctets) (domain sender helo receiver : List ℕ) (seconds : ℕ) (table : List ℕ) (place size : ℕ)
+pub data ExplainAnswers (client : Option Address) (domain sender helo receiver : List ℕ) (seconds : ℕ) (table : List ℕ) (place size : ℕ)
     (numbers name name' text text' : List ℕ) : Type 0 where
-  pub outcome : second.Outcome
-  pub answers : ExplainOutcome client domain sender helo receiver seconds table place size name text outcome
-  pub says : ExplainSays outcome numbers name name' text text'
+  no_client : client ≡ None → numbers ≡ (no_address ∷ 0 ∷ 0 ∷ []) → name' ≡ name → text' ≡ text
+      → ExplainAnswers client domain sender helo receiver seconds table place size numbers name name' text text'
+  for_client : {a : Address} {o : second.Outcome} → client ≡ Some a
+      → second.Answers (second.lent a domain sender helo receiver seconds table place size name text) o → ExplainSays o numbers name name' text text'
+      → ExplainAnswers client domain sender helo receiver seconds table place size numbers name name' text text'
 
 -- reading a record
 pub record RecordSays (s numbers : List ℕ) : Type 0 where
@@ -76,10 +63,10 @@ pub record RecordSays (s numbers : List ℕ) : Type 0 where
 
 -- the argument of a term that was read is the part of the record between the two places that are handed back
 abbrev pub ArgumentStands : List ℕ → TermAnswer → Type 0
-ArgumentStands s TermAnswer.End = Unit {0}
-ArgumentStands s (TermAnswer.Refused number place) = Unit {0}
-ArgumentStands s (TermAnswer.Is at next t) =
-    part s (at + (shape_of (next - at) t).from) (at + (shape_of (next - at) t).to) ≡ argument_bytes (said_of (part s at next) t)
+ArgumentStands s (Ok None) = Unit {0}
+ArgumentStands s (Err x) = Unit {0}
+ArgumentStands s (Ok (Some t)) =
+    part s (t.at + (shape_of (t.next - t.at) t.term).from) (t.at + (shape_of (t.next - t.at) t.term).to) ≡ argument_bytes (said_of (part s t.at t.next) t.term)
 
 -- reading one term
 pub record TermSays (s : List ℕ) (place : ℕ) (numbers octets octets' : List ℕ) : Type 0 where
@@ -88,48 +75,44 @@ pub record TermSays (s : List ℕ) (place : ℕ) (numbers octets octets' : List 
   pub argument : ArgumentStands s (pointed_term s place)
   pub produced : TermAnswers s place (term_report s (pointed_term s place))
 
--- an expansion: a form that is none and then octets that are no client's are refused before all else
-abbrev pub expand_for : FormAnswer → FromOctets → (Form → Address → Expansion) → Expansion
-expand_for FormAnswer.NoForm client f = expansion-refused no_form
-expand_for (FormAnswer.Is form) NoAddress f = expansion-refused no_address
-expand_for (FormAnswer.Is form) (Is a) f = f form a
+-- a call that writes into a buffer is refused with a number of its own, before all else
+pub record Refused (number : ℕ) (numbers before after : List ℕ) : Type 0 where
+  pub answer : numbers ≡ (number ∷ 0 ∷ [])
+  pub buffer : after ≡ before
 
-pub record ExpandSays (o : Expansion) (numbers before after : List ℕ) : Type 0 where
+-- an expansion: a form that is none and then octets that are no client's are refused before all else
+pub record ExpandedSays (o : Expansion) (numbers before after : List ℕ) : Type 0 where
   pub answer : numbers ≡ expanded_numbers (expandedOf o)
   pub buffer : after ≡ buffer_of o before
 
--- the same by the productions
-pub data ExpandOutcome (form : FormAnswer) (client : FromOctets) (text : List ℕ) (g : Address → Given) (room : ℕ) : Expansion → Type 0 where
-  no_kind : form ≡ FormAnswer.NoForm → ExpandOutcome form client text g room (expansion-refused no_form)
-  no_client : {f : Form} → form ≡ FormAnswer.Is f → client ≡ NoAddress → ExpandOutcome form client text g room (expansion-refused no_address)
-  for_client : {f : Form} {a : Address} {o : Expansion} → form ≡ FormAnswer.Is f → client ≡ Is a → Expands f text (g a) room o
-      → ExpandOutcome form client text g room o
+abbrev pub ExpandSays : Option Form → Option Address → (Form → Address → Expansion) → (numbers before after : List ℕ) → Type 0
+ExpandSays None client f = Refused no_form
+ExpandSays (Some form) None f = Refused no_address
+ExpandSays (Some form) (Some a) f = ExpandedSays (f form a)
 
-pub record ExpandAnswers (form : FormAnswer) (client : FromOctets) (text : List ℕ) (g : Address → Given) (numbers before after : List ℕ) : Type 0 where
-  pub outcome : Expansion
-  pub answers : ExpandOutcome form client text g (length before) outcome
-  pub says : ExpandSays outcome numbers before after
+-- the same by the productions
+pub data ExpandAnswers (form : Option Form) (client : Option Address) (text : List ℕ) (g : Address → Given) (numbers before after : List ℕ) : Type 0 where
+  no_kind : form ≡ None → Refused no_form numbers before after → ExpandAnswers form client text g numbers before after
+  no_client : {f : Form} → form ≡ Some f → client ≡ None → Refused no_address numbers before after → ExpandAnswers form client text g numbers before after
+  for_client : {f : Form} {a : Address} {o : Expansion} → form ≡ Some f → client ≡ Some a → Expands f text (g a) (length before) o
+      → ExpandedSays o numbers before after → ExpandAnswers form client text g numbers before after
 
 -- writing a Received-SPF line (W-202): an identity that is none and then octets that are no client's are refused before all else. What is lent determines
 -- what is handed back (`writes_one`, received/proofs/Laws/Deciding.antt)
-pub data WriteOutcome (identity : IdentityAnswer) (client : FromOctets) (g : Address → Identity → LineGiven) (room : ℕ) : Line → Type 0 where
-  no_kind : identity ≡ IdentityAnswer.NoIdentity → WriteOutcome identity client g room (line_refused no_identity)
-  no_client : {i : Identity} → identity ≡ IdentityAnswer.Is i → client ≡ NoAddress → WriteOutcome identity client g room (line_refused no_address)
-  for_client : {i : Identity} {a : Address} {o : Line} → identity ≡ IdentityAnswer.Is i → client ≡ Is a → Writes (g a i) room o
-      → WriteOutcome identity client g room o
-
 pub record WriteSays (o : Line) (numbers before after : List ℕ) : Type 0 where
   pub answer : numbers ≡ written_numbers (written_of o)
   pub buffer : after ≡ lineBuffer o before
 
-pub record WriteAnswers (identity : IdentityAnswer) (client : FromOctets) (g : Address → Identity → LineGiven) (numbers before after : List ℕ) : Type 0 where
-  pub outcome : Line
-  pub answers : WriteOutcome identity client g (length before) outcome
-  pub says : WriteSays outcome numbers before after
+pub data WriteAnswers (identity : Option Identity) (client : Option Address) (g : Address → Identity → LineGiven) (numbers before after : List ℕ) : Type 0 where
+  no_kind : identity ≡ None → Refused no_identity numbers before after → WriteAnswers identity client g numbers before after
+  no_client : {i : Identity} → identity ≡ Some i → client ≡ None → Refused no_address numbers before after
+      → WriteAnswers identity client g numbers before after
+  for_client : {i : Identity} {a : Address} {o : Line} → identity ≡ Some i → client ≡ Some a → Writes (g a i) (length before) o
+      → WriteSays o numbers before after → WriteAnswers identity client g numbers before after
 
 -- reading it back (`reads_one`)
 pub record LineSays (s numbers : List ℕ) : Type 0 where
-  pub answer : LineAnswer
+  pub answer : Result Parts LineError
   pub reads : ReadsLine s answer
   pub numbers_are : numbers ≡ line_numbers answer
 
@@ -141,14 +124,14 @@ pub record UnquoteAnswers (s numbers before after : List ℕ) : Type 0 where
 
 -- holding a record with its domain name against the house rules (W-211), into a list (`answers_one`, publishing/proofs/Laws/Deciding.antt)
 pub record HouseSays (domain s numbers before after : List ℕ) : Type 0 where
-  pub answer : HouseAnswer
+  pub answer : Result ℕ HouseError
   pub answers : HouseAnswers domain s before after answer
   pub numbers_are : numbers ≡ house_numbers answer
 
 -- a match: 1 exactly when two addresses match
-pub record MatchSays (client network : FromOctets) (bits r : ℕ) : Type 0 where
+pub record MatchSays (client network : Option Address) (bits r : ℕ) : Type 0 where
   pub answer : r ≡ match_number client network bits
-  pub matches : (a b : Address) → client ≡ Is a → network ≡ Is b → (r ≡ 1) ↔ Matches a b bits
+  pub matches : (a b : Address) → client ≡ Some a → network ≡ Some b → (r ≡ 1) ↔ Matches a b bits
 
 -- a check of a table
 pub record TableSays (t numbers : List ℕ) : Type 0 where

@@ -1,28 +1,29 @@
 -- The numbers that a call hands back for an answer: first the one that is returned, then those of the lent array, in their order.
-use Rattle.std.specs.Prelude.{ℕ, ◌+◌, ◌-◌, ◌≤◌, List, [], ◌∷◌, cond, eqb}
+use Rattle.std.specs.Prelude.{ℕ, ◌+◌, ◌-◌, ◌≤◌, List, [], ◌∷◌, cond, eqb, None, Option, Some, Result, Ok, Err}
 use Rattle.address.specs.declared.Address.{Address}
 use Rattle.address.specs.declared.Address.TheVariants.{IPv4, IPv6}
-use Rattle.address.specs.declared.FromOctets.{FromOctets}
 use Rattle.address.specs.Octets.{octets}
 use Rattle.address.specs.Matching.{matches_at}
-use Rattle.networks.specs.declared.Network.{Network}
 use Rattle.answer_table.specs.Numbers.{nowhere, byte, Report as TableReport, accepted as table_accepted, refused as table-refused}
 use Rattle.answer_entry.specs.Appending.{Outcome as AppendOutcome, appended, refused as append-refused}
 use Rattle.old_layout.specs.Rewriting.{Outcome as AddOutcome, written, refused as add-refused}
 use Rattle.macros.specs.declared.Form.{Form}
-use Rattle.macros.specs.declared.Expanded.{Expanded}
-use Rattle.records.specs.Numbers.{RecordReport, accepted, refused}
+use Rattle.macros.specs.declared.ExpandError.{ExpandError}
+use Rattle.macros.specs.Numbers.{number_of as expand_number}
+use Rattle.records.specs.Numbers.{RecordReport, accepted, refused, TermAnswer, number_of as reason_number}
 use Rattle.records.specs.declared.Term.{Term}
-use Rattle.records.specs.declared.TermAnswer.{TermAnswer}
+use Rattle.rules.specs.declared.Counts.{Counts}
 use Rattle.evaluation.specs.declared.Answer.{Answer}
+use Rattle.evaluation.specs.declared.Refusal.{Refusal}
 use Rattle.evaluation.specs.declared.explaining.Explanation.{Explanation}
+use Rattle.evaluation.specs.Evaluating.{number_of, place_of}
 use Rattle.received.specs.declared.Identity.{Identity}
-use Rattle.received.specs.declared.Written.{Written}
-use Rattle.received.specs.declared.LineAnswer.{LineAnswer}
-use Rattle.publishing.specs.declared.HouseAnswer.{HouseAnswer}
+use Rattle.received.specs.declared.LineError.{LineError}
+use Rattle.received.specs.declared.Parts.{Parts}
+use Rattle.received.specs.Numbers.{error_number}
+use Rattle.publishing.specs.declared.HouseError.{HouseError}
+use Rattle.publishing.specs.Listing.{number_of as house_number, place_of as house_place}
 use Rattle.talavorn.specs.declared.numbers.Shape.{Shape}
-use Rattle.talavorn.specs.declared.numbers.FormAnswer.{FormAnswer}
-use Rattle.talavorn.specs.declared.numbers.IdentityAnswer.{IdentityAnswer}
 
 -- what the scope paper has no number for: octets that are neither 4 nor 16, a form that is none, and an identity that is none
 abbrev pub no_address : ℕ
@@ -34,21 +35,30 @@ no_form = 91
 abbrev pub no_identity : ℕ
 no_identity = 92
 
+-- a place, 0 where there is none
+abbrev pub or_zero : Option ℕ → ℕ
+or_zero None = 0
+or_zero (Some p) = p
+
 -- an evaluation: the result's or refusal's number; kind or place; both counts; the lifetime (W-209); the length of the name that was written, a wanted question's or the failing
 -- record's domain; the place and length of its exp argument. 0 for what an answer has not
-unfoldable pub encoded : Answer → List ℕ
-encoded (Answer.Decided value c life) = value ∷ 0 ∷ c.lookups ∷ c.voids ∷ life ∷ 0 ∷ 0 ∷ 0 ∷ []
-encoded (Answer.Fail c life n place size) = 3 ∷ 0 ∷ c.lookups ∷ c.voids ∷ life ∷ n ∷ place ∷ size ∷ []
-encoded (Answer.Wanting kind n c life) = 7 ∷ kind ∷ c.lookups ∷ c.voids ∷ life ∷ n ∷ 0 ∷ 0 ∷ []
-encoded (Answer.Refused number) = number ∷ 0 ∷ 0 ∷ 0 ∷ 0 ∷ 0 ∷ 0 ∷ 0 ∷ []
-encoded (Answer.RefusedAt number place) = number ∷ place ∷ 0 ∷ 0 ∷ 0 ∷ 0 ∷ 0 ∷ 0 ∷ []
+abbrev pub evaluation_row : ℕ → Counts → (life name place size : ℕ) → List ℕ
+evaluation_row kind c life name place size = kind ∷ c.lookups ∷ c.voids ∷ life ∷ name ∷ place ∷ size ∷ []
+
+abbrev pub refused_row : ℕ → ℕ → List ℕ
+refused_row number place = number ∷ place ∷ 0 ∷ 0 ∷ 0 ∷ 0 ∷ 0 ∷ 0 ∷ []
+
+unfoldable pub encoded : Result Answer Refusal → List ℕ
+encoded (Ok (Answer.Decided value c life)) = value ∷ 0 ∷ c.lookups ∷ c.voids ∷ life ∷ 0 ∷ 0 ∷ 0 ∷ []
+encoded (Ok (Answer.Fail c life n place size)) = 3 ∷ 0 ∷ c.lookups ∷ c.voids ∷ life ∷ n ∷ place ∷ size ∷ []
+encoded (Ok (Answer.Wanting q c life)) = 7 ∷ q.kind ∷ c.lookups ∷ c.voids ∷ life ∷ q.length ∷ 0 ∷ 0 ∷ []
+encoded (Err e) = refused_row (number_of e) (or_zero (place_of e))
 
 -- an explanation: 3, 7 or the refusal's number; kind or place; the length of the text or name that was written. 0 for what an answer has not
-unfoldable pub encoded_explanation : Explanation → List ℕ
-encoded_explanation (Explanation.Text n) = 3 ∷ 0 ∷ n ∷ []
-encoded_explanation (Explanation.Wanting kind n) = 7 ∷ kind ∷ n ∷ []
-encoded_explanation (Explanation.Refused number) = number ∷ 0 ∷ 0 ∷ []
-encoded_explanation (Explanation.RefusedAt number place) = number ∷ place ∷ 0 ∷ []
+unfoldable pub encoded_explanation : Result Explanation Refusal → List ℕ
+encoded_explanation (Ok (Explanation.Text n)) = 3 ∷ 0 ∷ n ∷ []
+encoded_explanation (Ok (Explanation.Wanting q)) = 7 ∷ q.kind ∷ q.length ∷ []
+encoded_explanation (Err e) = number_of e ∷ or_zero (place_of e) ∷ 0 ∷ []
 
 -- reading a record: 0; the place just after the version. Or the refusal's number; its place
 unfoldable pub record_numbers : RecordReport → List ℕ
@@ -68,36 +78,35 @@ appended_numbers size (append-refused number nowhere) = number ∷ size ∷ 0 �
 appended_numbers size (append-refused number (byte p)) = number ∷ size ∷ p ∷ []
 
 -- an expansion: 0; the length. Or the refusal's number; 0
-unfoldable pub expanded_numbers : Expanded → List ℕ
-expanded_numbers (Expanded.Written n) = 0 ∷ n ∷ []
-expanded_numbers (Expanded.Refused number) = number ∷ 0 ∷ []
+unfoldable pub expanded_numbers : Result ℕ ExpandError → List ℕ
+expanded_numbers (Ok n) = 0 ∷ n ∷ []
+expanded_numbers (Err e) = expand_number e ∷ 0 ∷ []
 
 -- the form of a number: "told whether it reads a domain-spec or an explanation text"
-unfoldable pub form_of : ℕ → FormAnswer
-form_of n = cond (eqb n 0) (FormAnswer.Is Form.DomainSpec) (cond (eqb n 1) (FormAnswer.Is Form.Explanation) FormAnswer.NoForm)
+unfoldable pub form_of : ℕ → Option Form
+form_of n = cond (eqb n 0) (Some Form.DomainSpec) (cond (eqb n 1) (Some Form.Explanation) None)
 
 -- a line that is written (W-202), and a part that is unquoted: 0; the length. Or the refusal's number; 0
-unfoldable pub written_numbers : Written → List ℕ
-written_numbers (Written.Length n) = 0 ∷ n ∷ []
-written_numbers (Written.Refused number) = number ∷ 0 ∷ []
+unfoldable pub written_numbers : Result ℕ LineError → List ℕ
+written_numbers (Ok n) = 0 ∷ n ∷ []
+written_numbers (Err e) = error_number e ∷ 0 ∷ []
 
 -- the identity of a number: 0 `mailfrom`, 1 `helo`
-unfoldable pub identity_for : ℕ → IdentityAnswer
-identity_for n = cond (eqb n 0) (IdentityAnswer.Is Identity.MailFrom) (cond (eqb n 1) (IdentityAnswer.Is Identity.Helo) IdentityAnswer.NoIdentity)
+unfoldable pub identity_for : ℕ → Option Identity
+identity_for n = cond (eqb n 0) (Some Identity.MailFrom) (cond (eqb n 1) (Some Identity.Helo) None)
 
 -- a line that is read: 0; the result's number; of each value in the line's order the place of its part and the place after it. Or the refusal's number;
 -- eleven times 0
-unfoldable pub line_numbers : LineAnswer → List ℕ
-line_numbers (LineAnswer.Read f) =
+unfoldable pub line_numbers : Result Parts LineError → List ℕ
+line_numbers (Ok f) =
     0 ∷ f.result ∷ f.receiver.from ∷ f.receiver.to ∷ f.client.from ∷ f.client.to ∷ f.sender.from ∷ f.sender.to ∷ f.helo.from ∷ f.helo.to
     ∷ f.identity.from ∷ f.identity.to ∷ []
-line_numbers (LineAnswer.Refused number) = number ∷ 0 ∷ 0 ∷ 0 ∷ 0 ∷ 0 ∷ 0 ∷ 0 ∷ 0 ∷ 0 ∷ 0 ∷ 0 ∷ []
+line_numbers (Err e) = error_number e ∷ 0 ∷ 0 ∷ 0 ∷ 0 ∷ 0 ∷ 0 ∷ 0 ∷ 0 ∷ 0 ∷ 0 ∷ 0 ∷ []
 
 -- a record held against the house rules (W-211): 0; how many breaches. Or the refusal's number; its place, 0 where it has none
-unfoldable pub house_numbers : HouseAnswer → List ℕ
-house_numbers (HouseAnswer.Listed n) = 0 ∷ n ∷ []
-house_numbers (HouseAnswer.Refused number) = number ∷ 0 ∷ []
-house_numbers (HouseAnswer.RefusedAt number place) = number ∷ place ∷ []
+unfoldable pub house_numbers : Result ℕ HouseError → List ℕ
+house_numbers (Ok n) = 0 ∷ n ∷ []
+house_numbers (Err e) = house_number e ∷ house_place e ∷ []
 
 -- a table that is rewritten (W-209): 0; the length of the new one. Or the refusal's number; its place, 0 where it has none
 unfoldable pub added_numbers : AddOutcome → List ℕ
@@ -106,15 +115,15 @@ added_numbers (add-refused number nowhere) = number ∷ 0 ∷ []
 added_numbers (add-refused number (byte p)) = number ∷ p ∷ []
 
 -- whether a client matches a network at a prefix length
-unfoldable pub match_number : FromOctets → FromOctets → ℕ → ℕ
-match_number (FromOctets.Is a) (FromOctets.Is b) n = cond (matches_at a b n) 1 0
-match_number (FromOctets.Is a) FromOctets.NoAddress n = no_address
-match_number FromOctets.NoAddress b n = no_address
+unfoldable pub match_number : Option Address → Option Address → ℕ → ℕ
+match_number (Some a) (Some b) n = cond (matches_at a b n) 1 0
+match_number (Some a) None n = no_address
+match_number None b n = no_address
 
 -- the octets of an address that was read
-unfoldable pub address_octets : Network → List ℕ
-address_octets (Network.Is a) = octets a
-address_octets Network.NoNetwork = []
+unfoldable pub address_octets : Option Address → List ℕ
+address_octets (Some a) = octets a
+address_octets None = []
 
 -- a term: its kind; its sign, 0 for a modifier; where its argument stands in the term's own text, at the text's end where it has none; its prefix
 -- lengths, 0 where it has none
@@ -160,12 +169,12 @@ abbrev pub term_row : ℕ → ℕ → Shape → List ℕ
 term_row at next x = at ∷ next ∷ x.kind ∷ x.sign ∷ (at + x.from) ∷ (at + x.to) ∷ x.four ∷ x.six ∷ []
 
 unfoldable pub term_numbers : TermAnswer → List ℕ
-term_numbers TermAnswer.End = 0 ∷ 0 ∷ 0 ∷ 0 ∷ 0 ∷ 0 ∷ 0 ∷ 0 ∷ 0 ∷ []
-term_numbers (TermAnswer.Refused number place) = number ∷ place ∷ 0 ∷ 0 ∷ 0 ∷ 0 ∷ 0 ∷ 0 ∷ 0 ∷ []
-term_numbers (TermAnswer.Is at next t) = 1 ∷ term_row at next (shape_of (next - at) t)
+term_numbers (Ok None) = 0 ∷ 0 ∷ 0 ∷ 0 ∷ 0 ∷ 0 ∷ 0 ∷ 0 ∷ 0 ∷ []
+term_numbers (Err x) = reason_number x.reason ∷ x.at ∷ 0 ∷ 0 ∷ 0 ∷ 0 ∷ 0 ∷ 0 ∷ 0 ∷ []
+term_numbers (Ok (Some t)) = 1 ∷ term_row t.at t.next (shape_of (t.next - t.at) t.term)
 
 -- the octets that reading a term writes
 unfoldable pub term_octets : TermAnswer → List ℕ
-term_octets TermAnswer.End = []
-term_octets (TermAnswer.Refused number place) = []
-term_octets (TermAnswer.Is at next t) = network_of t
+term_octets (Ok None) = []
+term_octets (Err x) = []
+term_octets (Ok (Some t)) = network_of t.term

@@ -8,14 +8,12 @@ ghost use Rattle.macros.specs.Expansion.{given};
 ghost use Rattle.macros.specs.Numbers.{outcome};
 ghost use Rattle.received.specs.Answers.{given as lineGiven};
 ghost use Rattle.talavorn.specs.Numbers.{form_of, identity_for};
-ghost use Rattle.talavorn.specs.Calls.{expand_for, EvaluateAnswers, ExplainAnswers, RecordSays, TermSays, ExpandSays, ExpandAnswers, WriteAnswers, LineSays, UnquoteAnswers, HouseSays, MatchSays, TableSays, AppendSays, AddSays, AddressSays};
+ghost use Rattle.talavorn.specs.Calls.{EvaluateAnswers, ExplainAnswers, RecordSays, TermSays, ExpandSays, ExpandAnswers, WriteAnswers, LineSays, UnquoteAnswers, HouseSays, MatchSays, TableSays, AppendSays, AddSays, AddressSays};
 
-use address::FromOctets;
-use answer_table::TableAnswer;
+use answer_entry::NewEntry;
 use evaluation::explaining;
-use networks::Network;
-use numbers::{FormAnswer, IdentityAnswer};
-use records::{RecordAnswer, TermAnswer};
+use macros::Given;
+use received::Checked;
 
 pub mod numbers;
 
@@ -33,8 +31,8 @@ pub fn talavorn_evaluate(
 ) -> u8
     ensures { EvaluateAnswers (from_octets client.now) domain.now sender.now helo.now receiver.now seconds table.now (result ∷ values.new) name.old name.new }
 {
-    let FromOctets::Is(a) = address::from_octets(client) else {
-        *values = [0, 0, 0, 0, 0, 0, 0];
+    let Some(a) = address::from_octets(client) else {
+        *values = [0; 7];
         return 90;
     };
     let answer = evaluation::evaluate(a, domain, sender, helo, receiver, seconds, table, name);
@@ -59,8 +57,8 @@ pub fn talavorn_explain(
 ) -> u8
     ensures { ExplainAnswers (from_octets client.now) domain.now sender.now helo.now receiver.now seconds table.now place size (result ∷ values.new) name.old name.new text.old text.new }
 {
-    let FromOctets::Is(a) = address::from_octets(client) else {
-        *values = [0, 0];
+    let Some(a) = address::from_octets(client) else {
+        *values = [0; 2];
         return 90;
     };
     let answer = explaining::explain(
@@ -74,13 +72,13 @@ pub fn talavorn_read_record(s: &[u8], place: &mut usize) -> u8
     ensures { RecordSays s.now (result ∷ place.new ∷ []) }
 {
     match records::read_record(s) {
-        RecordAnswer::Accepted(next) => {
+        Ok(next) => {
             *place = next;
             0
         }
-        RecordAnswer::Refused { number, at } => {
-            *place = at;
-            number
+        Err(refusal) => {
+            *place = refusal.at;
+            refusal.reason.number()
         }
     }
 }
@@ -94,21 +92,20 @@ pub fn talavorn_read_term(
 ) -> u8
     ensures { TermSays s.now place (result ∷ values.new) network.old network.new }
 {
-    match records::read_term(s, place) {
-        TermAnswer::End => {
-            *values = [0, 0, 0, 0, 0, 0, 0, 0];
-            0
+    let read = match records::read_term(s, place) {
+        Ok(read) => read,
+        Err(refusal) => {
+            *values = [refusal.at, 0, 0, 0, 0, 0, 0, 0];
+            return refusal.reason.number();
         }
-        TermAnswer::Refused { number, at } => {
-            *values = [at, 0, 0, 0, 0, 0, 0, 0];
-            number
-        }
-        TermAnswer::Is { at, next, term } => {
-            numbers::put_term(at, next, term, values);
-            numbers::put_network(term, network);
-            1
-        }
-    }
+    };
+    let Some(read) = read else {
+        *values = [0; 8];
+        return 0;
+    };
+    numbers::put_term(read.at, read.next, read.term, values);
+    numbers::put_network(read.term, network);
+    1
 }
 
 // Expands a macro string: 91 for a form that is neither 0, a domain-spec, nor 1, an explanation text; 90 for a client that is not 4 or 16 octets; then
@@ -126,18 +123,27 @@ pub fn talavorn_expand(
     out: &mut [u8],
     size: &mut usize,
 ) -> u8
-    ensures expand_says { ExpandSays (expand_for (form_of form) (from_octets client.now) (λ f a. outcome f text.now (given sender.now helo.now receiver.now domain.now p.now a seconds) (length out.old))) (result ∷ size.new ∷ []) out.old out.new }
+    ensures expand_says { ExpandSays (form_of form) (from_octets client.now) (λ f a. outcome f text.now (given sender.now helo.now receiver.now domain.now p.now a seconds) (length out.old)) (result ∷ size.new ∷ []) out.old out.new }
     ensures expand_answers { ExpandAnswers (form_of form) (from_octets client.now) text.now (λ a. given sender.now helo.now receiver.now domain.now p.now a seconds) (result ∷ size.new ∷ []) out.old out.new }
 {
-    let FormAnswer::Is(f) = numbers::form_of(form) else {
+    let Some(f) = numbers::form_of(form) else {
         *size = 0;
         return 91;
     };
-    let FromOctets::Is(a) = address::from_octets(client) else {
+    let Some(client) = address::from_octets(client) else {
         *size = 0;
         return 90;
     };
-    let answer = macros::expand(f, text, sender, helo, receiver, domain, p, a, seconds, out);
+    let given = Given {
+        sender,
+        helo,
+        receiver,
+        domain,
+        p,
+        client,
+        seconds,
+    };
+    let answer = macros::expand(f, text, &given, out);
     numbers::put_expanded(answer, size)
 }
 
@@ -155,16 +161,22 @@ pub fn talavorn_write_line(
 ) -> u8
     ensures { WriteAnswers (identity_for identity) (from_octets client.now) (λ a i. lineGiven res a sender.now helo.now receiver.now i) (result ∷ size.new ∷ []) out.old out.new }
 {
-    let IdentityAnswer::Is(i) = numbers::identity_for(identity) else {
+    let Some(identity) = numbers::identity_for(identity) else {
         *size = 0;
         return 92;
     };
-    let FromOctets::Is(a) = address::from_octets(client) else {
+    let Some(client) = address::from_octets(client) else {
         *size = 0;
         return 90;
     };
-    let answer = received::write_line(res, a, sender, helo, receiver, i, out);
-    numbers::put_written(answer, size)
+    let checked = Checked {
+        client,
+        sender,
+        helo,
+        receiver,
+        identity,
+    };
+    numbers::put_written(received::write_line(res, &checked, out), size)
 }
 
 // Reads a Received-SPF line: 0, its result and where the parts of its five values stand, or 51.
@@ -193,40 +205,20 @@ pub fn talavorn_house_rules(domain: &[u8], s: &[u8], list: &mut [u8], value: &mu
 pub fn talavorn_matches(client: &[u8], network: &[u8], bits: usize) -> u8
     ensures { MatchSays (from_octets client.now) (from_octets network.now) bits result }
 {
-    let FromOctets::Is(a) = address::from_octets(client) else {
+    let Some(a) = address::from_octets(client) else {
         return 90;
     };
-    let FromOctets::Is(b) = address::from_octets(network) else {
+    let Some(b) = address::from_octets(network) else {
         return 90;
     };
-    if address::matches(a, b, bits) {
-        return 1;
-    }
-    0
+    if address::matches(a, b, bits) { 1 } else { 0 }
 }
 
 // Checks a table: 0 and the number of its entries, or 24 to 26 and the place.
 pub fn talavorn_check_table(table: &[u8], place: &mut usize) -> u8
     ensures { TableSays table.now (result ∷ place.new ∷ []) }
 {
-    match answer_table::check_table(table) {
-        TableAnswer::Accepted(count) => {
-            *place = count;
-            0
-        }
-        TableAnswer::TooLong => {
-            *place = 0;
-            24
-        }
-        TableAnswer::Malformed(at) => {
-            *place = at;
-            25
-        }
-        TableAnswer::Repeated(at) => {
-            *place = at;
-            26
-        }
-    }
+    numbers::put_table(answer_table::check_table(table), place)
 }
 
 // Appends an entry to the table in the first bytes of a lent buffer: 0 and the new length; or 24 to 26, 64 or 65 with the buffer and the length as
@@ -243,8 +235,18 @@ pub fn talavorn_append_entry(
 ) -> u8
     ensures { AppendSays kind status lifetime name.now items.now table.old size.old (result ∷ size.new ∷ place.new ∷ []) table.new }
 {
-    let answer = answer_entry::append_entry(kind, status, lifetime, name, items, table, *size);
-    numbers::put_appended(answer, size, place)
+    let entry = NewEntry {
+        kind,
+        status,
+        lifetime,
+        name,
+        items,
+    };
+    numbers::put_appended(
+        answer_entry::append_entry(&entry, table, *size),
+        size,
+        place,
+    )
 }
 
 // Rewrites a table of the layout without lifetimes into a lent buffer, with a lifetime of 0 in each entry: 0 and the new length; or 24 to 26 and the
@@ -252,14 +254,14 @@ pub fn talavorn_append_entry(
 pub fn talavorn_add_lifetimes(old: &[u8], new: &mut [u8], value: &mut usize) -> u8
     ensures { AddSays old.now (result ∷ value.new ∷ []) new.old new.new }
 {
-    numbers::put_added(old_layout::add_lifetimes(old, new), value)
+    numbers::put_table(old_layout::add_lifetimes(old, new), value)
 }
 
 // Reads an address, written as for ip4 or ip6: 4 or 16, with as many octets written, or 0.
 pub fn talavorn_read_address(text: &[u8], octets: &mut [u8; 16]) -> u8
     ensures { AddressSays text.now result octets.old octets.new }
 {
-    let Network::Is(a) = networks::read_address(text) else {
+    let Some(a) = networks::read_address(text) else {
         return 0;
     };
     numbers::put_octets(a, octets)

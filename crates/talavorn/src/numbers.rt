@@ -1,35 +1,22 @@
 // The numbers and octets that the calls hand back for an answer.
-ghost use Rattle.std.specs.Prelude.{◌-◌, ◌≤◌, ◌≡◌, [], ◌∷◌, length};
+ghost use Rattle.std.specs.Prelude.{◌-◌, ◌≤◌, ◌≡◌, [], ◌∷◌, length, ℕ, Err};
 ghost use Rattle.text.specs.Writing.{overwritten};
 ghost use Rattle.address.specs.Octets.{octets};
+ghost use Rattle.answer_table.specs.Numbers.{reported};
 ghost use Rattle.answer_entry.specs.Numbers.{outcome_of};
-ghost use Rattle.old_layout.specs.Numbers.{outcome_of as addedOutcome};
-ghost use Rattle.talavorn.specs.Numbers.{encoded, encoded_explanation, appended_numbers, expanded_numbers, form_of, written_numbers, identity_for, line_numbers, house_numbers, added_numbers, Inside, shape, network_shape, shape_of, term_row, network_of};
+ghost use Rattle.talavorn.specs.Numbers.{evaluation_row, encoded, encoded_explanation, table_numbers, appended_numbers, expanded_numbers, form_of, written_numbers, identity_for, line_numbers, house_numbers, Inside, shape, network_shape, shape_of, term_row, network_of};
 
 use address::Address;
-use answer_entry::AppendAnswer;
-use evaluation::Answer;
+use answer_entry::AppendError;
+use answer_table::TableError;
 use evaluation::explaining::Explanation;
-use macros::{Expanded, Form};
-use old_layout::Added;
-use publishing::HouseAnswer;
-use received::{Identity, LineAnswer, Written};
+use evaluation::{Answer, Refusal};
+use macros::{ExpandError, Form};
+use publishing::HouseError;
+use received::{Identity, LineError, Parts};
 use records::Term;
-use text::writing;
-
-// The form of a number, or that it is none.
-#[derive(Clone, Copy)]
-pub enum FormAnswer {
-    Is(Form),
-    NoForm,
-}
-
-// The identity of a number, or that it is none.
-#[derive(Clone, Copy)]
-pub enum IdentityAnswer {
-    Is(Identity),
-    NoIdentity,
-}
+use rules::Counts;
+use text::writing::Writer;
 
 // The numbers of a term: its kind, its sign or 0, where its argument stands in the term's own text, and its prefix lengths or 0.
 #[derive(Clone, Copy)]
@@ -42,124 +29,129 @@ pub struct Shape {
     pub six: u8,
 }
 
+// The row of an answer: kind or 0, both counts, the lifetime, the length of the name, and the place and length of exp.
+fn evaluation_row(
+    kind: u16,
+    counts: Counts,
+    lifetime: u32,
+    name: usize,
+    place: usize,
+    size: usize,
+) -> [usize; 7]
+    ensures { result ≡ evaluation_row kind counts lifetime name place size }
+{
+    [
+        kind as usize,
+        counts.lookups as usize,
+        counts.voids as usize,
+        lifetime as usize,
+        name,
+        place,
+        size,
+    ]
+}
+
 // Writes what an evaluation answers: kind or place, both counts, the lifetime, the length of the name, and the place and length of exp; answers the number.
-pub fn put_answer(answer: Answer, values: &mut [usize; 7]) -> u8
+#[tactic(auto, using(text::proofs::Laws::Tests::ways), unfolding(crate::specs::Numbers::encoded))]
+pub fn put_answer(answer: Result<Answer, Refusal>, values: &mut [usize; 7]) -> u8
     ensures { (result ∷ values.new) ≡ encoded answer }
 {
     match answer {
-        Answer::Decided {
-            value,
-            counts,
-            lifetime,
-        } => {
-            *values = [
-                0,
-                counts.lookups as usize,
-                counts.voids as usize,
-                lifetime as usize,
-                0,
-                0,
-                0,
-            ];
+        Ok(
+            Answer::Decided {
+                value,
+                counts,
+                lifetime,
+            },
+        ) => {
+            *values = evaluation_row(0, counts, lifetime, 0, 0, 0);
             value
         }
-        Answer::Fail {
-            counts,
-            lifetime,
-            domain,
-            place,
-            length: size,
-        } => {
-            *values = [
-                0,
-                counts.lookups as usize,
-                counts.voids as usize,
-                lifetime as usize,
+        Ok(
+            Answer::Fail {
+                counts,
+                lifetime,
                 domain,
                 place,
-                size,
-            ];
+                length: size,
+            },
+        ) => {
+            *values = evaluation_row(0, counts, lifetime, domain, place, size);
             3
         }
-        Answer::Wanting {
-            kind,
-            length: size,
-            counts,
-            lifetime,
-        } => {
-            *values = [
-                kind as usize,
-                counts.lookups as usize,
-                counts.voids as usize,
-                lifetime as usize,
-                size,
-                0,
-                0,
-            ];
+        Ok(
+            Answer::Wanting {
+                question,
+                counts,
+                lifetime,
+            },
+        ) => {
+            *values = evaluation_row(question.kind, counts, lifetime, question.length, 0, 0);
             7
         }
-        Answer::Refused(number) => {
-            *values = [0, 0, 0, 0, 0, 0, 0];
-            number
-        }
-        Answer::RefusedAt { number, at } => {
-            *values = [at, 0, 0, 0, 0, 0, 0];
-            number
+        Err(refusal) => {
+            *values = [refusal.place().unwrap_or(0), 0, 0, 0, 0, 0, 0];
+            refusal.number()
         }
     }
 }
 
 // Writes what an explanation answers: kind or place, and the length of the text or name; answers the number.
-pub fn put_explanation(answer: Explanation, values: &mut [usize; 2]) -> u8
+#[tactic(auto, using(text::proofs::Laws::Tests::ways), unfolding(crate::specs::Numbers::encoded_explanation))]
+pub fn put_explanation(answer: Result<Explanation, Refusal>, values: &mut [usize; 2]) -> u8
     ensures { (result ∷ values.new) ≡ encoded_explanation answer }
 {
     match answer {
-        Explanation::Text(size) => {
+        Ok(Explanation::Text(size)) => {
             *values = [0, size];
             3
         }
-        Explanation::Wanting { kind, length: size } => {
-            *values = [kind as usize, size];
+        Ok(Explanation::Wanting(question)) => {
+            *values = [question.kind as usize, question.length];
             7
         }
-        Explanation::Refused(number) => {
-            *values = [0, 0];
-            number
-        }
-        Explanation::RefusedAt { number, at } => {
-            *values = [at, 0];
-            number
+        Err(refusal) => {
+            *values = [refusal.place().unwrap_or(0), 0];
+            refusal.number()
         }
     }
 }
 
 // Writes what an expansion answers: the length; answers 0, or the number of the refusal.
-pub fn put_expanded(answer: Expanded, size: &mut usize) -> u8
+#[tactic(auto, using(text::proofs::Laws::Tests::ways), unfolding(crate::specs::Numbers::expanded_numbers))]
+pub fn put_expanded(answer: Result<usize, ExpandError>, size: &mut usize) -> u8
     ensures { (result ∷ size.new ∷ []) ≡ expanded_numbers answer }
 {
     match answer {
-        Expanded::Written(n) => {
+        Ok(n) => {
             *size = n;
             0
         }
-        Expanded::Refused(number) => {
+        Err(e) => {
             *size = 0;
-            number
+            e.number()
         }
     }
 }
 
 // 0 a domain-spec, 1 an explanation text.
-pub fn form_of(form: u8) -> FormAnswer
+#[tactic(auto, using(text::proofs::Laws::Tests::ways), unfolding(crate::specs::Numbers::form_of))]
+pub fn form_of(form: u8) -> Option<Form>
     ensures { result ≡ form_of form }
 {
-    if form == 0 {
-        return FormAnswer::Is(Form::DomainSpec);
+    match form {
+        0 => Some(Form::DomainSpec),
+        1 => Some(Form::Explanation),
+        _ => None,
     }
-    if form == 1 {
-        return FormAnswer::Is(Form::Explanation);
-    }
-    FormAnswer::NoForm
+}
+
+// Writes bytes at the front of a buffer.
+fn put_front(s: &[u8], out: &mut [u8])
+    ensures { out.new ≡ overwritten s.now out.old }
+{
+    let mut w = Writer::new(out);
+    w.put_all(s);
 }
 
 // Writes the octets of an address at the front; answers how many.
@@ -168,11 +160,11 @@ pub fn put_octets(a: Address, out: &mut [u8; 16]) -> u8
 {
     match a {
         Address::IPv4(v) => {
-            writing::put_all(&address::octets4(v), out, 0);
+            put_front(&address::octets4(v), out);
             4
         }
         Address::IPv6(high, low) => {
-            writing::put_all(&address::octets16(high, low), out, 0);
+            put_front(&address::octets16(high, low), out);
             16
         }
     }
@@ -267,81 +259,111 @@ pub fn put_term(at: usize, next: usize, term: Term, values: &mut [usize; 8])
     ];
 }
 
-// Writes what appending an entry answers: the length of the new table, or the place of a refusal, 0 where it has none; answers the number.
-pub fn put_appended(answer: AppendAnswer, size: &mut usize, place: &mut usize) -> u8
-    ensures { (result ∷ size.new ∷ place.new ∷ []) ≡ appended_numbers size.old (outcome_of answer) }
+// Writes what checking or rewriting a table answers: how many entries, or the length of the new one, or the place of a refusal, 0 where it has none; answers
+// 0, or the number of the refusal.
+#[tactic(auto, using(text::proofs::Laws::Tests::ways), unfolding(crate::specs::Numbers::table_numbers))]
+pub fn put_table(answer: Result<usize, TableError>, value: &mut usize) -> u8
+    ensures { (result ∷ value.new ∷ []) ≡ table_numbers (reported answer) }
 {
     match answer {
-        AppendAnswer::Appended(end) => {
-            *size = end;
-            *place = 0;
+        Ok(n) => {
+            *value = n;
             0
         }
-        AppendAnswer::TooLong => {
-            *place = 0;
+        Err(TableError::TooLong) => {
+            *value = 0;
             24
         }
-        AppendAnswer::Malformed(at) => {
-            *place = at;
+        Err(TableError::Malformed(at)) => {
+            *value = at;
             25
         }
-        AppendAnswer::Repeated(at) => {
-            *place = at;
+        Err(TableError::Repeated(at)) => {
+            *value = at;
             26
         }
-        AppendAnswer::InTable => {
+    }
+}
+
+// Writes the place of a refusal to append, 0 where it has none; answers its number.
+fn put_unappended(e: AppendError, place: &mut usize) -> u8
+    ensures { (size : ℕ) → (result ∷ size ∷ place.new ∷ []) ≡ appended_numbers size (outcome_of (Err e)) }
+{
+    match e {
+        AppendError::Table(e) => put_table(Err(e), place),
+        AppendError::InTable => {
             *place = 0;
             64
         }
-        AppendAnswer::Unfit => {
+        AppendError::Unfit => {
             *place = 0;
             65
         }
     }
 }
 
+// Writes what appending an entry answers: the length of the new table, or the place of a refusal, 0 where it has none; answers the number.
+#[tactic(auto, using(text::proofs::Laws::Tests::ways), unfolding(crate::specs::Numbers::appended_numbers))]
+pub fn put_appended(answer: Result<usize, AppendError>, size: &mut usize, place: &mut usize) -> u8
+    ensures { (result ∷ size.new ∷ place.new ∷ []) ≡ appended_numbers size.old (outcome_of answer) }
+{
+    match answer {
+        Ok(end) => {
+            *size = end;
+            *place = 0;
+            0
+        }
+        Err(e) => put_unappended(e, place),
+    }
+}
+
 // The identity of a number.
-pub fn identity_for(n: u8) -> IdentityAnswer
+#[tactic(auto, using(text::proofs::Laws::Tests::ways), unfolding(crate::specs::Numbers::identity_for))]
+pub fn identity_for(n: u8) -> Option<Identity>
     ensures { result ≡ identity_for n }
 {
-    if n == 0 {
-        return IdentityAnswer::Is(Identity::MailFrom);
+    match n {
+        0 => Some(Identity::MailFrom),
+        1 => Some(Identity::Helo),
+        _ => None,
     }
-    if n == 1 {
-        return IdentityAnswer::Is(Identity::Helo);
-    }
-    IdentityAnswer::NoIdentity
 }
 
 // Writes the length of a line or a value; answers the number.
-pub fn put_written(answer: Written, size: &mut usize) -> u8
+#[tactic(auto, using(text::proofs::Laws::Tests::ways), unfolding(crate::specs::Numbers::written_numbers))]
+pub fn put_written(answer: Result<usize, LineError>, size: &mut usize) -> u8
     ensures { (result ∷ size.new ∷ []) ≡ written_numbers answer }
 {
     match answer {
-        Written::Length(n) => {
+        Ok(n) => {
             *size = n;
             0
         }
-        Written::Refused(number) => {
+        Err(e) => {
             *size = 0;
-            number
+            e.number()
         }
     }
 }
 
 // Writes what reading a line answers: the result's number and the places of the five parts; answers the number.
-pub fn put_line(answer: LineAnswer, values: &mut [usize; 11]) -> u8
+#[tactic(auto, using(text::proofs::Laws::Tests::ways), unfolding(crate::specs::Numbers::line_numbers))]
+pub fn put_line(answer: Result<Parts, LineError>, values: &mut [usize; 11]) -> u8
     ensures { (result ∷ values.new) ≡ line_numbers answer }
 {
     match answer {
-        LineAnswer::Read(parts) => {
-            let receiver = parts.receiver;
-            let client = parts.client;
-            let sender = parts.sender;
-            let helo = parts.helo;
-            let identity = parts.identity;
+        Ok(
+            Parts {
+                result,
+                receiver,
+                client,
+                sender,
+                helo,
+                identity,
+            },
+        ) => {
             *values = [
-                parts.result as usize,
+                result as usize,
                 receiver.from,
                 receiver.to,
                 client.from,
@@ -355,54 +377,26 @@ pub fn put_line(answer: LineAnswer, values: &mut [usize; 11]) -> u8
             ];
             0
         }
-        LineAnswer::Refused(number) => {
-            *values = [0, 0, 0, 0, 0, 0, 0, 0, 0, 0, 0];
-            number
+        Err(e) => {
+            *values = [0; 11];
+            e.number()
         }
     }
 }
 
 // Writes what the house rules answer: the number of breaches, or the place of a refusal, 0 where it has none; answers 0, or the number of the refusal.
-pub fn put_house(answer: HouseAnswer, value: &mut usize) -> u8
+#[tactic(auto, using(text::proofs::Laws::Tests::ways), unfolding(crate::specs::Numbers::house_numbers))]
+pub fn put_house(answer: Result<usize, HouseError>, value: &mut usize) -> u8
     ensures { (result ∷ value.new ∷ []) ≡ house_numbers answer }
 {
     match answer {
-        HouseAnswer::Listed(count) => {
+        Ok(count) => {
             *value = count;
             0
         }
-        HouseAnswer::Refused(number) => {
-            *value = 0;
-            number
-        }
-        HouseAnswer::RefusedAt { number, at } => {
-            *value = at;
-            number
-        }
-    }
-}
-
-// Writes what the rewriting of a table answers: the length of the new one, or the place of a refusal, 0 where it has none; answers 0, or the number of the
-// refusal.
-pub fn put_added(answer: Added, value: &mut usize) -> u8
-    ensures { (result ∷ value.new ∷ []) ≡ added_numbers (addedOutcome answer) }
-{
-    match answer {
-        Added::Written(n) => {
-            *value = n;
-            0
-        }
-        Added::TooLong => {
-            *value = 0;
-            24
-        }
-        Added::Malformed(place) => {
-            *value = place;
-            25
-        }
-        Added::Repeated(place) => {
-            *value = place;
-            26
+        Err(e) => {
+            *value = e.place();
+            e.number()
         }
     }
 }

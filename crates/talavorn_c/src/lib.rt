@@ -8,7 +8,7 @@ ghost use Rattle.macros.specs.Expansion.{given};
 ghost use Rattle.macros.specs.Numbers.{outcome};
 ghost use Rattle.received.specs.Answers.{given as lineGiven};
 ghost use Rattle.talavorn.specs.Numbers.{form_of, identity_for};
-ghost use Rattle.talavorn.specs.Calls.{expand_for, EvaluateAnswers, ExplainAnswers, RecordSays, TermSays, ExpandSays, ExpandAnswers, WriteAnswers, LineSays, UnquoteAnswers, HouseSays, MatchSays, TableSays, AppendSays, AddSays, AddressSays};
+ghost use Rattle.talavorn.specs.Calls.{EvaluateAnswers, ExplainAnswers, RecordSays, TermSays, ExpandSays, ExpandAnswers, WriteAnswers, LineSays, UnquoteAnswers, HouseSays, MatchSays, TableSays, AppendSays, AddSays, AddressSays};
 
 // Evaluates a domain for a client of 4 or 16 octets: 90 for any other client, then as evaluation::evaluate.
 #[unsafe(no_mangle)]
@@ -91,7 +91,7 @@ pub extern "C" fn talavorn_expand(
     out: &mut [u8],
     size: &mut usize,
 ) -> u8
-    ensures expand_says { ExpandSays (expand_for (form_of form) (from_octets client.now) (λ f a. outcome f text.now (given sender.now helo.now receiver.now domain.now p.now a seconds) (length out.old))) (result ∷ size.new ∷ []) out.old out.new }
+    ensures expand_says { ExpandSays (form_of form) (from_octets client.now) (λ f a. outcome f text.now (given sender.now helo.now receiver.now domain.now p.now a seconds) (length out.old)) (result ∷ size.new ∷ []) out.old out.new }
     ensures expand_answers { ExpandAnswers (form_of form) (from_octets client.now) text.now (λ a. given sender.now helo.now receiver.now domain.now p.now a seconds) (result ∷ size.new ∷ []) out.old out.new }
 {
     talavorn::talavorn_expand(

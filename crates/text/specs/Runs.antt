@@ -1,5 +1,5 @@
 -- The longest run of a class of bytes.
-use Rattle.std.specs.Prelude.{ℕ, suc, ◌+◌, List, [], ◌∷◌, Bool, cond, drop}
+use Rattle.std.specs.Prelude.{ℕ, suc, ◌+◌, ◌<◌, ◌≡◌, List, [], ◌∷◌, Bool, cond, drop}
 use Rattle.text.specs.Lists.{all}
 use Rattle.text.specs.Bytes.{is_space, is_not_space, is_not_dot, is_not_colon, is_not_slash, is_upper, is_not_upper, is_alpha, is_digit, is_length_byte, is_alphanumeric, is_hex_digit, is_visible, is_printable, is_label_byte, is_table_label_byte, is_name_byte, is_toplabel_byte, is_macro_literal, is_delimiter}
 use Rattle.text.specs.declared.bytes.Class.{Class}
@@ -27,6 +27,10 @@ is_in NameByte b = is_name_byte b
 is_in ToplabelByte b = is_toplabel_byte b
 is_in MacroLiteral b = is_macro_literal b
 is_in Delimiter b = is_delimiter b
+
+-- what a closure answers of each byte is what a test says
+abbrev pub Answers : (ℕ → Bool → Type 0) → (ℕ → Bool) → Type 0
+Answers post p = (b : ℕ) (r : Bool) → b < 256 → post b r → r ≡ p b
 
 -- how many bytes at the front of a list pass a test
 unfoldable pub run : (ℕ → Bool) → List ℕ → ℕ

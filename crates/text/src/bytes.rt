@@ -1,7 +1,7 @@
 // Bytes, their classes, and runs of a class.
-ghost use Rattle.std.specs.Prelude.{◌≡◌};
+ghost use Rattle.std.specs.Prelude.{◌≡◌, ℕ, Bool};
 ghost use Rattle.text.specs.Bytes.{at, part, within, lower};
-ghost use Rattle.text.specs.Runs.{is_in, run_end, trailing_start};
+ghost use Rattle.text.specs.Runs.{is_in, Answers, run_end, trailing_start};
 ghost use Rattle.text.specs.Sets.{byte_set, Holds, has_bit};
 
 // A class of bytes.
@@ -52,26 +52,15 @@ pub fn peek(s: &[u8], i: usize) -> u8
 pub fn part(s: &[u8], from: usize, to: usize) -> &[u8]
     ensures { result.now ≡ part s.now from to }
 {
-    if s.len() < from {
-        return &s[..0];
-    }
-    if to < from {
-        return &s[..0];
-    }
-    if s.len() < to {
-        return &s[from..];
-    }
-    &s[from..to]
+    let end = to.min(s.len());
+    if from < end { &s[from..end] } else { &[] }
 }
 
 // Whether b is one of the bytes from low to high.
 pub fn is_within(b: u8, low: u8, high: u8) -> bool
     ensures { result ≡ within low high b }
 {
-    if low <= b {
-        return b <= high;
-    }
-    false
+    low <= b && b <= high
 }
 
 // Bitmaps of bytes below 64: bit n for byte n.
@@ -165,13 +154,11 @@ fn byte_set(first: u8, last: u8, from: u8, to: u8, low: u64, high: u64) -> ByteS
 fn has_bit(low: u64, high: u64, b: u8) -> bool
     ensures { result ≡ has_bit low high b }
 {
-    if b < 64 {
-        return (low >> b) % 2 == 1;
+    match b {
+        0..64 => (low >> b) % 2 == 1,
+        64..128 => (high >> (b - 64)) % 2 == 1,
+        _ => false,
     }
-    if b < 128 {
-        return (high >> (b - 64)) % 2 == 1;
-    }
-    false
 }
 
 // Whether b is of the class.
@@ -179,51 +166,43 @@ pub fn is_in(class: Class, b: u8) -> bool
     ensures { result ≡ is_in class b }
 {
     let s = set_of(class);
-    if is_within(b, s.first, s.last) {
-        return true;
+    is_within(b, s.first, s.last) || is_within(b, s.from, s.to) || has_bit(s.low, s.high, b)
+}
+
+// The end of the longest run of bytes that pass a test, from i on.
+pub fn run_end_by<F: Fn(u8) -> bool>(s: &[u8], i: usize, test: F) -> usize
+    requires { F.IsAlwaysCallable test }
+    ensures { (p : ℕ → Bool) → Answers (F.post test) p → result ≡ run_end p s.now i }
+{
+    for j in i..s.len() {
+        if !test(s[j]) {
+            return j;
+        }
     }
-    if is_within(b, s.from, s.to) {
-        return true;
-    }
-    has_bit(s.low, s.high, b)
+    i.max(s.len())
 }
 
 // The end of the longest run of a class from i on.
 pub fn run_end(s: &[u8], i: usize, class: Class) -> usize
     ensures { result ≡ run_end (is_in class) s.now i }
 {
-    let mut j = i;
-    while j < s.len() {
-        if is_in(class, s[j]) {
-            j += 1;
-        } else {
-            return j;
-        }
-    }
-    j
+    run_end_by(s, i, |b| is_in(class, b))
 }
 
 // A to Z lowered, any other byte as it is.
 pub fn to_lower(b: u8) -> u8
     ensures { result ≡ lower b }
 {
-    if is_within(b, 65, 90) {
-        return b + 32;
-    }
-    b
+    b.to_ascii_lowercase()
 }
 
 // The start of the longest run of a class that ends where the slice ends.
 pub fn trailing_start(s: &[u8], class: Class) -> usize
     ensures { result ≡ trailing_start (is_in class) s.now }
 {
-    let mut i = s.len();
-    while 0 < i {
-        let j = i - 1;
-        if is_in(class, s[j]) {
-            i = j;
-        } else {
-            return i;
+    for i in (0..s.len()).rev() {
+        if !is_in(class, s[i]) {
+            return i + 1;
         }
     }
     0

@@ -9,31 +9,22 @@ use crate::bytes;
 fn separator_place(s: &[u8], separator: u8, i: usize) -> usize
     ensures { result ≡ run_end (is_not separator) s.now i }
 {
-    let mut j = i;
-    while j < s.len() {
-        if s[j] == separator {
-            return j;
-        }
-        j += 1;
-    }
-    j
+    bytes::run_end_by(s, i, |b| b != separator)
 }
 
 // What stands behind k fields and their separators; nothing where there are no more than k fields.
 pub fn after_fields(s: &[u8], separator: u8, k: usize) -> &[u8]
     ensures { result.now ≡ after_fields separator k s.now }
 {
-    let mut at = 0;
-    let mut left = k;
-    while 0 < left {
-        let end = separator_place(s, separator, at);
-        if s.len() <= end {
-            return &s[..0];
+    let mut rest = s;
+    for _ in 0..k {
+        let end = separator_place(rest, separator, 0);
+        if rest.len() <= end {
+            return &[];
         }
-        at = end + 1;
-        left -= 1;
+        rest = &rest[end + 1..];
     }
-    &s[at..]
+    rest
 }
 
 // The field after k others; an empty one where it is missing.
@@ -41,5 +32,5 @@ pub fn field(s: &[u8], separator: u8, k: usize) -> &[u8]
     ensures { result.now ≡ field separator k s.now }
 {
     let rest = after_fields(s, separator, k);
-    bytes::part(rest, 0, separator_place(rest, separator, 0))
+    &rest[..separator_place(rest, separator, 0)]
 }

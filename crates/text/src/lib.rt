@@ -4,5 +4,6 @@
 pub mod bytes;
 pub mod decimal;
 pub mod fields;
+pub mod spans;
 pub mod words;
 pub mod writing;

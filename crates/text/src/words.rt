@@ -10,53 +10,26 @@ use crate::bytes::Class;
 pub fn equal(a: &[u8], b: &[u8]) -> bool
     ensures { result ≡ same a.now b.now }
 {
-    if a.len() != b.len() {
-        return false;
-    }
-    let mut i = 0;
-    while i < a.len() {
-        if a[i] != b[i] {
-            return false;
-        }
-        i += 1;
-    }
-    true
+    a == b
 }
 
 // Whether s is the word, which is in lower case, in either case of its letters.
 pub fn equal_word(s: &[u8], word: &[u8]) -> bool
     ensures { result ≡ same_word s.now word.now }
 {
-    if s.len() != word.len() {
-        return false;
-    }
-    let mut i = 0;
-    while i < s.len() {
-        if bytes::to_lower(s[i]) != word[i] {
-            return false;
-        }
-        i += 1;
-    }
-    true
+    s.len() == word.len() && s.iter().zip(word).all(|(a, b)| bytes::to_lower(*a) == *b)
 }
 
 // Whether b stands in s.
 pub fn contains(s: &[u8], b: u8) -> bool
     ensures { result ≡ contains s.now b }
 {
-    let mut i = 0;
-    while i < s.len() {
-        if b == s[i] {
-            return true;
-        }
-        i += 1;
-    }
-    false
+    s.contains(&b)
 }
 
 // Whether every byte is of the class.
 pub fn every(s: &[u8], class: Class) -> bool
     ensures { result ≡ all (is_in class) s.now }
 {
-    bytes::run_end(s, 0, class) == s.len()
+    s.iter().all(|b| bytes::is_in(class, *b))
 }

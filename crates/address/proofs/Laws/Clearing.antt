@@ -195,9 +195,9 @@ pub cleared_fits : (k v x : ℕ) → x ≡ cleared_low k v → v < 2 ^ 32 → x 
 unfolding cleared_low
 cleared_fits k v x e h = omega (arith, div-mul-le_self v (2 ^ k))
 
-pub cleared_four : (a : Address) (n v : ℕ) → a ≡ IPv4 v → (k : ℕ) → k ≡ 32 - n → (x : ℕ) → x ≡ cleared_low k v → IPv4 x ≡ cleared a n
+pub cleared_four : (a : Address) (n v : ℕ) → a ≡ IPv4 v → (u : ℕ) → u ≡ v → (k : ℕ) → k ≡ 32 - n → (x : ℕ) → x ≡ cleared_low k u → IPv4 x ≡ cleared a n
 unfolding cleared
-cleared_four a n v e k f x g = rw (e, ← f) (ap IPv4 g)
+cleared_four a n v e u p k f x g = rw (e, ← p, ← f) (ap IPv4 g)
 
 pub cleared_sixteen : (a : Address) (n high low : ℕ) → a ≡ IPv6 high low
     → (k : ℕ) → k ≡ 64 - n → (x : ℕ) → x ≡ cleared_low k high

@@ -71,24 +71,28 @@ client_octets_lem (IPv6 high low) p = rw (length_sixteen high low, mapped_test h
     by true = sym (last_four high low)
     by false = refl
 
--- a client in range, and the octets that go with it
-client_right : (a : Address) → InRange a → (r : Address) → r ≡ as_client a → (r ≡ as_client a) × (octets r ≡ client_octets (octets a))
-client_right a p r e = (e, ap octets e ∙ client_octets_lem a p)
-
-pub client_four : (a : Address) (v : ℕ) → a ≡ IPv4 v → v < 2 ^ 32 → (IPv4 v ≡ as_client a) × (octets (IPv4 v) ≡ client_octets (octets a))
-unfolding as_client
-client_four a v e h = rw e (client_right (IPv4 v) h (IPv4 v) refl)
-
-module _ (a : Address) (high low : ℕ) (e : a ≡ IPv6 high low) (hh : high < 2 ^ 64) (hl : low < 2 ^ 64) where
-  pub client_mapped : high ≡ 0 → low / 4294967296 ≡ 65535
-      → (IPv4 (low % 4294967296) ≡ as_client a) × (octets (IPv4 (low % 4294967296)) ≡ client_octets (octets a))
+-- the ways out of `as_client`, for a client in range
+module _ (a : Address) where
+  pub client_mapped : (high low : ℕ) → a ≡ IPv6 high low → high ≡ 0 → low / 4294967296 ≡ 65535 → IPv4 (low % 4294967296) ≡ as_client a
   unfolding as_client
-  client_mapped p q = rw e (client_right (IPv6 high low) (hh, hl) (IPv4 (low % 4294967296)) (simp (eq-eqb high 0 p, eq-eqb (low / 4294967296) 65535 q)))
+  client_mapped high low e p q = rw e (simp (eq-eqb high 0 p, eq-eqb (low / 4294967296) 65535 q))
 
-  pub client_unmapped : high ≡ 0 → (low / 4294967296 ≡ 65535 → ⊥) → (IPv6 high low ≡ as_client a) × (octets (IPv6 high low) ≡ client_octets (octets a))
+  pub client_unmapped : (high low : ℕ) → a ≡ IPv6 high low → (low / 4294967296 ≡ 65535 → ⊥) → a ≡ as_client a
   unfolding as_client
-  client_unmapped p q = rw e (client_right (IPv6 high low) (hh, hl) (IPv6 high low) (simp (eq-eqb high 0 p, ne_eqb (low / 4294967296) 65535 q)))
+  client_unmapped high low e q = rw (e, ne_eqb (low / 4294967296) 65535 q) (by (eqb high 0))
+    where
+      by : (t : Bool) → IPv6 high low ≡ cond (t && false) (IPv4 (low % 4294967296)) (IPv6 high low)
+      by true = refl
+      by false = refl
 
-  pub client_high : (high ≡ 0 → ⊥) → (IPv6 high low ≡ as_client a) × (octets (IPv6 high low) ≡ client_octets (octets a))
+  pub client_high : (high low : ℕ) → a ≡ IPv6 high low → (high ≡ 0 → ⊥) → a ≡ as_client a
   unfolding as_client
-  client_high p = rw e (client_right (IPv6 high low) (hh, hl) (IPv6 high low) (simp (ne_eqb high 0 p)))
+  client_high high low e p = rw (e, ne_eqb high 0 p)
+
+  pub client_four : (v : ℕ) → a ≡ IPv4 v → a ≡ as_client a
+  unfolding as_client
+  client_four v e = rw e
+
+  -- the octets that go with it
+  pub client_right : InRange a → (r : Address) → r ≡ as_client a → octets r ≡ client_octets (octets a)
+  client_right p r e = ap octets e ∙ client_octets_lem a p

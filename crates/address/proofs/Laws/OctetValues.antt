@@ -1,12 +1,14 @@
 -- Octets and the numbers that they write. Assumes nothing.
-use Prim.Native.Nat.{ℕ, zero, suc, ◌+◌, ◌*◌, ◌/◌, ◌%◌, ◌^◌, ◌≤◌, ◌<◌}
+use Prim.Native.Nat.{ℕ, zero, suc, ◌+◌, ◌*◌, ◌/◌, ◌%◌, ◌^◌, ◌<◌}
 use mathlib.Core.Path.{◌≡◌, refl, sym, ap, ◌∙◌}
 use mathlib.Core.List.{List, [], ◌∷◌, ◌++◌, append_assoc, append-nil}
 use native.Mathlib.Omega.{arith}
 use native.Mathlib.Numerals.{add-one, one-add}
-use native.Mathlib.Nat.{add-zero, add-suc, mul_assoc, div-one, pow-zero, pow-suc, pow-succ', div-lt_iff_lt-mul, div-div-eq-div-mul, pow-le-pow_right, lt_of_lt_of_le, mul-add-div_right, mul-add-mod_self_right}
+use native.Mathlib.Nat.{add-zero, add-suc, mul_assoc, div-one, pow-zero, pow-suc, pow-succ', div-lt_iff_lt-mul, div-div-eq-div-mul, mul-add-div_right, mul-add-mod_self_right}
+use Rattle.std.specs.Int.{w32, w64, byte_at, bytes_high_first, from_be_bytes}
+use Rattle.std.proofs.lemmas.Nat.{be_bytes_4, be_bytes_8}
 use lib.ListN.{length, get_or, take, drop, length-append}
-use lib.Seq.{get_or-drop, take-suc, take_all, take_at, drop_at}
+use lib.Seq.{get_or-drop, take_at, drop_at}
 use Rattle.address.specs.Octets.{octets_of, value_from, value_of}
 
 -- octets are below 256
@@ -101,31 +103,19 @@ octets_first n v w hv hw s t e = (
   sym (drop_at (octets_of n v) s n (length_octets_of n v)) ∙ ap (drop n) e ∙ drop_at (octets_of n w) t n (length_octets_of n w),
 )
 
--- the rules of the loop of `value8`
-pub record Valued (s : List ℕ) (v i : ℕ) : Type 0 where
-  pub within : i ≤ length s
-  pub value : v ≡ value_of (take i s)
-  pub small : v < 256 ^ i
+-- the octets of a number are the bytes that `to_be_bytes` gives, and the number that they write is what `from_be_bytes` reads
+pub be_octets : (n v : ℕ) → bytes_high_first n v ≡ octets_of n v
+unfolding octets_of
+be_octets zero v = refl
+be_octets (suc n) v = rw (be_octets n v, first n) (sym (rw one-add at (octets_split 1 n v)))
+  where
+    first : (n : ℕ) → byte_at n v ≡ v / 256 ^ n % 256
+    first zero = rw (pow-zero, div-one)
+    first (suc n) = refl
 
-pub valued_none : (s : List ℕ) → Valued s 0 0
-unfolding value_of value_from
-valued_none s = record { within = omega arith; value = refl; small = omega arith }
+module _ (s : List ℕ) (v : ℕ) (h : Bytes s) where
+  pub be_four : length s ≡ 4 → v < 2 ^ 32 → v ≡ from_be_bytes w32 s → v ≡ value_of s
+  be_four e l p = sym (value_octets 4 v l) ∙ ap value_of (sym (be_octets 4 v) ∙ be_bytes_4 s v e h p)
 
-module _ (s : List ℕ) (v i : ℕ) (p : Valued s v i) where
-  module _ (here : i < length s) where
-    pub valued_next : (o : ℕ) → (o ≡ get_or s i 0) × (o < 256) → Valued s (256 * v + o) (i + 1)
-    unfolding value_of
-    valued_next o h = record {
-      within = omega arith;
-      value = rw (add-one, take-suc s i 0 here, value_snoc 0 (take i s) (get_or s i 0), ← p.value, h.0);
-      small = rw (add-one, pow-suc 256 i) (omega arith);
-    }
-
-    -- at most 8 octets: no overflow
-    pub valued_fits : length s ≤ 8 → v < 72057594037927936
-    valued_fits l = lt_of_lt_of_le p.small (pow-le-pow_right {n = 256} (omega arith) {i = i} {j = 7} (omega arith))
-
-  pub valued_all : length s ≤ i → (v ≡ value_of s) × (v < 256 ^ length s)
-  valued_all h =
-      let e : i ≡ length s = omega (arith, p.within) in
-      (p.value ∙ ap value_of (take_all i s h), rw (← e) p.small)
+  pub be_eight : length s ≡ 8 → v < 2 ^ 64 → v ≡ from_be_bytes w64 s → v ≡ value_of s
+  be_eight e l p = sym (value_octets 8 v l) ∙ ap value_of (sym (be_octets 8 v) ∙ be_bytes_8 s v e h p)

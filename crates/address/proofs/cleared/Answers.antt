@@ -1,10 +1,6 @@
 -- `address::cleared` meets its contract. From the laws of Clearing.
-use Rattle.std.proofs.Common.{rules}
-use Rattle.address.proofs.Laws.Clearing.{cleared_fits, cleared_four, cleared_sixteen}
+use Rattle.address.proofs.Laws.Clearing.{cleared_four, cleared_sixteen}
 use Rattle.address.proofs.cleared.Goals as goal
-
-pub overflow_cast-result : goal.overflow_cast-result
-overflow_cast-result c = search (rules, cleared_fits)
 
 pub returns-in-IPv4 : goal.returns-in-IPv4
 returns-in-IPv4 c = search cleared_four

@@ -1,24 +1,22 @@
--- `from_octets` meets its contract, from what `value4` and `value8` ensure.
-use Rattle.std.proofs.Common.{arith}
-use lib.ListN.{length-take}
-use Rattle.text.proofs.Laws.Tests.{ways}
-use Rattle.address.specs.Octets.{from_octets}
-use Rattle.address.proofs.Laws.AddressOctets.{from_halves}
+-- `from_octets` meets its contract. From the laws of AddressOctets.
+use Rattle.std.proofs.Common.{arith, ◌∙◌}
+use Rattle.address.proofs.Laws.AddressOctets.{from_none, from_array, from_halves}
 use Rattle.address.proofs.from_octets.Goals as goal
 
-pub returns-then-s-eq4 : goal.returns-then-s-eq4
-unfolding from_octets
-returns-then-s-eq4 c = search ways
+pub returns-in-Some : goal.returns-in-Some
+returns-in-Some c =
+    from_array c.args.s.now (λ i. omega (arith, c.type_inv.s i)) c.in-Some.ensures.cases.long _ c.in-Some.ensures.cases.same _ c.from_be_bytes.type_inv c.from_be_bytes.ensures
 
-pub slice_bounds-value8-end : goal.slice_bounds-value8-end
-slice_bounds-value8-end c = simp length-take (omega arith)
+pub returns-in_err-high : goal.returns-in_err-high
+returns-in_err-high c = c.from_residual.ensures ∙ from_none _ c.in_default.ensures.cases (λ e. omega (arith, c.in_err-high.ensures.cases))
 
-pub value8-requires : goal.value8-requires
-value8-requires c = simp length-take (omega arith)
-
-pub returns-then-s-eq16 : goal.returns-then-s-eq16
-returns-then-s-eq16 c = search from_halves
+pub returns-in_err-low : goal.returns-in_err-low
+returns-in_err-low c =
+    c.from_residual-in_err-low.ensures ∙ from_none _ c.in_default.ensures.cases (λ e. c.in_err-low.ensures.cases (omega (arith, c.in_ok-high.ensures.cases.2)))
 
 pub returns : goal.returns
-unfolding from_octets
-returns c = search ways
+returns c =
+    let first = c.in_ok-high.ensures.cases in
+    let last = c.in_ok-low.ensures.cases in
+    from_halves c.args.s.now (λ i. omega (arith, c.type_inv.s i)) _ _ _ first.0 first.1 first.2 last.long last.same _ _ c.from_be_bytes-2.type_inv c.from_be_bytes-3.type_inv
+    c.from_be_bytes-2.ensures c.from_be_bytes-3.ensures

@@ -1,19 +1,19 @@
 -- A number's numeral: it is written by its leading digits and then the last one, and read again it is the number, in digits, with no leading
 -- zero. From the definitions of Digits and of the crate text.
+use Rattle.std.proofs.Common.{Some}
 use Prim.Native.Nat.{ℕ, zero, suc, ◌+◌, ◌-◌, ◌*◌, ◌/◌, ◌%◌, ◌^◌, ◌≤◌, ◌<◌}
 use mathlib.Core.Path.{◌≡◌, refl, sym, ◌∙◌}
 use mathlib.Core.List.{List, [], ◌∷◌, ◌++◌}
 use mathlib.Core.Bool.{true}
 use mathlib.Core.Logic.{⊎_elim}
 use native.Mathlib.Omega.{arith}
-use native.Mathlib.Nat.{pow-zero, pow-suc, one-mul, div-lt_iff_lt-mul, div-lt_self, mod-lt}
+use native.Mathlib.Nat.{pow-zero, pow-suc, one-mul, div-lt_iff_lt-mul}
 use lib.ListN.{length, get_or, length-append, get_or-append}
 use lib.Dec.{ltb, leb}
 use borrow.Author.Tests.{lt-ltb, le-ltb, ltb-true, ltb-false, le-leb, ne_eqb}
 use Rattle.text.specs.Bytes.{is_digit}
 use Rattle.text.specs.Lists.{all}
 use Rattle.text.specs.Decimal.{decimal_from, decimal, is_decimal, read_decimal, has_no_leading_zero, read_number}
-use Rattle.text.specs.declared.decimal.Number.TheVariants.{Value}
 use Rattle.text.specs.Writing.{Wrote}
 use Rattle.text.proofs.Laws.Tests.{cond-elim, and_both, or_right}
 use Rattle.text.proofs.Laws.Classes.{range_within}
@@ -26,10 +26,6 @@ use Rattle.address_text.specs.Digits.{digit, numeral, in_decimal}
 pub digit_below : (n : ℕ) → n < 10 → digit n ≡ 48 + n
 unfolding digit
 digit_below n h = simp (lt-ltb n 10 h)
-
-pub digit_above : (n : ℕ) → 10 ≤ n → digit n ≡ 87 + n
-unfolding digit
-digit_above n h = simp (le-ltb n 10 h)
 
 -- below the base one digit; otherwise the digits of the quotient and then the remainder's
 pub numeral_one : (f base n : ℕ) → n < base → numeral f base n ≡ digit n ∷ []
@@ -59,12 +55,6 @@ module _ (v base : ℕ) (out : List ℕ) (at : ℕ) (d : ℕ) (after : List ℕ)
   numeral_then h b e o n w z (suc f) k =
       rw (numeral_more f base v h, ← e)
       (wrote_then out at (numeral f base (v / base)) (d ∷ []) o after n next (w f (quotient_small f base v (omega arith) k)) z)
-
-pub quotient_less : (v base : ℕ) → base ≤ v → (2 ≤ base) × (base ≤ 16) → v / base < v
-quotient_less v base h b = div-lt_self (omega arith) (omega arith)
-
-pub remainder_small : (v base : ℕ) → (2 ≤ base) × (base ≤ 16) → v % base < 16
-remainder_small v base b = let r : v % base < base = mod-lt v (omega arith) in omega arith
 
 -- `put_decimal`
 pub decimal_written : (v : ℕ) → v < 2 ^ 64 → (out : List ℕ) (at : ℕ) (after : List ℕ) (next : ℕ)
@@ -144,7 +134,7 @@ in_decimal_lem v h =
     }
 
 -- read again, it is the number: this tells a reader that the writer of decimals and their reader agree
-pub read_in_decimal : (v limit : ℕ) → v < 2 ^ 64 → v ≤ limit → read_number limit (in_decimal v) ≡ Value v
+pub read_in_decimal : (v limit : ℕ) → v < 2 ^ 64 → v ≤ limit → read_number limit (in_decimal v) ≡ Some v
 unfolding read_number read_decimal
 read_in_decimal v limit h l =
     let r = in_decimal_lem v h in

@@ -1,29 +1,25 @@
--- Rows of numbers: a part at its place, a row as a loop writes it part by part, and the texts of addresses as rows. From the definitions of
--- Rows and Forms and the laws of splitting and writing.
+-- Rows of numbers: halves and groups of octets at a place, a row as a loop writes it number by number, and the texts of addresses as rows. From the
+-- definitions of Rows and Forms and the laws of splitting and writing.
 use Prim.Native.Nat.{ℕ, zero, suc, ◌+◌, ◌-◌, ◌*◌, ◌/◌, ◌%◌, ◌^◌, ◌≤◌, ◌<◌}
 use mathlib.Core.Path.{◌≡◌, refl, sym, ap, ◌∙◌}
 use mathlib.Core.List.{List, [], ◌∷◌, ◌++◌, map, reverse, map-append, append-nil, reverse-cons}
-use mathlib.Core.Bool.{Bool, true, false}
-use mathlib.Core.Logic.{⊎_elim}
 use native.Mathlib.Omega.{arith}
 use native.Mathlib.Numerals.{add-one}
-use lib.ListN.{length, get_or, take, length-reverse, length-map, get_or-append, get_or-eq_default}
-use lib.Seq.{take-suc, take_all, get_or_at, length-take-le}
-use borrow.Author.Tests.{lt-ltb, le-ltb, eq-eqb, ne_eqb}
+use lib.ListN.{length, get_or, take, length-reverse, length-append}
+use lib.Seq.{take-suc, take_all}
+use Rattle.std.proofs.lemmas.List.{get_or-reverse}
 use Rattle.text.specs.Lists.{separator_before, join_by, join}
 use Rattle.text.specs.Texts.{bytes}
 use Rattle.text.specs.Writing.{Wrote}
-use Rattle.text.proofs.Laws.Orders.{le_or_lt}
-use Rattle.text.proofs.Laws.Splitting.{some, join_snoc}
-use Rattle.text.proofs.Laws.Writing.{wrote_none, wrote_then, length_wrote}
+use Rattle.text.proofs.Laws.Splitting.{Some, some, join_snoc}
+use Rattle.text.proofs.Laws.Writing.{wrote_then}
 use Rattle.address.specs.Octets.{octets_of, octets}
 use Rattle.address.specs.declared.Address.{Address}
 use Rattle.address.specs.declared.Address.TheVariants.{IPv4, IPv6}
+use Rattle.address.proofs.Laws.OctetValues.{Bytes, length_octets_of, bytes_octets, bytes_append}
 use Rattle.address_text.specs.Digits.{digit, numeral, in_decimal, in_hex}
-use Rattle.address_text.specs.Forms.{nibbles, hex_groups, octet_texts, nibble_texts, dotted, readable, family, reversed_name}
-use Rattle.address_text.specs.Rows.{parts_of, text_of, ordered, place, separated, row}
-use Rattle.address_text.specs.declared.Parts.{Parts}
-use Rattle.address_text.specs.declared.Parts.TheVariants.{Octets, Nibbles, Groups}
+use Rattle.address_text.specs.Forms.{nibbles, hex_groups, octet_texts, nibble_texts, dotted, readable, reversed_name}
+use Rattle.address_text.specs.Rows.{Gives, Below}
 
 -- nibbles
 pub length_nibbles : (s : List ℕ) → length (nibbles s) ≡ 2 * length s
@@ -31,14 +27,14 @@ unfolding nibbles
 length_nibbles [] = refl
 length_nibbles (o ∷ s) = let h = length_nibbles s in omega arith
 
-nibble_even : (s : List ℕ) (i : ℕ) → i % 2 ≡ 0 → get_or (nibbles s) i 0 ≡ get_or s (i / 2) 0 / 16
+pub nibble_even : (s : List ℕ) (i : ℕ) → i % 2 ≡ 0 → get_or (nibbles s) i 0 ≡ get_or s (i / 2) 0 / 16
 unfolding nibbles
 nibble_even [] i h = refl
 nibble_even (o ∷ s) zero h = refl
 nibble_even (o ∷ s) (suc zero) h = absurd (omega arith)
 nibble_even (o ∷ s) (suc (suc i)) h = let e : suc (suc i) / 2 ≡ suc (i / 2) = omega arith in rw e (nibble_even s i (omega arith))
 
-nibble_odd : (s : List ℕ) (i : ℕ) → (i % 2 ≡ 0 → ⊥) → get_or (nibbles s) i 0 ≡ get_or s (i / 2) 0 % 16
+pub nibble_odd : (s : List ℕ) (i : ℕ) → (i % 2 ≡ 0 → ⊥) → get_or (nibbles s) i 0 ≡ get_or s (i / 2) 0 % 16
 unfolding nibbles
 nibble_odd [] i h = refl
 nibble_odd (o ∷ s) zero h = absurd (h refl)
@@ -52,7 +48,7 @@ length_groups [] = refl
 length_groups (o ∷ []) = refl
 length_groups (o ∷ u ∷ s) = let h = length_groups s in omega arith
 
-group_at : (s : List ℕ) (i : ℕ) → i < length s / 2 → get_or (hex_groups s) i 0 ≡ 256 * get_or s (2 * i) 0 + get_or s (2 * i + 1) 0
+pub group_at : (s : List ℕ) (i : ℕ) → i < length s / 2 → get_or (hex_groups s) i 0 ≡ 256 * get_or s (2 * i) 0 + get_or s (2 * i + 1) 0
 unfolding hex_groups
 group_at [] i h = absurd (omega arith)
 group_at (o ∷ []) i h = absurd (omega arith)
@@ -62,203 +58,131 @@ group_at (o ∷ u ∷ s) (suc i) h =
     let g : 2 * suc i + 1 ≡ suc (suc (2 * i + 1)) = omega arith in
     rw (g, e) (group_at s i (omega arith))
 
--- `nibble` and `group`
-module _ (s : List ℕ) (i b o : ℕ) (e : b ≡ get_or s (i / 2) 0) (w : (o ≡ b) × (o < 256)) where
-  pub even_nibble : i % 2 ≡ 0 → (o / 16 ≡ get_or (nibbles s) i 0) × (o / 16 < 16)
-  even_nibble h = (rw (nibble_even s i h, ← e, w.0), omega arith)
-
-  pub odd_nibble : (i % 2 ≡ 0 → ⊥) → (o % 16 ≡ get_or (nibbles s) i 0) × (o % 16 < 16)
-  odd_nibble h = (rw (nibble_odd s i h, ← e, w.0), omega arith)
-
-module _ (s : List ℕ) (i : ℕ) where
-  pub group_here : i < length s / 2 → (x y : ℕ) → (x ≡ get_or s (2 * i) 0) × (x < 256) → (y ≡ get_or s (2 * i + 1) 0) × (y < 256)
-      → (256 * x + y ≡ get_or (hex_groups s) i 0) × (256 * x + y < 65536)
-  group_here h x y p q = (rw (group_at s i h, ← p.0, ← q.0), omega arith)
-
-  pub group_past : length s / 2 ≤ i → (0 ≡ get_or (hex_groups s) i 0) × (0 < 65536)
-  group_past h = (sym (get_or-eq_default (hex_groups s) 0 (rw length_groups h)), omega arith)
-
--- `count`
-module _ (parts : Parts) (s : List ℕ) where
-  pub count_octets : parts ≡ Octets → length s ≡ length (parts_of parts s)
-  unfolding parts_of
-  count_octets e = rw e
-
-  pub count_nibbles : parts ≡ Nibbles → 2 * length s ≡ length (parts_of parts s)
-  unfolding parts_of
-  count_nibbles e = rw e (sym (length_nibbles s))
-
-  pub count_groups : parts ≡ Groups → length s / 2 ≡ length (parts_of parts s)
-  unfolding parts_of
-  count_groups e = rw e (sym (length_groups s))
-
--- `put_part`
-module _ (parts : Parts) (s : List ℕ) (i : ℕ) (out : List ℕ) (at : ℕ) (after : List ℕ) (next v : ℕ) where
-  pub part_octet : parts ≡ Octets → (b : ℕ) → b ≡ get_or s i 0 → (v ≡ b) × (v < 256) → Wrote (in_decimal v) out at after next
-      → Wrote (text_of parts (get_or (parts_of parts s) i 0)) out at after next
-  unfolding parts_of text_of
-  part_octet e b p q w = rw (e, ← p, ← q.0) w
-
-  pub part_nibble : parts ≡ Nibbles → (v ≡ get_or (nibbles s) i 0) × (v < 16) → (d : ℕ) → d ≡ digit v → Wrote (d ∷ []) out at after next
-      → Wrote (text_of parts (get_or (parts_of parts s) i 0)) out at after next
-  unfolding parts_of text_of
-  part_nibble e p d q w = rw (e, ← p.0, ← q) w
-
-  pub part_group : parts ≡ Groups → (v ≡ get_or (hex_groups s) i 0) × (v < 65536)
-      → ((f : ℕ) → v < 16 ^ suc f → Wrote (numeral f 16 v) out at after next)
-      → Wrote (text_of parts (get_or (parts_of parts s) i 0)) out at after next
-  unfolding parts_of text_of in_hex
-  part_group e p w = rw (e, ← p.0) (w 3 (omega arith))
-
--- a list backwards
-get_d_reverse : (s : List ℕ) (i : ℕ) → i < length s → get_or (reverse s) i 0 ≡ get_or s (length s - 1 - i) 0
-get_d_reverse [] i h = absurd (omega arith)
-get_d_reverse (x ∷ s) i h = ⊎_elim
-    (λ (p : suc i ≤ length s).
-    let e : suc (length s) - 1 - i ≡ suc (length s - 1 - i) = omega arith in
-    rw (reverse-cons x s, get_or-append (reverse s) (x ∷ []) 0 i (rw length-reverse (omega arith)), e) (get_d_reverse s i (omega arith)))
-    (λ (p : length s < suc i).
-    let e : suc (length s) - 1 - i ≡ 0 = omega arith in
-    rw (reverse-cons x s, e) (get_or_at (reverse s) x [] 0 i (rw length-reverse (omega arith))))
-    (le_or_lt (suc i) (length s))
-
 map_reverse : (f : ℕ → List ℕ) (s : List ℕ) → map f (reverse s) ≡ reverse (map f s)
 map_reverse f [] = refl
 map_reverse f (x ∷ s) = rw (reverse-cons x s, reverse-cons (f x) (map f s), map-append) (ap (λ (l : List (List ℕ)). l ++ (f x ∷ [])) (map_reverse f s))
 
-length_ordered : (reversed : Bool) (s : List ℕ) → length (ordered reversed s) ≡ length s
-unfolding ordered
-length_ordered true s = length-reverse s
-length_ordered false s = refl
+some_taken : (f : ℕ → List ℕ) (i : ℕ) (xs : List ℕ) → 0 < i → i ≤ length xs → Some (map f (take i xs))
+some_taken f zero xs h k = absurd (omega arith)
+some_taken f (suc i) [] h k = absurd (omega arith)
+some_taken f (suc i) (x ∷ xs) h k = some
 
-ordered_at : (reversed : Bool) (s : List ℕ) (i : ℕ) → get_or (ordered reversed s) i 0 ≡ get_or s (place reversed (length s) i) 0
-unfolding ordered place
-ordered_at true s i = ⊎_elim
-    (λ (h : length s ≤ i). simp (le-ltb i (length s) h) (get_or-eq_default (reverse s) 0 (rw length-reverse h) ∙ sym (get_or-eq_default s 0 h)))
-    (λ (h : i < length s). simp (lt-ltb i (length s) h) (get_d_reverse s i h))
-    (le_or_lt (length s) i)
-ordered_at false s i = refl
+-- what a closure gives from the last number back
+pub gives_back : (number : ℕ → ℕ → Type 0) (s : List ℕ) (n : ℕ) → length s ≡ n + 1
+    → ((i r : ℕ) → i < length s → number i r → r ≡ get_or s (n - i) 0) → Gives number (reverse s)
+gives_back number s n e h i r l w =
+    let inside : i < length s = rw length-reverse at l in
+    let last : length s - 1 - i ≡ n - i = omega arith in
+    rw (get_or-reverse s i 0 inside, last) (h i r inside w)
 
--- `place_of`
-module _ (reversed : Bool) (n i : ℕ) where
-  pub place_last : reversed ≡ true → i < n → n - 1 - i ≡ place reversed n i
-  unfolding place
-  place_last e h = simp (e, lt-ltb i n h)
+-- halves and groups of octets are below 16 and 65,536
+below_nibbles : (s : List ℕ) → Bytes s → (i : ℕ) → get_or (nibbles s) i 0 < 16
+unfolding nibbles
+below_nibbles [] h i = omega arith
+below_nibbles (o ∷ s) h zero = omega (arith, h 0)
+below_nibbles (o ∷ s) h (suc zero) = omega arith
+below_nibbles (o ∷ s) h (suc (suc i)) = below_nibbles s (λ j. h (suc j)) i
 
-  pub place_past : reversed ≡ true → n ≤ i → i ≡ place reversed n i
-  unfolding place
-  place_past e h = simp (e, le-ltb i n h)
+below_groups : (s : List ℕ) → Bytes s → (i : ℕ) → get_or (hex_groups s) i 0 < 65536
+unfolding hex_groups
+below_groups [] h i = omega arith
+below_groups (o ∷ []) h i = omega arith
+below_groups (o ∷ u ∷ s) h zero = omega (arith, h 0, h 1)
+below_groups (o ∷ u ∷ s) h (suc i) = below_groups s (λ j. h (suc (suc j))) i
 
-  pub place_forward : reversed ≡ false → i ≡ place reversed n i
-  unfolding place
-  place_forward e = simp e
+below_back : (k : ℕ) (s : List ℕ) → ((i : ℕ) → get_or s i 0 < k) → Below k (reverse s)
+below_back k s h i l = rw (get_or-reverse s i 0 (rw length-reverse at l)) (h (length s - 1 - i))
 
--- `put_next`
-module _ (parts : Parts) (s : List ℕ) (reversed : Bool) (separator i m j : ℕ) (e : m ≡ length (parts_of parts s)) (p : j ≡ place reversed m i)
-    (out : List ℕ) (at : ℕ) (after : List ℕ) (next : ℕ) where
-  next_text : text_of parts (get_or (parts_of parts s) j 0) ≡ text_of parts (get_or (ordered reversed (parts_of parts s)) i 0)
-  next_text = ap (text_of parts) (rw (p, e) (sym (ordered_at reversed (parts_of parts s) i)))
+-- `put_row`: the numbers passed, and what was written of them
+module _ (f base separator : ℕ) (xs out : List ℕ) (at : ℕ) where
+  pub record Joined (i : ℕ) (o : List ℕ) (n : ℕ) : Type 0 where
+    pub some : 0 < i
+    pub within : i ≤ length xs
+    pub wrote : Wrote (join_by separator (map (numeral f base) (take i xs))) out at o n
 
-  pub next_first : i ≡ 0 → Wrote (text_of parts (get_or (parts_of parts s) j 0)) out at after next
-      → Wrote (separated separator i (text_of parts (get_or (ordered reversed (parts_of parts s)) i 0))) out at after next
-  unfolding separated
-  next_first z w = simp (eq-eqb i 0 z) (rw next_text at w)
+  pub joined_first : 0 < length xs → (v : ℕ) → v ≡ get_or xs 0 0 → (o : List ℕ) (n : ℕ) → Wrote (numeral f base v) out at o n → Joined 1 o n
+  unfolding join_by separator_before
+  joined_first h v e o n w = record {
+    some = omega arith;
+    within = omega arith;
+    wrote = rw (one_suc, take-suc xs 0 0 h, ← e, append-nil) w;
+  }
+    where
+      one_suc : ◌≡◌ {A = ℕ} 1 (suc 0)
+      one_suc = refl
 
-  pub next_later : (i ≡ 0 → ⊥) → (o : List ℕ) (n : ℕ) → Wrote (separator ∷ []) out at o n → Wrote (text_of parts (get_or (parts_of parts s) j 0)) o n after next
-      → Wrote (separated separator i (text_of parts (get_or (ordered reversed (parts_of parts s)) i 0))) out at after next
-  unfolding separated
-  next_later z o n v w = simp (ne_eqb i 0 z) (wrote_then out at (separator ∷ []) (text_of parts (get_or (ordered reversed (parts_of parts s)) i 0)) o after n next v (rw next_text at w))
-
--- a row with one text more
-row_snoc : (separator : ℕ) (xs : List (List ℕ)) (x : List ℕ)
-    → join_by separator (xs ++ (x ∷ [])) ≡ join_by separator xs ++ separated separator (length xs) x
-unfolding join_by separator_before separated
-row_snoc separator [] x = append-nil x
-row_snoc separator (y ∷ xs) x =
-    simp (ne_eqb (suc (length xs)) 0 (λ (e : suc (length xs) ≡ 0). omega arith)) (join_snoc separator (y ∷ xs) x some)
-
--- `put_row`: the parts passed, and what was written of them
-module _ (parts : Parts) (s : List ℕ) (reversed : Bool) (separator : ℕ) (out : List ℕ) (at m : ℕ) where
-  pub record Joined (next i : ℕ) (o : List ℕ) : Type 0 where
-    pub count : m ≡ length (parts_of parts s)
-    pub within : i ≤ m
-    pub wrote : Wrote (join_by separator (map (text_of parts) (take i (ordered reversed (parts_of parts s))))) out at o next
-
-  pub joined_start : m ≡ length (parts_of parts s) → at < 2 ^ 64 → length out < 2 ^ 64 → Joined at 0 out
-  unfolding join_by
-  joined_start e h l = record { count = e; within = omega arith; wrote = wrote_none out at (omega arith) (omega arith) }
-
-  module _ (next i : ℕ) (o : List ℕ) (p : Joined next i o) where
-    pub joined_next : i < m → (o' : List ℕ) (n' : ℕ)
-        → Wrote (separated separator i (text_of parts (get_or (ordered reversed (parts_of parts s)) i 0))) o next o' n' → Joined n' (i + 1) o'
-    joined_next h o' n' w =
-        let ps = ordered reversed (parts_of parts s) in
-        let full : i < length ps = omega (arith, length_ordered reversed (parts_of parts s), p.count) in
-        let size : length (map (text_of parts) (take i ps)) ≡ i = length-map (take i ps) (text_of parts) ∙ length-take-le i ps (omega arith) in
-        let text = row_snoc separator (map (text_of parts) (take i ps)) (text_of parts (get_or ps i 0)) in
+  module _ (i : ℕ) (o : List ℕ) (n : ℕ) (p : Joined i o n) where
+    pub joined_next : i < length xs → (v : ℕ) → v ≡ get_or xs i 0 → (o₁ o₂ : List ℕ) (n₁ n₂ : ℕ)
+        → Wrote (separator ∷ []) o n o₁ n₁ → Wrote (numeral f base v) o₁ n₁ o₂ n₂ → Joined (i + 1) o₂ n₂
+    joined_next h v e o₁ o₂ n₁ n₂ u w =
+        let text = join_snoc separator (map (numeral f base) (take i xs)) (numeral f base (get_or xs i 0)) (some_taken (numeral f base) i xs p.some p.within) in
         record {
-          count = p.count;
+          some = omega arith;
           within = omega arith;
-          wrote = rw (add-one, take-suc ps i 0 full, map-append, text, size)
-              (wrote_then out at (join_by separator (map (text_of parts) (take i ps))) (separated separator i (text_of parts (get_or ps i 0))) o o' next n' p.wrote w);
+          wrote = rw (add-one, take-suc xs i 0 h, map-append, text, ← e)
+              (wrote_then out at (join_by separator (map (numeral f base) (take i xs))) (separator ∷ numeral f base v) o o₂ n n₂ p.wrote
+              (wrote_then o n (separator ∷ []) (numeral f base v) o₁ o₂ n₁ n₂ u w));
         }
 
-    pub joined_end : m ≤ i → Wrote (row parts reversed separator s) out at o next
-    unfolding row
-    joined_end h =
-        let ps = ordered reversed (parts_of parts s) in
-        rw (sym (take_all i ps (omega (arith, length_ordered reversed (parts_of parts s), p.count)))) p.wrote
+    pub joined_end : length xs ≤ i → Wrote (join_by separator (map (numeral f base) xs)) out at o n
+    joined_end h = rw (sym (take_all i xs h)) p.wrote
 
-    pub joined_length : length o ≡ length out
-    joined_length = length_wrote out at (join_by separator (map (text_of parts) (take i (ordered reversed (parts_of parts s))))) o next p.wrote
-
--- the texts of addresses as rows; forwards they are rows by definition
-octets_reversed : (s : List ℕ) → row Octets true 46 s ≡ join (reverse (octet_texts s))
-unfolding row ordered parts_of text_of octet_texts
-octets_reversed s = ap join (map_reverse in_decimal s)
-
-nibbles_reversed : (s : List ℕ) → row Nibbles true 46 s ≡ join (reverse (nibble_texts s))
-unfolding row ordered parts_of text_of nibble_texts
-nibbles_reversed s = ap join (map_reverse (λ n. digit n ∷ []) (nibbles s))
+-- `put_octets`: what a row of octets in decimal is
+pub octets_row : (s : List ℕ) → (length s ≡ 4) → Bytes s → (number : ℕ → ℕ → Type 0) → ((i r : ℕ) → i < length s → number i r → r ≡ get_or s i 0)
+    → (out : List ℕ) (at : ℕ) (after : List ℕ) (next : ℕ)
+    → ((f : ℕ) (xs : List ℕ) → 4 ≡ length xs → Gives number xs → Below (10 ^ suc f) xs → Wrote (join_by 46 (map (numeral f 10) xs)) out at after next)
+    → Wrote (join_by 46 (octet_texts s)) out at after next
+unfolding octet_texts in_decimal
+octets_row s e h number g out at after next w = w 19 s (sym e) g (λ i l. omega (arith, h i))
 
 -- `put_dotted`, `put_readable`, `put_family`, `put_reversed_name`
 module _ (a : Address) (out : List ℕ) (at : ℕ) (after : List ℕ) (next : ℕ) where
   module _ (v : ℕ) (e : a ≡ IPv4 v) where
-    pub family_four : Wrote (bytes "in-addr") out at after next → Wrote (family a) out at after next
-    unfolding family
-    family_four w = rw e w
-
     module _ (x : List ℕ) (p : x ≡ octets_of 4 v) where
-      pub dotted_four : Wrote (row Octets false 46 x) out at after next → Wrote (dotted a) out at after next
-      unfolding dotted octets octet_texts row ordered parts_of text_of
+      pub dotted_four : Wrote (join_by 46 (octet_texts x)) out at after next → Wrote (dotted a) out at after next
+      unfolding dotted octets
       dotted_four w = rw (e, ← p) w
 
-      pub readable_four : Wrote (row Octets false 46 x) out at after next → Wrote (readable a) out at after next
-      unfolding readable octets octet_texts row ordered parts_of text_of
+      pub readable_four : Wrote (join_by 46 (octet_texts x)) out at after next → Wrote (readable a) out at after next
+      unfolding readable octets
       readable_four w = rw (e, ← p) w
 
-      pub reversed_four : (o : List ℕ) (n : ℕ) → Wrote (row Octets true 46 x) out at o n → Wrote (bytes ".in-addr.arpa") o n after next
-          → Wrote (reversed_name a) out at after next
-      unfolding reversed_name octets
-      reversed_four o n w z =
-          rw (e, ← p) (wrote_then out at (join (reverse (octet_texts x))) (bytes ".in-addr.arpa") o after n next (rw octets_reversed at w) z)
+      pub reversed_four : (number : ℕ → ℕ → Type 0) → ((i r : ℕ) → i < length x → number i r → r ≡ get_or x (3 - i) 0) → (o : List ℕ) (n : ℕ)
+          → ((f : ℕ) (xs : List ℕ) → 4 ≡ length xs → Gives number xs → Below (10 ^ suc f) xs → Wrote (join_by 46 (map (numeral f 10) xs)) out at o n)
+          → Wrote (bytes ".in-addr.arpa") o n after next → Wrote (reversed_name a) out at after next
+      unfolding reversed_name octets octet_texts in_decimal
+      reversed_four number g o n w z =
+          let size : length x ≡ 4 = rw p (length_octets_of 4 v) in
+          let row : Wrote (join_by 46 (map in_decimal (reverse x))) out at o n =
+          w 19 (reverse x) (sym (length-reverse x ∙ size)) (gives_back number x 3 size g) (below_back (10 ^ 20) x (λ i. rw p (omega (arith, bytes_octets 4 v i)))) in
+          rw (e, ← p) (wrote_then out at (join (reverse (octet_texts x))) (bytes ".in-addr.arpa") o after n next (rw map_reverse at row) z)
 
   module _ (high low : ℕ) (e : a ≡ IPv6 high low) where
-    pub family_six : Wrote (bytes "ip6") out at after next → Wrote (family a) out at after next
-    unfolding family
-    family_six w = rw e w
-
     module _ (x : List ℕ) (p : x ≡ octets_of 8 high ++ octets_of 8 low) where
-      pub dotted_six : Wrote (row Nibbles false 46 x) out at after next → Wrote (dotted a) out at after next
-      unfolding dotted octets nibble_texts row ordered parts_of text_of
-      dotted_six w = rw (e, ← p) w
+      size : length x ≡ 16
+      size = rw p (simp (length-append, length_octets_of))
 
-      pub readable_six : Wrote (row Groups false 58 x) out at after next → Wrote (readable a) out at after next
-      unfolding readable octets row ordered parts_of text_of
-      readable_six w = rw (e, ← p) w
+      octets_fit : Bytes x
+      octets_fit = rw p (bytes_append (octets_of 8 high) (octets_of 8 low) (bytes_octets 8 high) (bytes_octets 8 low))
 
-      pub reversed_six : (o : List ℕ) (n : ℕ) → Wrote (row Nibbles true 46 x) out at o n → Wrote (bytes ".ip6.arpa") o n after next
-          → Wrote (reversed_name a) out at after next
-      unfolding reversed_name octets
-      reversed_six o n w z =
-          rw (e, ← p) (wrote_then out at (join (reverse (nibble_texts x))) (bytes ".ip6.arpa") o after n next (rw nibbles_reversed at w) z)
+      pub dotted_six : (number : ℕ → ℕ → Type 0) → Gives number (nibbles x)
+          → ((f : ℕ) (xs : List ℕ) → 32 ≡ length xs → Gives number xs → Below (16 ^ suc f) xs → Wrote (join_by 46 (map (numeral f 16) xs)) out at after next)
+          → Wrote (dotted a) out at after next
+      unfolding dotted octets nibble_texts numeral
+      dotted_six number g w = rw (e, ← p) (w 0 (nibbles x) (omega (arith, length_nibbles x, size)) g (λ i l. below_nibbles x octets_fit i))
+
+      pub readable_six : (number : ℕ → ℕ → Type 0) → Gives number (hex_groups x)
+          → ((f : ℕ) (xs : List ℕ) → 8 ≡ length xs → Gives number xs → Below (16 ^ suc f) xs → Wrote (join_by 58 (map (numeral f 16) xs)) out at after next)
+          → Wrote (readable a) out at after next
+      unfolding readable octets in_hex
+      readable_six number g w = rw (e, ← p) (w 3 (hex_groups x) (omega (arith, length_groups x, size)) g (λ i l. below_groups x octets_fit i))
+
+      pub reversed_six : (number : ℕ → ℕ → Type 0) → ((i r : ℕ) → i < length (nibbles x) → number i r → r ≡ get_or (nibbles x) (31 - i) 0) → (o : List ℕ) (n : ℕ)
+          → ((f : ℕ) (xs : List ℕ) → 32 ≡ length xs → Gives number xs → Below (16 ^ suc f) xs → Wrote (join_by 46 (map (numeral f 16) xs)) out at o n)
+          → Wrote (bytes ".ip6.arpa") o n after next → Wrote (reversed_name a) out at after next
+      unfolding reversed_name octets nibble_texts numeral
+      reversed_six number g o n w z =
+          let count : length (nibbles x) ≡ 32 = omega (arith, length_nibbles x, size) in
+          let row : Wrote (join_by 46 (map (λ d. digit d ∷ []) (reverse (nibbles x)))) out at o n =
+          w 0 (reverse (nibbles x)) (sym (length-reverse (nibbles x) ∙ count)) (gives_back number (nibbles x) 31 count g) (below_back 16 (nibbles x) (below_nibbles x octets_fit)) in
+          rw (e, ← p) (wrote_then out at (join (reverse (nibble_texts x))) (bytes ".ip6.arpa") o after n next (rw map_reverse at row) z)

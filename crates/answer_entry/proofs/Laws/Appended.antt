@@ -1,6 +1,7 @@
 -- What an append comes to: one outcome and one buffer (appends_one), and a refusal keeps the buffer (refused_kept); the entries of the new table are the
 -- old ones and the given one, and all other bytes are kept (appended_entries); what a lookup finds there (appended_found, appended_others). From the
 -- productions of Appending, the laws of Fitting and those of `answer_table`.
+use Rattle.std.proofs.Common.{is_some}
 use Prim.Native.Nat.{ℕ, suc, ◌≤◌}
 use mathlib.Core.Path.{◌≡◌, refl, sym, ap, ◌∙◌}
 use mathlib.Core.List.{List, [], ◌∷◌, ◌++◌, append_assoc}
@@ -16,7 +17,7 @@ use Rattle.answer_table.specs.Layout.{Entry, Items, Entries, is_pair, holds}
 use Rattle.answer_table.specs.Numbers.{Place, nowhere, Report, accepted, refused as table-refused, reported}
 use Rattle.answer_table.specs.Answers.{Encoded, TableAnswers}
 use Rattle.answer_table.specs.Lookup.{present, lookup}
-use Rattle.answer_table.specs.Reader.{find_at, is_found, check_table}
+use Rattle.answer_table.specs.Reader.{find_at, check_table}
 use Rattle.answer_table.proofs.Laws.Encoding.{entry_items}
 use Rattle.answer_table.proofs.Laws.Entries.{distinct_before, pair_is}
 use Rattle.answer_table.proofs.Laws.Finding.{found_iff}
@@ -34,7 +35,7 @@ module _ (kind status lifetime : ℕ) (name items buffer : List ℕ) (size : ℕ
   abbrev after_check : Report → Outcome
   after_check (table-refused n p) = refused n p
   after_check (accepted n) =
-      cond (is_found (find_at (take size buffer) kind name)) (refused 64 nowhere)
+      cond (is_some (find_at (take size buffer) kind name)) (refused 64 nowhere)
       (cond (is_fit kind status name items size n (length buffer)) (appended (new_size size name items)) (refused 65 nowhere))
 
   abbrev tested : Outcome

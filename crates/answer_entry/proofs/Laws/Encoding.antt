@@ -1,6 +1,6 @@
 -- The bytes of an entry: their number, written piece after piece, and when what is written is what the layout says. From the definitions of
 -- Encoding and the laws on writing of `text`.
-use Prim.Native.Nat.{ℕ, ◌+◌, ◌/◌, ◌%◌, ◌^◌, ◌≤◌, ◌<◌}
+use Prim.Native.Nat.{ℕ, ◌+◌, ◌/◌, ◌%◌, ◌≤◌}
 use mathlib.Core.Path.{◌≡◌, subst}
 use mathlib.Core.List.{List, [], ◌∷◌, ◌++◌}
 use native.Mathlib.Omega.{arith}
@@ -43,17 +43,6 @@ module _ (kind status lifetime : ℕ) (name items : List ℕ) where
       rw (m, n, o, p)
 
 module _ (out : List ℕ) (at : ℕ) (o₁ : List ℕ) (n₁ : ℕ) (o₂ : List ℕ) (n₂ : ℕ) where
-  pub two_written : (n : ℕ) → Wrote (n % 256 ∷ []) out at o₁ n₁ → Wrote (n / 256 % 256 ∷ []) o₁ n₁ o₂ n₂ → Wrote (low_bytes n) out at o₂ n₂
-  unfolding low_bytes
-  two_written n v w = wrote_then out at (n % 256 ∷ []) (n / 256 % 256 ∷ []) o₁ o₂ n₁ n₂ v w
-
-  pub four_written : (n : ℕ) → n < 2 ^ 32 → Wrote (low_bytes n) out at o₁ n₁ → Wrote (low_bytes (n / 65536)) o₁ n₁ o₂ n₂ → Wrote (four_bytes n) out at o₂ n₂
-  unfolding low_bytes four_bytes
-  four_written n h v w =
-      let e : n / 65536 / 256 % 256 ≡ n / 16777216 = omega arith in
-      subst (λ (k : ℕ). Wrote (n % 256 ∷ n / 256 % 256 ∷ n / 65536 % 256 ∷ k ∷ []) out at o₂ n₂) e
-      (wrote_then out at (n % 256 ∷ n / 256 % 256 ∷ []) (n / 65536 % 256 ∷ n / 65536 / 256 % 256 ∷ []) o₁ o₂ n₁ n₂ v w)
-
   module _ (o₃ : List ℕ) (n₃ : ℕ) (kind status lifetime : ℕ) (name : List ℕ) where
     pub head_written : (o₄ : List ℕ) (n₄ : ℕ) (o₅ : List ℕ) (n₅ : ℕ) → Wrote (low_bytes kind) out at o₁ n₁ → Wrote (status ∷ []) o₁ n₁ o₂ n₂
         → Wrote (four_bytes lifetime) o₂ n₂ o₃ n₃ → Wrote (length name % 256 ∷ []) o₃ n₃ o₄ n₄ → Wrote name o₄ n₄ o₅ n₅

@@ -1,20 +1,16 @@
 -- `append_checked` meets its contract. From the rules and what is read back of a written array.
 use Rattle.std.proofs.Common.{rules}
-use Rattle.text.proofs.Laws.Writing.{value_inside, value_whole}
-use Rattle.answer_entry.proofs.Laws.Rules.{lowered_room, lowered_length, lowered_through, checked_long}
+use Rattle.answer_entry.proofs.Laws.Rules.{lowered_inside, lowered_length, lowered_through, checked_long}
 use Rattle.answer_entry.proofs.append_checked.Goals as goal
 
-pub returns-then-name-gt-MOST_NAME : goal.returns-then-name-gt-MOST_NAME
-returns-then-name-gt-MOST_NAME c = search checked_long
+pub returns-then-entry-gt-MOST_NAME : goal.returns-then-entry-gt-MOST_NAME
+returns-then-entry-gt-MOST_NAME c = search checked_long
 
 pub slice_bounds-lowered-end : goal.slice_bounds-lowered-end
-slice_bounds-lowered-end c = search (value_inside, lowered_room)
-
-pub slice_bounds-append_lowered-end : goal.slice_bounds-append_lowered-end
-slice_bounds-append_lowered-end c = search (value_whole, lowered_room)
+slice_bounds-lowered-end c = lowered_inside _ c.if-entry-gt-MOST_NAME.false _ (simp c.new-out.ensures.out) _ c.new-out.ensures.at _ _ c.put_lowered.ensures.wrote _ (search rules)
 
 pub append_lowered-requires : goal.append_lowered-requires
-append_lowered-requires c = search (lowered_length, rules)
+append_lowered-requires c = (c.requires, lowered_length _ c.if-entry-gt-MOST_NAME.false _ (simp c.new-out.ensures.out) _ c.new-out.ensures.at _ _ c.put_lowered.ensures.wrote _ (search rules))
 
 pub returns : goal.returns
-returns c = search lowered_through
+returns c = lowered_through _ c.if-entry-gt-MOST_NAME.false _ (simp c.new-out.ensures.out) _ c.new-out.ensures.at _ _ c.put_lowered.ensures.wrote _ (search rules) _ _ _ _ _ _ _ _ c.append_lowered.ensures

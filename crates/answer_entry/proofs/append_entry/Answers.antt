@@ -1,8 +1,9 @@
 -- `append_entry` meets its contract. From the rules.
 use Rattle.std.proofs.Common.{arith}
+use Rattle.std.proofs.lemmas.Result.{err_from_is_err_and}
 use lib.ListN.{length-take}
 use Rattle.answer_entry.specs.Appending.{beyond}
-use Rattle.answer_entry.proofs.Laws.Rules.{append_checks, append_too_long, append_malformed, append_repeated}
+use Rattle.answer_entry.proofs.Laws.Rules.{append_checks, append_refused}
 use Rattle.answer_entry.proofs.append_entry.Goals as goal
 
 pub returns-then-table-size : goal.returns-then-table-size
@@ -12,13 +13,8 @@ pub slice_bounds-check_table-end-2 : goal.slice_bounds-check_table-end-2
 slice_bounds-check_table-end-2 c = simp length-take (omega arith)
 
 pub append_checked-requires : goal.append_checked-requires
-append_checked-requires c = search append_checks
+append_checked-requires c = search (append_checks, c.in_ok-count.was)
 
-pub returns-in-TooLong : goal.returns-in-TooLong
-returns-in-TooLong c = search append_too_long
-
-pub returns-in-Malformed : goal.returns-in-Malformed
-returns-in-Malformed c = search append_malformed
-
-pub returns-in-Repeated : goal.returns-in-Repeated
-returns-in-Repeated c = search append_repeated
+pub returns-in_err-count : goal.returns-in_err-count
+returns-in_err-count c =
+    let p = err_from_is_err_and c.from_residual.result c.from_residual.ensures.1 in rw p.1 (search (append_refused, c.in_err-count.was, p.2))

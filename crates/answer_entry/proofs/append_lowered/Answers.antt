@@ -7,14 +7,16 @@ use Rattle.answer_entry.proofs.append_lowered.Goals as goal
 pub slice_bounds-find-end-2 : goal.slice_bounds-find-end-2
 slice_bounds-find-end-2 c = simp length-take (omega arith)
 
-pub returns-in_default : goal.returns-in_default
-returns-in_default c = search lowered_found
+pub returns-then-is_some : goal.returns-then-is_some
+returns-then-is_some c = search lowered_found
 
 pub is_fit-requires : goal.is_fit-requires
 is_fit-requires c = search (checked_short, rules)
 
-pub returns-then-is_fit : goal.returns-then-is_fit
-returns-then-is_fit c = search lowered_added
+pub returns-then-not-is_fit : goal.returns-then-not-is_fit
+returns-then-not-is_fit c = search lowered_unfit
 
 pub returns : goal.returns
-returns c = search lowered_unfit
+returns c =
+    lowered_added _ _ _ _ _ _ _ _ c.requires.0 _ c.find.ensures.value _ c.is_some.ensures c.if-is_some.false _ c.is_fit.ensures c.if-not-is_fit.false
+    (search rules) c.requires.1 _ _ c.put_entry.ensures.wrote _ (search rules)

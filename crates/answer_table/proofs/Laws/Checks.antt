@@ -1,5 +1,6 @@
 -- The check of a table against the productions: its answer is the one that the productions give (sound), and they give no other (complete),
 -- so number, place and count of an answer are determined. From the laws of one entry (Encoding), of entries and of finding.
+use Rattle.std.proofs.Common.{is_some, None, Option, Some, Result, Ok, Err}
 use Prim.Native.Nat.{ℕ, zero, suc, ◌+◌, ◌≤◌, ◌<◌}
 use mathlib.Core.Path.{◌≡◌, refl, sym, ap, subst, ◌∙◌}
 use mathlib.Core.List.{List, [], ◌∷◌, ◌++◌, append-nil, append_assoc}
@@ -16,14 +17,12 @@ use Rattle.text.proofs.Laws.Tests.{cond-elim}
 use Rattle.answer_table.specs.Layout.{Entry, EncodesIn, EntriesIn, none, more, distinct}
 use Rattle.answer_table.specs.Numbers.{Report, accepted, refused, byte, reported}
 use Rattle.answer_table.specs.Answers.{most_entries, EncodedIn, NoEntryIn, TableAnswersIn, too_long, malformed, repeated, whole}
-use Rattle.answer_table.specs.Reader.{header_of, is_well, name_of, entry_of, find_in, is_found, step_after, step_at, check_after, check_from, check_in}
+use Rattle.answer_table.specs.Reader.{header_of, is_well, name_of, entry_of, find_in, step_after, step_at, check_after, check_from, check_in}
 use Rattle.answer_table.specs.declared.Layout.{Layout}
 use Rattle.answer_table.specs.declared.entries.Header.{Header}
-use Rattle.answer_table.specs.declared.entries.Header.TheVariants.{Whole, Broken}
-use Rattle.answer_table.specs.declared.Step.{Step}
-use Rattle.answer_table.specs.declared.TableAnswer.{TableAnswer}
-use Rattle.answer_table.specs.declared.TableAnswer.TheVariants.{Accepted, Malformed, Repeated}
-use Rattle.answer_table.proofs.Laws.Encoding.{header_facts, well_sound, well_complete}
+use Rattle.answer_table.specs.declared.TableError.{TableError}
+use Rattle.answer_table.specs.declared.TableError.TheVariants.{TooLong, Malformed, Repeated}
+use Rattle.answer_table.proofs.Laws.Encoding.{header_facts, head_of, well_sound, well_complete}
 use Rattle.answer_table.proofs.Laws.Entries.{entries_snoc, distinct_snoc, distinct_before}
 use Rattle.answer_table.proofs.Laws.Finding.{found_iff}
 
@@ -33,60 +32,57 @@ record Stands (lay : Layout) (t : List ℕ) (i size : ℕ) (seen : Bool) : Type 
   encodes : EncodesIn lay (take size (drop i t)) it
   inside : size ≤ length (drop i t)
   some : 6 ≤ size
-  before : is_found (find_in lay (take i t) it.kind it.name) ≡ seen
+  before : is_some (find_in lay (take i t) it.kind it.name) ≡ seen
 
 -- what each answer at a place says
-abbrev StepRight : Layout → List ℕ → ℕ → Step → Type 0
-StepRight lay t i (Step.Next next) = (size : ℕ) × (next ≡ i + size) × Stands lay t i size false
-StepRight lay t i Step.Malformed = NoEntryIn lay (drop i t)
-StepRight lay t i Step.Repeated = (size : ℕ) × Stands lay t i size true
+abbrev StepRight : Layout → List ℕ → ℕ → Result ℕ TableError → Type 0
+StepRight lay t i (Ok next) = (size : ℕ) × (next ≡ i + size) × Stands lay t i size false
+StepRight lay t i (Err TooLong) = ⊥
+StepRight lay t i (Err (Malformed p)) = (p ≡ i) × NoEntryIn lay (drop i t)
+StepRight lay t i (Err (Repeated p)) = (size : ℕ) × (p ≡ i) × Stands lay t i size true
 
 step_right : (lay : Layout) (t : List ℕ) (i : ℕ) → StepRight lay t i (step_at lay t i)
 unfolding step_at step_after entry_of
 step_right lay t i = by (header_of lay (drop i t)) refl
   where
-    by : (h : Header) → header_of lay (drop i t) ≡ h → StepRight lay t i (step_after lay t i h)
-    by Broken q = λ w after e s p. let r = well_complete p after in let z : ◌≡◌ {A = ℕ} 0 1 = cc r.header in omega arith
-    by (Whole kind status n size) q =
-        let f = header_facts lay (drop i t) kind status n size q in
-        cond-elim (StepRight lay t i) (is_well lay (drop i t) (Whole kind status n size))
-        (λ a. let p = well_sound (drop i t) kind status n size q a in
-        cond-elim (StepRight lay t i) (is_found (find_in lay (take i t) kind (name_of lay (drop i t) n)))
-        (λ b. (size, record { it = entry_of lay (drop i t) kind status n size; encodes = p; inside = f.1; some = omega (arith, f.0); before = b }))
-        (λ b. (size, refl, record { it = entry_of lay (drop i t) kind status n size; encodes = p; inside = f.1; some = omega (arith, f.0); before = b })))
-        (λ a w after e s p. let r = well_complete p after in let z : ◌≡◌ {A = ℕ} 0 1 = cc (r.header, r.well) in omega arith)
+    by : (x : Option Header) → header_of lay (drop i t) ≡ x → StepRight lay t i (step_after lay t i x)
+    by None q = (refl, λ w after e s p. let r = well_complete p after in let z : ◌≡◌ {A = ℕ} 0 1 = cc r.header in omega arith)
+    by (Some h) q =
+        let f = header_facts lay (drop i t) h q in
+        cond-elim (StepRight lay t i) (is_well lay (drop i t) h)
+        (λ a. let p = well_sound (drop i t) h q a in
+        cond-elim (StepRight lay t i) (is_some (find_in lay (take i t) h.kind (name_of lay (drop i t) h)))
+        (λ b. (h.size, refl, record { it = entry_of lay (drop i t) h; encodes = p; inside = f.1; some = omega (arith, f.0); before = b }))
+        (λ b. (h.size, refl, record { it = entry_of lay (drop i t) h; encodes = p; inside = f.1; some = omega (arith, f.0); before = b })))
+        (λ a. (refl, λ w after e s p. let r = well_complete p after in let z : ◌≡◌ {A = ℕ} 0 1 = cc (r.header, r.well) in omega arith))
 
 -- one turn of the check, by what it meets
 module _ (lay : Layout) (f : ℕ) (t : List ℕ) (i count : ℕ) where
-  pub check_end : length t ≤ i → check_from lay f t i count ≡ Accepted count
+  pub check_end : length t ≤ i → check_from lay f t i count ≡ Ok count
   unfolding check_from
   check_end h = by f
     where
-      by : (f : ℕ) → check_from lay f t i count ≡ Accepted count
+      by : (f : ℕ) → check_from lay f t i count ≡ Ok count
       by zero = refl
       by (suc f) = simp (le-ltb i (length t) h)
 
   module _ (here : i < length t) where
-    pub check_full : count ≡ 512 → check_from lay (suc f) t i count ≡ Malformed i
+    pub check_full : count ≡ 512 → check_from lay (suc f) t i count ≡ Err (Malformed i)
     unfolding check_from
     check_full h = simp (lt-ltb i (length t) here, eq-eqb count 512 h)
 
     module _ (few : count ≡ 512 → ⊥) where
-      check_step : (s : Step) → step_at lay t i ≡ s → check_from lay (suc f) t i count ≡ check_after i count s (check_from lay f t)
+      check_step : (s : Result ℕ TableError) → step_at lay t i ≡ s → check_from lay (suc f) t i count ≡ check_after count s (check_from lay f t)
       unfolding check_from
       check_step s h = simp (lt-ltb i (length t) here, ne_eqb count 512 few, h)
 
-      pub check_next : (next : ℕ) → step_at lay t i ≡ Step.Next next → check_from lay (suc f) t i count ≡ check_from lay f t next (count + 1)
+      pub check_next : (next : ℕ) → step_at lay t i ≡ Ok next → check_from lay (suc f) t i count ≡ check_from lay f t next (count + 1)
       unfolding check_after
-      check_next next h = check_step (Step.Next next) h
+      check_next next h = check_step (Ok next) h
 
-      pub check_bad : step_at lay t i ≡ Step.Malformed → check_from lay (suc f) t i count ≡ Malformed i
+      pub check_bad : (e : TableError) → step_at lay t i ≡ Err e → check_from lay (suc f) t i count ≡ Err e
       unfolding check_after
-      check_bad h = check_step Step.Malformed h
-
-      pub check_again : step_at lay t i ≡ Step.Repeated → check_from lay (suc f) t i count ≡ Repeated i
-      unfolding check_after
-      check_again h = check_step Step.Repeated h
+      check_bad e h = check_step (Err e) h
 
 -- one entry more before the place
 encoded_next : {lay : Layout} (t : List ℕ) (i size : ℕ) {es : List Entry} (s : Stands lay t i size false) → EncodedIn lay (take i t) es → length es < 512
@@ -104,8 +100,8 @@ module _ (lay : Layout) (t : List ℕ) (short : length t ≤ 65535) where
   unfolding check_from check_after
   sound_from zero i count es h l p n = absurd (omega arith)
   sound_from (suc f) i count es h l p n =
-      cond-elim (λ (a : TableAnswer). TableAnswersIn lay t (reported a)) (ltb i (length t))
-      (λ a. cond-elim (λ (a : TableAnswer). TableAnswersIn lay t (reported a)) (eqb count 512)
+      cond-elim (λ (a : Result ℕ TableError). TableAnswersIn lay t (reported a)) (ltb i (length t))
+      (λ a. cond-elim (λ (a : Result ℕ TableError). TableAnswersIn lay t (reported a)) (eqb count 512)
       (λ b. at_place (malformed (take i t) (drop i t) short cut p (rest a) (inl (n ∙ eqb-true count 512 b))))
       (λ b. by (sound_from f) a (eqb-false count 512 b) (step_at lay t i) refl))
       (λ a. subst (λ (k : ℕ). TableAnswersIn lay t (accepted k)) n
@@ -125,48 +121,49 @@ module _ (lay : Layout) (t : List ℕ) (short : length t ≤ 65535) where
 
       by : ((j m : ℕ) (fs : List Entry) → j ≤ length t → length t < f + j → EncodedIn lay (take j t) fs → length fs ≡ m
           → TableAnswersIn lay t (reported (check_from lay f t j m)))
-          → ltb i (length t) ≡ true → (count ≡ 512 → ⊥) → (s : Step) → step_at lay t i ≡ s
-          → TableAnswersIn lay t (reported (check_after i count s (check_from lay f t)))
-      by ih a b (Step.Next next) q =
-          let r : StepRight lay t i (Step.Next next) = subst (StepRight lay t i) q (step_right lay t i) in
+          → ltb i (length t) ≡ true → (count ≡ 512 → ⊥) → (s : Result ℕ TableError) → step_at lay t i ≡ s
+          → TableAnswersIn lay t (reported (check_after count s (check_from lay f t)))
+      by ih a b (Ok next) q =
+          let r : StepRight lay t i (Ok next) = subst (StepRight lay t i) q (step_right lay t i) in
           let k = p.few in
           let e = encoded_next t i r.0 r.2 p (omega arith) in
           ih next (count + 1) (es ++ (r.2.it ∷ [])) (omega (arith, r.1, r.2.inside, length-drop i t)) (omega (arith, r.1, r.2.some))
           (subst (λ (j : ℕ). EncodedIn lay (take j t) (es ++ (r.2.it ∷ []))) (sym r.1) e)
           (omega (arith, length-append es (r.2.it ∷ [])))
-      by ih a b Step.Malformed q =
-          let r : StepRight lay t i Step.Malformed = subst (StepRight lay t i) q (step_right lay t i) in
-          at_place (malformed (take i t) (drop i t) short cut p (rest a) (inr r))
-      by ih a b Step.Repeated q =
-          let r : StepRight lay t i Step.Repeated = subst (StepRight lay t i) q (step_right lay t i) in
+      by ih a b (Err TooLong) q = let r : StepRight lay t i (Err TooLong) = subst (StepRight lay t i) q (step_right lay t i) in absurd r
+      by ih a b (Err (Malformed j)) q =
+          let r : StepRight lay t i (Err (Malformed j)) = subst (StepRight lay t i) q (step_right lay t i) in
+          rw r.0 (at_place (malformed (take i t) (drop i t) short cut p (rest a) (inr r.1)))
+      by ih a b (Err (Repeated j)) q =
+          let r : StepRight lay t i (Err (Repeated j)) = subst (StepRight lay t i) q (step_right lay t i) in
           let k = p.few in
-          subst (λ (k : ℕ). TableAnswersIn lay t (refused 26 (byte k))) place
+          rw r.1 (subst (λ (k : ℕ). TableAnswersIn lay t (refused 26 (byte k))) place
           (repeated (take i t) (take r.0 (drop i t)) (drop r.0 (drop i t)) short
-          (cut ∙ ap (λ (u : List ℕ). take i t ++ u) (sym (take-append-drop r.0 (drop i t)))) p (omega arith) r.1.encodes
-          (sym (found_iff p.entries r.1.it.kind r.1.it.name) ∙ r.1.before))
+          (cut ∙ ap (λ (u : List ℕ). take i t ++ u) (sym (take-append-drop r.0 (drop i t)))) p (omega arith) r.2.encodes
+          (sym (found_iff p.entries r.2.it.kind r.2.it.name) ∙ r.2.before)))
 
 -- the check's answer is the one that the productions give
 pub table_answers : {lay : Layout} (t : List ℕ) → TableAnswersIn lay t (reported (check_in lay t))
 unfolding check_in distinct
 table_answers {lay} t =
-    cond-elim (λ (a : TableAnswer). TableAnswersIn lay t (reported a)) (ltb 65535 (length t)) (λ a. too_long (ltb-true 65535 (length t) a))
+    cond-elim (λ (a : Result ℕ TableError). TableAnswersIn lay t (reported a)) (ltb 65535 (length t)) (λ a. too_long (ltb-true 65535 (length t) a))
     (λ a. sound_from lay t (ltb-false 65535 (length t) a) (suc (length t)) 0 0 [] (omega arith) (omega arith)
     (record { entries = none; few = omega arith; once = refl }) refl)
 
 -- a well-formed entry is read where it stands
 module _ {lay : Layout} {w : List ℕ} {e : Entry} (p : EncodesIn lay w e) (front rest : List ℕ) where
   step_complete : step_at lay (front ++ (w ++ rest)) (length front)
-      ≡ cond (is_found (find_in lay front e.kind e.name)) Step.Repeated (Step.Next (length front + length w))
+      ≡ cond (is_some (find_in lay front e.kind e.name)) (Err (Repeated (length front))) (Ok (length front + length w))
   unfolding step_at step_after entry_of
   step_complete =
       let r = well_complete p rest in
-      let n : name_of lay (w ++ rest) (length e.name) ≡ e.name = ap (λ (x : Entry). x.name) r.holds in
+      let n : name_of lay (w ++ rest) (head_of e (length w)) ≡ e.name = ap (λ (x : Entry). x.name) r.holds in
       simp (drop-append_seam, take-append_seam, r.header, r.well, n)
 
-  step_new : is_found (find_in lay front e.kind e.name) ≡ false → step_at lay (front ++ (w ++ rest)) (length front) ≡ Step.Next (length front + length w)
+  step_new : is_some (find_in lay front e.kind e.name) ≡ false → step_at lay (front ++ (w ++ rest)) (length front) ≡ Ok (length front + length w)
   step_new h = step_complete ∙ simp h
 
-  step_old : is_found (find_in lay front e.kind e.name) ≡ true → step_at lay (front ++ (w ++ rest)) (length front) ≡ Step.Repeated
+  step_old : is_some (find_in lay front e.kind e.name) ≡ true → step_at lay (front ++ (w ++ rest)) (length front) ≡ Err (Repeated (length front))
   step_old h = step_complete ∙ simp h
 
 -- the check comes to a place after some entries, with turns left
@@ -189,7 +186,7 @@ walk {lay} (more {w = w} {rest = u} {e = e} {es = es} p v) t front ds rest q d o
     let n = length-append front w in
     let k = length-append ds (e ∷ []) in
     let g = step_new p front (u ++ rest) (found_iff d e.kind e.name ∙ distinct_before ds e es o) in
-    let g₁ : step_at lay t i ≡ Step.Next (i + length w) = cc in
+    let g₁ : step_at lay t i ≡ Ok (i + length w) = cc in
     let h = check_next lay f t i count (omega (arith, ap length q₁, length-append (front ++ w) (u ++ rest))) (omega arith) (i + length w) g₁ in
     let r = walk v t (front ++ w) (ds ++ (e ∷ [])) rest q₁ (entries_snoc d p) (simp append_snoc o) f (i + length w) (count + 1) (omega arith) (omega arith)
     (omega arith) (omega arith) in
@@ -211,16 +208,17 @@ comes_to_lem {lay} {front} {es} p t rest q short =
     turn (suc f) l e = (f, e)
 
 -- where no well-formed entry begins, the step says so
-ill_step : (lay : Layout) (t : List ℕ) (i : ℕ) → NoEntryIn lay (drop i t) → step_at lay t i ≡ Step.Malformed
+ill_step : (lay : Layout) (t : List ℕ) (i : ℕ) → NoEntryIn lay (drop i t) → step_at lay t i ≡ Err (Malformed i)
 ill_step lay t i ill = by (step_at lay t i) (step_right lay t i)
   where
     never : (size : ℕ) (seen : Bool) → Stands lay t i size seen → ⊥
     never size seen s = ill (take size (drop i t)) (drop size (drop i t)) s.it (sym (take-append-drop size (drop i t))) s.encodes
 
-    by : (s : Step) → StepRight lay t i s → s ≡ Step.Malformed
-    by (Step.Next next) r = absurd (never r.0 false r.2)
-    by Step.Malformed r = refl
-    by Step.Repeated r = absurd (never r.0 true r.1)
+    by : (s : Result ℕ TableError) → StepRight lay t i s → s ≡ Err (Malformed i)
+    by (Ok next) r = absurd (never r.0 false r.2)
+    by (Err TooLong) r = absurd r
+    by (Err (Malformed p)) r = rw r.0
+    by (Err (Repeated p)) r = absurd (never r.0 true r.2)
 
 -- the productions give no other answer: they determine it
 pub table_answers_is : {lay : Layout} {t : List ℕ} {a : Report} → TableAnswersIn lay t a → a ≡ reported (check_in lay t)
@@ -230,14 +228,14 @@ table_answers_is {lay} {t} (malformed front rest {es = es} short q p some o) =
     let c = comes_to_lem p t rest q short in
     let here : length front < length t = omega (arith, ap length q, length-append front rest) in
     let at_front : drop (length front) t ≡ rest = ap (drop (length front)) q ∙ drop-append_seam front rest in
-    let bad : (length es ≡ 512 → ⊥) → NoEntryIn lay rest → check_from lay (suc c.0) t (length front) (length es) ≡ Malformed (length front) =
-    λ few ill. check_bad lay c.0 t (length front) (length es) here few (ill_step lay t (length front) (subst (NoEntryIn lay) (sym at_front) ill)) in
+    let bad : (length es ≡ 512 → ⊥) → NoEntryIn lay rest → check_from lay (suc c.0) t (length front) (length es) ≡ Err (Malformed (length front)) =
+    λ few ill. check_bad lay c.0 t (length front) (length es) here few (Malformed (length front)) (ill_step lay t (length front) (subst (NoEntryIn lay) (sym at_front) ill)) in
     ap reported (sym (c.1 ∙ by c.0 here bad o (dec_lt (length es) 512)))
   where
     by : (f : ℕ) → length front < length t
-        → ((length es ≡ 512 → ⊥) → NoEntryIn lay rest → check_from lay (suc f) t (length front) (length es) ≡ Malformed (length front))
+        → ((length es ≡ 512 → ⊥) → NoEntryIn lay rest → check_from lay (suc f) t (length front) (length es) ≡ Err (Malformed (length front)))
         → (length es ≡ most_entries) ⊎ NoEntryIn lay rest → Dec (length es < 512)
-        → check_from lay (suc f) t (length front) (length es) ≡ Malformed (length front)
+        → check_from lay (suc f) t (length front) (length es) ≡ Err (Malformed (length front))
     by f here bad o (no l) = check_full lay f t (length front) (length es) here (omega (arith, p.few))
     by f here bad (inl n) (yes l) = absurd (omega arith)
     by f here bad (inr ill) (yes l) = bad (λ n. omega arith) ill
@@ -246,14 +244,14 @@ table_answers_is {lay} {t} (repeated front w rest {es = es} {e = e} short q p fe
     let s = (well_complete x rest).some in
     let here : length front < length t = omega (arith, ap length q, length-append front (w ++ rest), length-append w rest) in
     let old = step_old x front rest (found_iff p.entries e.kind e.name ∙ h) in
-    let o : step_at lay t (length front) ≡ Step.Repeated = ap (λ (u : List ℕ). step_at lay u (length front)) q ∙ old in
-    ap reported (sym (c.1 ∙ check_again lay c.0 t (length front) (length es) here (omega arith) o))
+    let o : step_at lay t (length front) ≡ Err (Repeated (length front)) = ap (λ (u : List ℕ). step_at lay u (length front)) q ∙ old in
+    ap reported (sym (c.1 ∙ check_bad lay c.0 t (length front) (length es) here (omega arith) (Repeated (length front)) o))
 table_answers_is {lay} {t} (whole {es = es} short p) =
     let c = comes_to_lem p t [] (sym (append-nil t)) short in
     ap reported (sym (c.1 ∙ check_end lay (suc c.0) t (length t) (length es) (omega arith)))
 
 -- what a whole entry leaves to go on with
-pub step_next : (lay : Layout) (t : List ℕ) (i next : ℕ) → step_at lay t i ≡ Step.Next next → (i < next) × (next ≤ length t)
+pub step_next : (lay : Layout) (t : List ℕ) (i next : ℕ) → step_at lay t i ≡ Ok next → (i < next) × (next ≤ length t)
 step_next lay t i next e =
-    let r : StepRight lay t i (Step.Next next) = subst (StepRight lay t i) e (step_right lay t i) in
+    let r : StepRight lay t i (Ok next) = subst (StepRight lay t i) e (step_right lay t i) in
     (omega (arith, r.1, r.2.some), omega (arith, r.1, r.2.some, r.2.inside, length-drop i t))

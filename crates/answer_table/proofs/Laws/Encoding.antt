@@ -1,5 +1,6 @@
 -- One entry, read as the code reads it, against the productions: what the reader takes for a well-formed entry is one, and each well-formed
 -- entry is read, whatever follows it. For either layout.
+use Rattle.std.proofs.Common.{None, Option, Some}
 use Prim.Native.Nat.{ℕ, suc, ◌+◌, ◌-◌, ◌≤◌}
 use mathlib.Core.Path.{◌≡◌, refl, sym, ap, subst, ◌∙◌}
 use mathlib.Core.List.{List, [], ◌∷◌, ◌++◌, append-nil, append_assoc}
@@ -18,34 +19,33 @@ use Rattle.answer_table.specs.Reader.{number, items_of, items_fit, header_of, li
 use Rattle.answer_table.specs.declared.Layout.{Layout}
 use Rattle.answer_table.specs.declared.Layout.TheVariants.{Old, New}
 use Rattle.answer_table.specs.declared.entries.Header.{Header}
-use Rattle.answer_table.specs.declared.entries.Header.TheVariants.{Whole, Broken}
 use Rattle.answer_table.proofs.Laws.Items.{two_front, of_none, items_sound, items_complete}
 
 -- a header that was read: where its parts stand, and that the entry ends within the list
-record Placed (lay : Layout) (s : List ℕ) (kind status n size : ℕ) : Type 0 where
-  kind_place : kind ≡ number (drop 2 s)
-  status_place : status ≡ at s 4
-  name_place : n ≡ at s (5 + lifetime_bytes lay)
-  size_place : size ≡ 2 + number s
-  name_within : header_size lay + n ≤ size
-  within : size ≤ length s
+record Placed (lay : Layout) (s : List ℕ) (h : Header) : Type 0 where
+  kind_place : h.kind ≡ number (drop 2 s)
+  status_place : h.status ≡ at s 4
+  name_place : h.name ≡ at s (5 + lifetime_bytes lay)
+  size_place : h.size ≡ 2 + number s
+  name_within : header_size lay + h.name ≤ h.size
+  within : h.size ≤ length s
 
-abbrev HeaderRight : Layout → List ℕ → Header → Type 0
-HeaderRight lay s (Whole kind status n size) = Placed lay s kind status n size
-HeaderRight lay s Broken = Unit {0}
+abbrev HeaderRight : Layout → List ℕ → Option Header → Type 0
+HeaderRight lay s (Some h) = Placed lay s h
+HeaderRight lay s None = Unit {0}
 
 header_right : (lay : Layout) (s : List ℕ) → HeaderRight lay s (header_of lay s)
 unfolding header_of
 header_right lay s =
     let m = header_size lay in
     let n = at s (5 + lifetime_bytes lay) in
-    let whole = Whole (number (drop 2 s)) (at s 4) n (2 + number s) in
-    cond-elim (HeaderRight lay s) (ltb (length s) m) {x = Broken}
-    {y = cond (ltb (length s) (2 + number s)) Broken (cond (ltb (2 + number s) (m + n)) Broken whole)}
+    let whole : Option Header = Some (record { kind = number (drop 2 s); status = at s 4; name = n; size = 2 + number s }) in
+    cond-elim (HeaderRight lay s) (ltb (length s) m) {x = None}
+    {y = cond (ltb (length s) (2 + number s)) None (cond (ltb (2 + number s) (m + n)) None whole)}
     (λ _. tt)
-    (λ _. cond-elim (HeaderRight lay s) (ltb (length s) (2 + number s)) {x = Broken} {y = cond (ltb (2 + number s) (m + n)) Broken whole}
+    (λ _. cond-elim (HeaderRight lay s) (ltb (length s) (2 + number s)) {x = None} {y = cond (ltb (2 + number s) (m + n)) None whole}
     (λ _. tt)
-    (λ p. cond-elim (HeaderRight lay s) (ltb (2 + number s) (m + n)) {x = Broken} {y = whole}
+    (λ p. cond-elim (HeaderRight lay s) (ltb (2 + number s) (m + n)) {x = None} {y = whole}
     (λ _. tt)
     (λ q. record {
       kind_place = refl;
@@ -56,18 +56,17 @@ header_right lay s =
       within = ltb-false (length s) (2 + number s) p;
     })))
 
-placed : (lay : Layout) (s : List ℕ) (kind status n size : ℕ) → header_of lay s ≡ Whole kind status n size → Placed lay s kind status n size
-placed lay s kind status n size e = subst (HeaderRight lay s) e (header_right lay s)
+placed : (lay : Layout) (s : List ℕ) (h : Header) → header_of lay s ≡ Some h → Placed lay s h
+placed lay s h e = subst (HeaderRight lay s) e (header_right lay s)
 
 -- no entry begins at the end
-pub header_none : (lay : Layout) → header_of lay [] ≡ Broken
+pub header_none : (lay : Layout) → header_of lay [] ≡ None
 unfolding header_of
 header_none lay = rw (lt-ltb 0 (header_size lay) (omega arith))
 
 -- an entry's name ends within it, and it within the list
-pub header_facts : (lay : Layout) (s : List ℕ) (kind status n size : ℕ) → header_of lay s ≡ Whole kind status n size
-    → (header_size lay + n ≤ size) × (size ≤ length s)
-header_facts lay s kind status n size e = let p = placed lay s kind status n size e in (p.name_within, p.within)
+pub header_facts : (lay : Layout) (s : List ℕ) (h : Header) → header_of lay s ≡ Some h → (header_size lay + h.name ≤ h.size) × (h.size ≤ length s)
+header_facts lay s h e = let p = placed lay s h e in (p.name_within, p.within)
 
 -- the first bytes of a list
 front_four : (s : List ℕ) → 4 ≤ length s → take 4 s ≡ at s 0 ∷ at s 1 ∷ at s 2 ∷ at s 3 ∷ []
@@ -102,23 +101,25 @@ life_read New s h =
     rw (e, ← (drop-drop 2 5 s), get_or-drop 2 (drop 5 s) 0 0, get_or-drop 2 (drop 5 s) 1 0) (seconds two two)
 
 -- an entry cut out of the list: the header, the name, the items' bytes
-cut : (lay : Layout) (s : List ℕ) (n size : ℕ) → header_size lay + n ≤ size
-    → take size s ≡ take (header_size lay) s ++ (name_of lay s n ++ item_bytes lay s n size)
+cut : (lay : Layout) (s : List ℕ) (h : Header) → header_size lay + h.name ≤ h.size
+    → take h.size s ≡ take (header_size lay) s ++ (name_of lay s h ++ item_bytes lay s h)
 unfolding name_of item_bytes
-cut lay s n size h =
+cut lay s h l =
     let a = header_size lay in
-    let m = size - (a + n) in
-    let e : size ≡ a + (n + m) = omega arith in
+    let n = h.name in
+    let m = h.size - (a + n) in
+    let e : h.size ≡ a + (n + m) = omega arith in
     ap (λ (k : ℕ). take k s) e ∙ take-add a (n + m) s
     ∙ ap (λ (t : List ℕ). take a s ++ t) (take-add n m (drop a s) ∙ ap (λ (t : List ℕ). take n (drop a s) ++ take m t) (drop-drop n a s))
 
-name_length : (lay : Layout) (s : List ℕ) (n : ℕ) → header_size lay + n ≤ length s → length (name_of lay s n) ≡ n
+name_length : (lay : Layout) (s : List ℕ) (h : Header) → header_size lay + h.name ≤ length s → length (name_of lay s h) ≡ h.name
 unfolding name_of
-name_length lay s n h = length-take-le n (drop (header_size lay) s) (simp length-drop (omega arith))
+name_length lay s h l = length-take-le h.name (drop (header_size lay) s) (simp length-drop (omega arith))
 
-bytes_length : (lay : Layout) (s : List ℕ) (n size : ℕ) → size ≤ length s → length (item_bytes lay s n size) ≡ size - (header_size lay + n)
+bytes_length : (lay : Layout) (s : List ℕ) (h : Header) → h.size ≤ length s → length (item_bytes lay s h) ≡ h.size - (header_size lay + h.name)
 unfolding item_bytes
-bytes_length lay s n size h = length-take-le (size - (header_size lay + n)) (drop (header_size lay + n) s) (simp length-drop (omega arith))
+bytes_length lay s h l =
+    length-take-le (h.size - (header_size lay + h.name)) (drop (header_size lay + h.name) s) (simp length-drop (omega arith))
 
 -- items, and none where the status is 2 or 3
 pub record Held (kind status : ℕ) (i : List ℕ) : Type 0 where
@@ -160,52 +161,55 @@ entry_encoded {kind = kind} status name i tl tk tf h =
     entry tl tk tf (and_left (is_kind kind) _ h) (and_left (is_status status) _ h₁) (and_left (is_table_name name) _ h₂) q.held q.may
 
 -- the same bytes by the productions
-module _ (lay : Layout) (s : List ℕ) (kind status n size : ℕ) (p : Placed lay s kind status n size) where
+module _ (lay : Layout) (s : List ℕ) (h : Header) (p : Placed lay s h) where
   headed : header_size lay ≤ length s
   headed = omega (arith, p.name_within, p.within)
 
-  name_long : length (name_of lay s n) ≡ n
-  name_long = name_length lay s n (omega (arith, p.name_within, p.within))
+  name_long : length (name_of lay s h) ≡ h.name
+  name_long = name_length lay s h (omega (arith, p.name_within, p.within))
 
   abbrev its_body : List ℕ
-  its_body = body (at s 2 ∷ at s 3 ∷ []) status (life_of lay s) (name_of lay s n) (item_bytes lay s n size)
+  its_body = body (at s 2 ∷ at s 3 ∷ []) h.status (life_of lay s) (name_of lay s h) (item_bytes lay s h)
 
-  whole : take size s ≡ (at s 0 ∷ at s 1 ∷ []) ++ its_body
+  whole : take h.size s ≡ (at s 0 ∷ at s 1 ∷ []) ++ its_body
   unfolding body
   whole =
-      cut lay s n size p.name_within
-      ∙ ap (λ (t : List ℕ). t ++ (name_of lay s n ++ item_bytes lay s n size)) (front_header s (lifetime_bytes lay) headed)
-      ∙ rw (append_assoc (life_of lay s) (at s (5 + lifetime_bytes lay) ∷ []) (name_of lay s n ++ item_bytes lay s n size), name_long)
+      cut lay s h p.name_within
+      ∙ ap (λ (t : List ℕ). t ++ (name_of lay s h ++ item_bytes lay s h)) (front_header s (lifetime_bytes lay) headed)
+      ∙ rw (append_assoc (life_of lay s) (at s (5 + lifetime_bytes lay) ∷ []) (name_of lay s h ++ item_bytes lay s h), name_long)
       (rw (← p.status_place, ← p.name_place))
 
   whole_length : number s ≡ length its_body
   unfolding body
   whole_length =
       simp length-append
-      (omega (arith, p.size_place, p.name_within, name_long, life_long lay s headed, bytes_length lay s n size p.within))
+      (omega (arith, p.size_place, p.name_within, name_long, life_long lay s headed, bytes_length lay s h p.within))
 
   whole_size : Two (at s 0 ∷ at s 1 ∷ []) (length its_body)
   unfolding number
   whole_size = subst (λ (m : ℕ). Two (at s 0 ∷ at s 1 ∷ []) m) whole_length two
 
-  whole_kind : Two (at s 2 ∷ at s 3 ∷ []) kind
+  whole_kind : Two (at s 2 ∷ at s 3 ∷ []) h.kind
   unfolding number
   whole_kind = subst (λ (m : ℕ). Two (at s 2 ∷ at s 3 ∷ []) m) (sym (p.kind_place ∙ simp get_or-drop)) two
 
-pub well_sound : {lay : Layout} (s : List ℕ) (kind status n size : ℕ) → header_of lay s ≡ Whole kind status n size
-    → is_well lay s (Whole kind status n size) ≡ true → EncodesIn lay (take size s) (entry_of lay s kind status n size)
+pub well_sound : {lay : Layout} (s : List ℕ) (h : Header) → header_of lay s ≡ Some h → is_well lay s h ≡ true
+    → EncodesIn lay (take h.size s) (entry_of lay s h)
 unfolding is_well entry_of
-well_sound {lay} s kind status n size e h =
-    let p = placed lay s kind status n size e in
-    subst (λ (w : List ℕ). EncodesIn lay w (entry_of lay s kind status n size)) (sym (whole lay s kind status n size p))
-    (entry_encoded status (name_of lay s n) (item_bytes lay s n size) (whole_size lay s kind status n size p) (whole_kind lay s kind status n size p)
-    (life_read lay s (headed lay s kind status n size p)) h)
+well_sound {lay} s h e w =
+    let p = placed lay s h e in
+    subst (λ (x : List ℕ). EncodesIn lay x (entry_of lay s h)) (sym (whole lay s h p))
+    (entry_encoded h.status (name_of lay s h) (item_bytes lay s h) (whole_size lay s h p) (whole_kind lay s h p) (life_read lay s (headed lay s h p)) w)
+
+-- the header of an entry of what e holds, of so many bytes
+abbrev pub head_of : Entry → ℕ → Header
+head_of e size = record { kind = e.kind; status = e.status; name = length e.name; size = size }
 
 -- a well-formed entry w of what e holds, read with anything after it
 pub record Read (lay : Layout) (w rest : List ℕ) (e : Entry) : Type 0 where
-  pub header : header_of lay (w ++ rest) ≡ Whole e.kind e.status (length e.name) (length w)
-  pub well : is_well lay (w ++ rest) (Whole e.kind e.status (length e.name) (length w)) ≡ true
-  pub holds : entry_of lay (w ++ rest) e.kind e.status (length e.name) (length w) ≡ e
+  pub header : header_of lay (w ++ rest) ≡ Some (head_of e (length w))
+  pub well : is_well lay (w ++ rest) (head_of e (length w)) ≡ true
+  pub holds : entry_of lay (w ++ rest) (head_of e (length w)) ≡ e
   pub some : 6 ≤ length w
 
 -- the bytes of an entry at the front of a list, as the productions lay them
@@ -220,7 +224,10 @@ record Laid (lay : Layout) (s : List ℕ) (kind status lifetime : ℕ) (name i r
   total : size ≡ header_size lay + (length name + length i)
 
 module _ (lay : Layout) (s : List ℕ) (kind status lifetime : ℕ) (name i rest : List ℕ) (size : ℕ) (p : Laid lay s kind status lifetime name i rest size) where
-  read_header : header_of lay s ≡ Whole kind status (length name) size
+  abbrev head : Header
+  head = record { kind = kind; status = status; name = length name; size = size }
+
+  read_header : header_of lay s ≡ Some head
   unfolding header_of
   read_header =
       simp (
@@ -233,11 +240,11 @@ module _ (lay : Layout) (s : List ℕ) (kind status lifetime : ℕ) (name i rest
         le-ltb size (header_size lay + length name) (omega (arith, p.total)),
       )
 
-  read_name : name_of lay s (length name) ≡ name
+  read_name : name_of lay s head ≡ name
   unfolding name_of
   read_name = ap (take (length name)) p.after ∙ take_at name (i ++ rest) (length name) refl
 
-  read_bytes : item_bytes lay s (length name) size ≡ i
+  read_bytes : item_bytes lay s head ≡ i
   unfolding item_bytes
   read_bytes =
       let a = header_size lay in
@@ -296,10 +303,10 @@ laid_bytes two two (seconds two two) status name i rest e =
 
 -- bytes that lay out an entry, well-formed or not, read with anything after them
 pub record LaidOut (lay : Layout) (w rest : List ℕ) (kind status lifetime : ℕ) (name i : List ℕ) : Type 0 where
-  pub header : header_of lay (w ++ rest) ≡ Whole kind status (length name) (length w)
+  pub header : header_of lay (w ++ rest) ≡ Some (record { kind = kind; status = status; name = length name; size = length w })
   pub life_is : lifetime_at lay (w ++ rest) ≡ lifetime
-  pub name_read : name_of lay (w ++ rest) (length name) ≡ name
-  pub bytes_read : item_bytes lay (w ++ rest) (length name) (length w) ≡ i
+  pub name_read : name_of lay (w ++ rest) (record { kind = kind; status = status; name = length name; size = length w }) ≡ name
+  pub bytes_read : item_bytes lay (w ++ rest) (record { kind = kind; status = status; name = length name; size = length w }) ≡ i
   pub total : length w ≡ header_size lay + (length name + length i)
 
 pub laid_out : {lay : Layout} {l k life : List ℕ} {kind lifetime : ℕ} (status : ℕ) (name i : List ℕ) → Two l (length (body k status life name i))
@@ -340,6 +347,8 @@ entry_none {lay} {l} {k} {life} {kind} status name i tl tk tf h w after e q p =
     let s = l ++ body k status life name i in
     let x = laid_out status name i tl tk tf [] in
     let o : s ++ [] ≡ s = append-nil s in
-    let a : is_well lay s (header_of lay s) ≡ true = rw (q, r.header) r.well in
-    let b : is_well lay s (header_of lay s) ≡ false = rw (rw o at x.header, rw o at x.name_read, rw o at x.bytes_read) h in
-    true_false (is_well lay s (header_of lay s)) a b
+    let head : Header = record { kind = kind; status = status; name = length name; size = length s } in
+    let f : head_of e (length w) ≡ head = let g : Some (head_of e (length w)) ≡ Some head = cc (q, r.header, o, x.header) in cc in
+    let a : is_well lay s head ≡ true = subst (λ (y : Header). is_well lay s y ≡ true) f (rw q r.well) in
+    let b : is_well lay s head ≡ false = rw (rw o at x.name_read, rw o at x.bytes_read) h in
+    true_false (is_well lay s head) a b

@@ -1,5 +1,6 @@
 -- The list of entries that a table encodes is the one that the reader finds, so there is only one, and entries at its front are the first of them;
 -- and kind and name pairs in a list of entries and one more. From the laws of one entry (Encoding).
+use Rattle.std.proofs.Common.{Option, Some}
 use Prim.Native.Nat.{ℕ, zero, suc, ◌≤◌}
 use mathlib.Core.Path.{◌≡◌, refl, sym, ap, subst, ◌∙◌}
 use mathlib.Core.List.{List, [], ◌∷◌, ◌++◌, append-nil, append_assoc}
@@ -16,14 +17,13 @@ use Rattle.answer_table.specs.Layout.{Entry, EncodesIn, EntriesIn, none, more, i
 use Rattle.answer_table.specs.Reader.{header_of, entry_of, entries_after, entries_from, entries_in}
 use Rattle.answer_table.specs.declared.Layout.{Layout}
 use Rattle.answer_table.specs.declared.entries.Header.{Header}
-use Rattle.answer_table.specs.declared.entries.Header.TheVariants.{Whole}
-use Rattle.answer_table.proofs.Laws.Encoding.{header_none, well_complete}
+use Rattle.answer_table.proofs.Laws.Encoding.{header_none, head_of, well_complete}
 
 -- one entry taken off
-pub entries_first : (lay : Layout) (s : List ℕ) (f kind status n size : ℕ) → header_of lay s ≡ Whole kind status n size
-    → entries_from lay (suc f) s ≡ entry_of lay s kind status n size ∷ entries_from lay f (drop size s)
+pub entries_first : (lay : Layout) (s : List ℕ) (f : ℕ) (h : Header) → header_of lay s ≡ Some h
+    → entries_from lay (suc f) s ≡ entry_of lay s h ∷ entries_from lay f (drop h.size s)
 unfolding entries_from entries_after
-entries_first lay s f kind status n size e = ap (λ (h : Header). entries_after lay s h (entries_from lay f)) e
+entries_first lay s f h e = ap (λ (x : Option Header). entries_after lay s x (entries_from lay f)) e
 
 entries_none : (lay : Layout) (f : ℕ) → entries_from lay f [] ≡ []
 unfolding entries_from entries_after
@@ -38,7 +38,7 @@ entries_read (more {w = w} {rest = rest} p q) zero h =
     absurd (omega (arith, r.some, length-append w rest))
 entries_read {lay} (more {w = w} {rest = rest} {e = e} {es = es} p q) (suc f) h =
     let r = well_complete p rest in
-    let a = entries_first lay (w ++ rest) f e.kind e.status (length e.name) (length w) r.header in
+    let a = entries_first lay (w ++ rest) f (head_of e (length w)) r.header in
     let b : entries_from lay f rest ≡ es = entries_read q f (omega (arith, r.some, length-append w rest)) in
     let d : drop (length w) (w ++ rest) ≡ rest = drop-append_seam w rest in
     cc r.holds
@@ -60,12 +60,15 @@ entries_snoc (more p r) q = rw append_assoc (more p (entries_snoc r q))
 -- the entry at the front of bytes is one only, and so is what follows it
 entry_first : {lay : Layout} {w w' : List ℕ} {e e' : Entry} → EncodesIn lay w e → EncodesIn lay w' e' → (r r' : List ℕ) → w ++ r ≡ w' ++ r'
     → (e ≡ e') × (r ≡ r')
-entry_first {w = w} {w' = w'} x x' r r' q =
+entry_first {w = w} {w' = w'} {e = e} {e' = e'} x x' r r' q =
     let a = well_complete x r in
     let b = well_complete x' r' in
     let d = drop-append_seam w r in
     let d' = drop-append_seam w' r' in
-    (cc (a.header, a.holds, b.header, b.holds), cc (a.header, b.header))
+    let g : Some (head_of e (length w)) ≡ Some (head_of e' (length w')) = cc (a.header, b.header) in
+    let f : head_of e (length w) ≡ head_of e' (length w') = cc in
+    let l : length w ≡ length w' = ap (λ (h : Header). h.size) f in
+    (cc (a.holds, b.holds), cc)
 
 -- entries at the front of a table are the first of its entries
 pub entries_cut : {lay : Layout} {front t : List ℕ} {ds es : List Entry} → EntriesIn lay front ds → EntriesIn lay t es → (rest : List ℕ) → t ≡ front ++ rest

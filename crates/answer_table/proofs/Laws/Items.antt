@@ -98,6 +98,19 @@ of_more s h =
     ap (λ (f : ℕ). items_from f s) e ∙ from_more s h n
     ∙ ap (λ (ds : List (List ℕ)). first_item s ∷ ds) (from_enough n (length (other_items s)) (other_items s) (other_less s h n (omega arith)) (omega arith))
 
+-- no more items than bytes
+from_few : (n : ℕ) (s : List ℕ) → length (items_from n s) ≤ n
+unfolding items_from
+from_few zero s = omega arith
+from_few (suc n) s =
+    let h = from_few n (other_items s) in
+    cond-elim (λ (ds : List (List ℕ)). length ds ≤ suc n) (eqb (length s) 0) {x = []} {y = first_item s ∷ items_from n (other_items s)}
+    (λ _. omega arith) (λ _. omega arith)
+
+pub of_few : (s : List ℕ) → length (items_of s) ≤ length s
+unfolding items_of
+of_few s = from_few (length s) s
+
 pub of_none : items_of [] ≡ []
 unfolding items_of
 of_none = from_none 0

@@ -1,5 +1,6 @@
 -- Where what was found stands in the table: an entry's name just before its items, and each item's bytes by its place. From the definitions of
 -- the reader and header_facts (Encoding).
+use Rattle.std.proofs.Common.{None, Option, Some}
 use Prim.Native.Nat.{ℕ, zero, suc, ◌+◌, ◌-◌, ◌≤◌, ◌<◌, min}
 use mathlib.Core.Path.{◌≡◌, refl, sym, ap, subst, ◌∙◌}
 use mathlib.Core.Logic.{⊎_elim}
@@ -15,23 +16,24 @@ use Rattle.text.proofs.Laws.Orders.{le_or_lt}
 use Rattle.text.proofs.Laws.Tests.{and_right}
 use Rattle.text.proofs.Laws.Words.{same_true}
 use Rattle.answer_table.specs.Layout.{header_size}
-use Rattle.answer_table.specs.Reader.{number, first_item, next_item, header_of, lifetime_at, name_of, find_after, find_from, find_in}
+use Rattle.answer_table.specs.Reader.{number, first_item, next_item, header_of, name_of, found_of, find_after, find_from, find_in}
 use Rattle.answer_table.specs.declared.Layout.{Layout}
 use Rattle.answer_table.specs.declared.entries.Header.{Header}
-use Rattle.answer_table.specs.declared.entries.Header.TheVariants.{Whole, Broken}
 use Rattle.answer_table.specs.declared.Found.{Found}
 use Rattle.answer_table.proofs.Laws.Encoding.{header_facts}
 
 -- a name that ends where the items start
-abbrev Named : List ℕ → List ℕ → Found → Type 0
-Named t name (Found.Entry status life start end) = (length name ≤ start) × (part t (start - length name) start ≡ name)
-Named t name Found.Missing = Unit {0}
+abbrev Named : List ℕ → List ℕ → Option Found → Type 0
+Named t name (Some e) = (length name ≤ e.start) × (part t (e.start - length name) e.start ≡ name)
+Named t name None = Unit {0}
 
 -- the name of a header's entry, as a part of the table
-name_part : (lay : Layout) (t : List ℕ) (i n : ℕ) (name : List ℕ) → header_size lay + n ≤ length (drop i t) → name_of lay (drop i t) n ≡ name
-    → (length name ≤ i + (header_size lay + n)) × (part t (i + (header_size lay + n) - length name) (i + (header_size lay + n)) ≡ name)
+name_part : (lay : Layout) (t : List ℕ) (i : ℕ) (h : Header) (name : List ℕ) → header_size lay + h.name ≤ length (drop i t)
+    → name_of lay (drop i t) h ≡ name
+    → (length name ≤ i + (header_size lay + h.name)) × (part t (i + (header_size lay + h.name) - length name) (i + (header_size lay + h.name)) ≡ name)
 unfolding name_of
-name_part lay t i n name h e =
+name_part lay t i h name g e =
+    let n = h.name in
     let m = header_size lay in
     let l : length name ≡ n = sym (ap length e) ∙ length-take-le n (drop m (drop i t)) (omega (arith, length-drop m (drop i t))) in
     let a : i + (m + n) - length name ≡ i + m = omega arith in
@@ -40,28 +42,27 @@ name_part lay t i n name h e =
 
 module _ (lay : Layout) (t : List ℕ) (kind : ℕ) (name : List ℕ) where
   named_from : (f i : ℕ) → Named t name (find_from lay f t kind name i)
-  unfolding find_from find_after
+  unfolding find_from find_after found_of
   named_from zero i = tt
   named_from (suc f) i = go (λ j. named_from f j) (header_of lay (drop i t)) refl
     where
-      by : (status n size : ℕ) → header_size lay + n ≤ length (drop i t) → Named t name (find_from lay f t kind name (i + size)) → (k b : Bool)
-          → (k && same (name_of lay (drop i t) n) name) ≡ b
-          → Named t name (cond b (Found.Entry status (lifetime_at lay (drop i t)) (i + (header_size lay + n)) (i + size)) (find_from lay f t kind name (i + size)))
-      by status n size l r k true e = name_part lay t i n name l (same_true _ _ (and_right k _ e))
-      by status n size l r k false e = r
+      by : (h : Header) → header_size lay + h.name ≤ length (drop i t) → Named t name (find_from lay f t kind name (i + h.size)) → (k b : Bool)
+          → (k && same (name_of lay (drop i t) h) name) ≡ b → Named t name (cond b (Some (found_of lay t i h)) (find_from lay f t kind name (i + h.size)))
+      by h l r k true e = name_part lay t i h name l (same_true _ _ (and_right k _ e))
+      by h l r k false e = r
 
-      go : ((j : ℕ) → Named t name (find_from lay f t kind name j)) → (x : Header) → header_of lay (drop i t) ≡ x
+      go : ((j : ℕ) → Named t name (find_from lay f t kind name j)) → (x : Option Header) → header_of lay (drop i t) ≡ x
           → Named t name (find_after lay t kind name i x (find_from lay f t kind name))
-      go ih Broken e = tt
-      go ih (Whole k status n size) e =
-          let l = header_facts lay (drop i t) k status n size e in
-          by status n size (omega (arith, l.0, l.1)) (ih (i + size)) (eqb k kind) (eqb k kind && same (name_of lay (drop i t) n) name) refl
+      go ih None e = tt
+      go ih (Some h) e =
+          let l = header_facts lay (drop i t) h e in
+          by h (omega (arith, l.0, l.1)) (ih (i + h.size)) (eqb h.kind kind) (eqb h.kind kind && same (name_of lay (drop i t) h) name) refl
 
 -- the name that was looked up stands just before the items of the entry that was found
-pub found_name : (lay : Layout) (t : List ℕ) (kind : ℕ) (name : List ℕ) (status life start end : ℕ)
-    → find_in lay t kind name ≡ Found.Entry status life start end → (length name ≤ start) × (part t (start - length name) start ≡ name)
+pub found_name : (lay : Layout) (t : List ℕ) (kind : ℕ) (name : List ℕ) (x : Found) → find_in lay t kind name ≡ Some x
+    → (length name ≤ x.start) × (part t (x.start - length name) x.start ≡ name)
 unfolding find_in
-found_name lay t kind name status life start end e = subst (Named t name) e (named_from lay t kind name (length t) 0)
+found_name lay t kind name x e = subst (Named t name) e (named_from lay t kind name (length t) 0)
 
 -- the rest of a front
 drop_take : (n m : ℕ) (s : List ℕ) → drop n (take m s) ≡ take (m - n) (drop n s)

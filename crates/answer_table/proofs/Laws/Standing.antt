@@ -1,6 +1,7 @@
 -- Where the items of a table stand: the reader's place of an item is the productions' place (found_item); its bytes stand there (item_stands), also with
 -- more bytes after the table (item_grown); it is one of the entry that is looked up (item_listed), and an item that alone passes a test has one place
 -- (item_one). From the laws of items end to end (Items), of one entry (Encoding) and of lists of entries (Entries, Among).
+use Rattle.std.proofs.Common.{None, Option, Some}
 use Prim.Native.Nat.{ℕ, zero, suc, ◌+◌, ◌≤◌, ◌<◌}
 use mathlib.Core.Path.{◌≡◌, refl, sym, ap, subst, ◌∙◌}
 use mathlib.Core.List.{List, [], ◌∷◌, ◌++◌, append_assoc}
@@ -18,9 +19,10 @@ use Rattle.text.proofs.Laws.Words.{same_true}
 use Rattle.answer_table.specs.Layout.{Entry, is_item, Two, Items, none, more, Lifetime, body, header_size, EncodesIn, entry, EntriesIn, is_pair, holds, distinct}
 use Rattle.answer_table.specs.Standing.{ItemIn}
 use Rattle.answer_table.specs.Lookup.{present, lookup}
-use Rattle.answer_table.specs.Reader.{number, first_item, items_of, next_item, Starts, first, next, header_of, name_of, item_bytes, entry_of, find_after, find_from, find_in}
+use Rattle.answer_table.specs.Reader.{number, first_item, items_of, next_item, Starts, first, next, header_of, name_of, item_bytes, entry_of, found_of, find_after, find_from, find_in}
 use Rattle.answer_table.specs.declared.Layout.{Layout}
 use Rattle.answer_table.specs.declared.Found.{Found}
+use Rattle.answer_table.specs.declared.entries.Header.{Header}
 use Rattle.answer_table.proofs.Laws.Items.{two_front, read_number_lem, read_length_lem, read_first, read_items, items_append, items_snoc}
 use Rattle.answer_table.proofs.Laws.Encoding.{header_none, life_length, laid_out, well_complete}
 use Rattle.answer_table.proofs.Laws.Entries.{entries_snoc, entries_cut, distinct_before}
@@ -110,16 +112,16 @@ record EntryAt (lay : Layout) (t : List ℕ) (kind : ℕ) (name : List ℕ) (sta
   place : start ≡ length front + (header_size lay + length name)
 
 -- what was found is such an entry
-abbrev Stands : Layout → List ℕ → ℕ → List ℕ → Found → Type 0
-Stands lay t kind name (Found.Entry status life start end) = EntryAt lay t kind name start (part t start end)
-Stands lay t kind name Found.Missing = Unit {0}
+abbrev Stands : Layout → List ℕ → ℕ → List ℕ → Option Found → Type 0
+Stands lay t kind name (Some x) = EntryAt lay t kind name x.start (part t x.start x.end)
+Stands lay t kind name None = Unit {0}
 
 module _ (lay : Layout) (t : List ℕ) (kind : ℕ) (name : List ℕ) where
   -- an entry is found, or the search goes on after it
   stands_step : {front w : List ℕ} {ds : List Entry} {e : Entry} → EntriesIn lay front ds → EncodesIn lay w e → (rest : List ℕ) → t ≡ front ++ (w ++ rest)
-      → (g : ℕ → Found) → Stands lay t kind name (g (length front + length w))
+      → (g : ℕ → Option Found) → Stands lay t kind name (g (length front + length w))
       → Stands lay t kind name (find_after lay t kind name (length front) (header_of lay (drop (length front) t)) g)
-  unfolding find_after item_bytes
+  unfolding find_after found_of item_bytes
   stands_step {front} {ds = ds} p
       (entry {l = l} {k = k} {life = life} {name = m} {i = i} {kind = c} {status = status} {lifetime = lifetime} {items = items} tl tk tf hk hs hn it may)
       rest q g z =
@@ -128,8 +130,9 @@ module _ (lay : Layout) (t : List ℕ) (kind : ℕ) (name : List ℕ) where
       let r = laid_out status m i tl tk tf rest in
       let d : drop n t ≡ w ++ rest = ap (drop n) q ∙ drop_at front (w ++ rest) n refl in
       let a = header_size lay + length m in
+      let head : Header = record { kind = c; status = status; name = length m; size = length w } in
       let b : i ≡ part t (n + a) (n + length w) =
-      sym (part_in t n a (length w) ∙ ap (λ (s : List ℕ). item_bytes lay s (length m) (length w)) d ∙ r.bytes_read) in
+      sym (part_in t n a (length w) ∙ ap (λ (s : List ℕ). item_bytes lay s head) d ∙ r.bytes_read) in
       let here : EntryAt lay t c m (n + a) i = record {
         front = front;
         ds = ds;
@@ -150,10 +153,10 @@ module _ (lay : Layout) (t : List ℕ) (kind : ℕ) (name : List ℕ) where
         place = refl;
       } in
       rw (ap (header_of lay) d ∙ r.header)
-      (cond-elim (Stands lay t kind name) (eqb c kind && same (name_of lay (drop n t) (length m)) name)
+      (cond-elim (Stands lay t kind name) (eqb c kind && same (name_of lay (drop n t) head) name)
       (λ y.
       let e = eqb-true c kind (and_left (eqb c kind) _ y) in
-      let f : m ≡ name = sym (ap (λ (s : List ℕ). name_of lay s (length m)) d ∙ r.name_read) ∙ same_true _ name (and_right (eqb c kind) _ y) in
+      let f : m ≡ name = sym (ap (λ (s : List ℕ). name_of lay s head) d ∙ r.name_read) ∙ same_true _ name (and_right (eqb c kind) _ y) in
       rw (← e, ← b) (subst (λ (s : List ℕ). EntryAt lay t c s (n + a) i) f here))
       (λ _. z))
 
@@ -208,14 +211,15 @@ item_at {name = name} b x =
     }
 
 -- the reader's place of an item is the productions' place
-pub found_item : {lay : Layout} {t : List ℕ} {es : List Entry} → EntriesIn lay t es → (kind : ℕ) (name : List ℕ) (status life start end : ℕ)
-    → find_in lay t kind name ≡ Found.Entry status life start end → (i : ℕ) → Starts (part t start end) i → i < length (part t start end)
-    → ItemIn lay t kind name (first_item (drop i (part t start end))) (start + i + 2)
+pub found_item : {lay : Layout} {t : List ℕ} {es : List Entry} → EntriesIn lay t es → (kind : ℕ) (name : List ℕ) (f : Found)
+    → find_in lay t kind name ≡ Some f → (i : ℕ) → Starts (part t f.start f.end) i → i < length (part t f.start f.end)
+    → ItemIn lay t kind name (first_item (drop i (part t f.start f.end))) (f.start + i + 2)
 unfolding find_in
-found_item {lay} {t} p kind name status life start end e i s h =
-    let x : EntryAt lay t kind name start (part t start end) = subst (Stands lay t kind name) e (stands_from lay t kind name none p (length t) refl) in
+found_item {lay} {t} p kind name f e i s h =
+    let x : EntryAt lay t kind name f.start (part t f.start f.end) =
+    subst (Stands lay t kind name) e (stands_from lay t kind name none p (length t) refl) in
     let b = begins (split_at x.held s) h in
-    item_at b (subst (EntryAt lay t kind name start) b.whole x)
+    item_at b (subst (EntryAt lay t kind name f.start) b.whole x)
 
 item_place : {lay : Layout} {t : List ℕ} {kind : ℕ} {name s : List ℕ} {p : ℕ} (a : ItemIn lay t kind name s p)
     → p ≡ length a.front + (header_size lay + length name) + length a.before + 2

@@ -1,30 +1,6 @@
--- `find` meets its contract. The loop's invariant: the search from `at` on, with turns enough, is the whole search. From the rules of the table.
-use Rattle.answer_table.proofs.Laws.Rules.{name_within, size_fits, find_right, find_start, find_out, find_broken, find_less, find_here, find_next}
+-- `find` meets its contract: what it answers is what looking up says. From the rules of the table.
+use Rattle.answer_table.proofs.Laws.Rules.{find_right}
 use Rattle.answer_table.proofs.find.Goals as goal
 
-pub loop-at-init : goal.loop-at-init
-loop-at-init c = search find_start
-
-pub returns-in_default : goal.returns-in_default
-returns-in_default c = search (find_broken, find_right)
-
-pub slice_bounds-is_pair-end : goal.slice_bounds-is_pair-end
-slice_bounds-is_pair-end c = search name_within
-
-pub overflow_add-result-then-is_pair : goal.overflow_add-result-then-is_pair
-overflow_add-result-then-is_pair c = search size_fits
-
-pub returns-then-is_pair : goal.returns-then-is_pair
-returns-then-is_pair c = record { value = search find_here; finds = search (find_here, find_right) }
-
-pub overflow_add-at : goal.overflow_add-at
-overflow_add-at c = search size_fits
-
-pub loop-at-smaller : goal.loop-at-smaller
-loop-at-smaller c = search find_less
-
-pub loop-at-preserved : goal.loop-at-preserved
-loop-at-preserved c = search find_next
-
-pub returns : goal.returns
-returns c = search (find_out, find_right)
+pub returns-clause-finds : goal.returns-clause-finds
+returns-clause-finds c = search find_right

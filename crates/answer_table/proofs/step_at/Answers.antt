@@ -1,9 +1,7 @@
 -- `step_at` meets its contract. From the rules of the table.
-use Rattle.std.proofs.Common.{arith}
-use lib.ListN.{length-take}
-use Rattle.answer_table.proofs.Laws.Covering.{covered_words}
-use Rattle.answer_table.proofs.Laws.Rules.{name_before, name_within, size_within, size_fits, step_broken, step_ill, step_repeated, step_fresh, step_new, step_covered}
+use Rattle.answer_table.proofs.Laws.Rules.{name_before, name_within, size_within, step_broken, step_ill, step_repeated, step_fresh, step_new, step_covered}
 use Rattle.answer_table.proofs.step_at.Goals as goal
+use Rattle.answer_table.proofs.step_at.Goals.{else-not-is_new-via-then-not-is_new+else-is_some, else-not-is_new-via-else-not-is_new}
 
 pub returns-in_default : goal.returns-in_default
 returns-in_default c = search step_broken
@@ -20,26 +18,17 @@ slice_bounds-is_entry-start c = search name_before
 pub slice_bounds-is_entry-end : goal.slice_bounds-is_entry-end
 slice_bounds-is_entry-end c = search size_within
 
-pub is_new-requires : goal.is_new-requires
-is_new-requires c = search covered_words
+pub returns-then-not-is_entry-clause-value : goal.returns-then-not-is_entry-clause-value
+returns-then-not-is_entry-clause-value c = search step_ill
 
-pub overflow_add-result : goal.overflow_add-result
-overflow_add-result c = search size_fits
+pub returns-then-is_some-clause-value : goal.returns-then-is_some-clause-value
+returns-then-is_some-clause-value c = search step_repeated
 
-pub returns-then-is_new : goal.returns-then-is_new
-returns-then-is_new c = record { value = search step_new; covered_after = search step_covered }
+pub returns-clause-value : goal.returns-clause-value
+returns-clause-value c = elim c.else-not-is_new.branch [
+  | else-not-is_new-via-then-not-is_new+else-is_some w ↦ search step_fresh
+  | else-not-is_new-via-else-not-is_new w ↦ search step_new
+]
 
-pub slice_bounds-stands_in-end : goal.slice_bounds-stands_in-end
-slice_bounds-stands_in-end c = simp length-take (omega arith)
-
-pub returns-then-stands_in : goal.returns-then-stands_in
-returns-then-stands_in c = search step_repeated
-
-pub overflow_add-result-then-is_entry : goal.overflow_add-result-then-is_entry
-overflow_add-result-then-is_entry c = search size_fits
-
-pub returns-then-is_entry : goal.returns-then-is_entry
-returns-then-is_entry c = record { value = search step_fresh; covered_after = search step_covered }
-
-pub returns : goal.returns
-returns c = search step_ill
+pub returns-clause-covered_after : goal.returns-clause-covered_after
+returns-clause-covered_after c = search step_covered

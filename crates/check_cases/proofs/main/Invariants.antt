@@ -2,8 +2,5 @@
 use Rattle.std.proofs.Common.{length, ◌≡◌}
 use Rattle.check_cases.proofs.main.Given as goal
 
-abbrev pub invariant-loop-budget : goal.invariant-loop-budget
-invariant-loop-budget l = length l.held ≡ 132234
-
-abbrev pub decreases-loop-budget : goal.decreases-loop-budget
-decreases-loop-budget l = l.budget
+abbrev pub invariant-loop : goal.invariant-loop
+invariant-loop l = length l.held ≡ 132234

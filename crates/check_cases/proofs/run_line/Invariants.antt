@@ -3,8 +3,5 @@ use Rattle.std.proofs.Common.{◌≤◌, length, ◌≡◌}
 use Rattle.check_input.specs.Keeping.{most_kept}
 use Rattle.check_cases.proofs.run_line.Given as goal
 
-abbrev pub invariant-loop-budget : goal.invariant-loop-budget
-invariant-loop-budget g l = (length l.held ≡ length l.initial.held) × (length l.piece ≡ 4096) × (l.at ≤ most_kept)
-
-abbrev pub decreases-loop-budget : goal.decreases-loop-budget
-decreases-loop-budget g l = l.budget
+abbrev pub invariant-loop : goal.invariant-loop
+invariant-loop g l = (length l.held ≡ length l.initial.held) × (length l.piece ≡ 4096) × (l.at ≤ most_kept)

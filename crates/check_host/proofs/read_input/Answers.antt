@@ -3,8 +3,8 @@ use Rattle.std.proofs.Common.{rules}
 use Rattle.check_host.proofs.Laws.Chunks.{holding_start, holding_on}
 use Rattle.check_host.proofs.read_input.Goals as goal
 
-pub loop-budget-init : goal.loop-budget-init
-loop-budget-init g c = search (holding_start, rules)
+pub loop-init : goal.loop-init
+loop-init g c = search (holding_start, rules)
 
-pub loop-budget-preserved : goal.loop-budget-preserved
-loop-budget-preserved g c = search (holding_on, rules)
+pub loop-preserved : goal.loop-preserved
+loop-preserved g c = search (holding_on, rules)

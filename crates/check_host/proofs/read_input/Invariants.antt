@@ -4,8 +4,5 @@ use mathlib.Core.Path.{◌≡◌}
 use lib.ListN.{length}
 use Rattle.check_host.proofs.read_input.Given as goal
 
-abbrev pub invariant-loop-budget : goal.invariant-loop-budget
-invariant-loop-budget g l = Holding l.initial.held l.held l.n × (length l.chunk ≡ 65536)
-
-abbrev pub decreases-loop-budget : goal.decreases-loop-budget
-decreases-loop-budget g l = l.budget
+abbrev pub invariant-loop : goal.invariant-loop
+invariant-loop g l = Holding l.initial.held l.held l.n × (length l.chunk ≡ 65536)

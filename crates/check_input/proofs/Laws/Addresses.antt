@@ -1,5 +1,6 @@
 -- An address that a text writes has at most 45 bytes: eight groups of at most four digits, of which the last two may be an IPv4 address of at most
 -- 15. From the productions of `networks`.
+use Rattle.std.proofs.Common.{None, Option, Some}
 use Prim.Native.Nat.{ℕ, ◌+◌, ◌*◌, ◌≤◌, ◌<◌}
 use mathlib.Core.Path.{◌≡◌, refl}
 use mathlib.Core.List.{List}
@@ -11,8 +12,6 @@ use Rattle.address.specs.declared.Address.{Address}
 use Rattle.networks.specs.Grammar.{Qnum, units, tens, hundred, two_hundred, two_fifty, Ip4Network, octets, Group, digits, Row, Side, nothing, row, Ip6Network, full, short, Network4, Network6}
 use Rattle.networks.specs.Answers.{AddressText, four, six}
 use Rattle.networks.specs.Reader6.{read_address}
-use Rattle.networks.specs.declared.Network.{Network}
-use Rattle.networks.specs.declared.Network.TheVariants.{Is, NoNetwork}
 use Rattle.networks.proofs.Laws.Addresses.{address_sound}
 
 qnum_length : {w : List ℕ} {v : ℕ} → Qnum w v → length w ≤ 3
@@ -54,9 +53,9 @@ address_length : {w : List ℕ} {a : Address} → AddressText w a → length w �
 address_length (four (Network4.of_octets n)) = omega (arith, ip4_length n)
 address_length (six (Network6.of_groups n)) = ip6_length n
 
-pub long_none : (s : List ℕ) → 45 < length s → read_address s ≡ NoNetwork
+pub long_none : (s : List ℕ) → 45 < length s → read_address s ≡ None
 long_none s h = by (read_address s) refl
   where
-    by : (x : Network) → read_address s ≡ x → x ≡ NoNetwork
-    by (Is a) e = let l = address_length (address_sound s a e) in absurd (omega arith)
-    by NoNetwork e = refl
+    by : (x : Option Address) → read_address s ≡ x → x ≡ None
+    by (Some a) e = let l = address_length (address_sound s a e) in absurd (omega arith)
+    by None e = refl

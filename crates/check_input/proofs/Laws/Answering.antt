@@ -1,7 +1,8 @@
 -- The lines that are written are those of what the input comes to, and they fit 640 bytes: a wanted name has at most 253 bytes and a text at most
 -- 500. From the definitions of Lines and the facts of `evaluation`.
+use Rattle.std.proofs.Common.{None, Option, Some}
 use Prim.Native.Nat.{ℕ, ◌+◌, ◌≤◌}
-use mathlib.Core.Path.{◌≡◌, refl}
+use mathlib.Core.Path.{◌≡◌, refl, ◌∙◌}
 use mathlib.Core.List.{List}
 use mathlib.Core.Bool.{true, ◌&&◌}
 use native.Mathlib.Omega.{arith}
@@ -9,8 +10,6 @@ use lib.ListN.{length, replicate, length-append}
 use lib.Dec.{eqb}
 use Rattle.text.specs.Bytes.{within, is_not_upper}
 use Rattle.text.specs.Decimal.{read_decimal}
-use Rattle.text.specs.declared.decimal.Number.{Number}
-use Rattle.text.specs.declared.decimal.Number.TheVariants.{Value, Refused}
 use Rattle.text.specs.Lists.{all}
 use Rattle.text.specs.Writing.{Wrote}
 use Rattle.text.proofs.Laws.Classes.{within_range}
@@ -20,8 +19,6 @@ use Rattle.address_text.proofs.Laws.Lengths.{length_decimal}
 use Rattle.address.specs.declared.Address.{Address}
 use Rattle.domain.specs.Names.{labels, is_label, is_name, is_table_name}
 use Rattle.networks.specs.Reader6.{read_address}
-use Rattle.networks.specs.declared.Network.{Network}
-use Rattle.networks.specs.declared.Network.TheVariants.{Is, NoNetwork}
 use Rattle.records.specs.Readings.{Optional, absent, present}
 use Rattle.rules.specs.Tree.{settled, wanting}
 use Rattle.rules.proofs.Laws.Alike.{Holds}
@@ -60,11 +57,11 @@ unfoldable InputFits : InputOutcome → Type 0
 InputFits unreadable = Unit {0}
 InputFits (evaluates o) = Fits o
 
-lines_fits : (x : Network) (y : Number) (f : Address → ℕ → Outcome) → ((a : Address) (t : ℕ) → Fits (f a t)) → InputFits (on_client_and_time x y f)
+lines_fits : (x : Option Address) (y : Option ℕ) (f : Address → ℕ → Outcome) → ((a : Address) (t : ℕ) → Fits (f a t)) → InputFits (on_client_and_time x y f)
 unfolding on_client_and_time InputFits
-lines_fits NoNetwork y f h = tt
-lines_fits (Is a) Refused f h = tt
-lines_fits (Is a) (Value t) f h = h a t
+lines_fits None y f h = tt
+lines_fits (Some a) None f h = tt
+lines_fits (Some a) (Some t) f h = h a t
 
 input_fits : (input name text : List ℕ) → InputFits (checked_input input name text)
 unfolding checked_input checked_lines
@@ -109,11 +106,12 @@ answer_length input = lines_length (checked_input input (replicate 253 0) (repli
 -- `answer_input`: the lines and the table of an input
 pub input_answered : (input client domain sender helo receiver seconds table : List ℕ)
     → client ≡ field 10 0 input → domain ≡ field 10 1 input → sender ≡ field 10 2 input → helo ≡ field 10 3 input → receiver ≡ field 10 4 input
-    → seconds ≡ field 10 5 input → table ≡ after_fields 10 6 input → (out out' : List ℕ) (n : ℕ) → 640 ≤ length out
-    → Wrote (lines_of (checked_lines client domain sender helo receiver seconds table (replicate 253 0) (replicate 500 0))) out 0 out' n
-    → Stands (lines_of (answered input)) out out' n
+    → seconds ≡ field 10 5 input → table ≡ after_fields 10 6 input → (out z out' f : List ℕ) (at n : ℕ) → 640 ≤ length out → z ≡ out → at ≡ 0
+    → Wrote (lines_of (checked_lines client domain sender helo receiver seconds table (replicate 253 0) (replicate 500 0))) z at out' n → f ≡ out'
+    → Stands (lines_of (answered input)) out f n
 unfolding answered checked_input
-input_answered input client domain sender helo receiver seconds table c d s h v t a out out' n l w =
+input_answered input client domain sender helo receiver seconds table c d s h v t a out z out' f at n l e i w g =
     let k = answer_length input in
-    let y : Wrote (lines_of (answered input)) out 0 out' n = rw (← c, ← d, ← s, ← h, ← v, ← t, ← a) w in
-    record { size = wrote_length (lines_of (answered input)) out out' n y (omega arith); buffer = wrote_over (lines_of (answered input)) out out' n y }
+    let u : Wrote (lines_of (checked_lines client domain sender helo receiver seconds table (replicate 253 0) (replicate 500 0))) out 0 out' n = rw (e, i) at w in
+    let y : Wrote (lines_of (answered input)) out 0 out' n = rw (← c, ← d, ← s, ← h, ← v, ← t, ← a) u in
+    record { size = wrote_length (lines_of (answered input)) out out' n y (omega arith); buffer = g ∙ wrote_over (lines_of (answered input)) out out' n y }

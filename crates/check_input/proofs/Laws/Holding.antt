@@ -1,10 +1,10 @@
 -- What the functions that keep an input write: one rule for each way out of the functions of src/keeping.rt; and that chunk after chunk, what is held
 -- is answered as the whole input is (`held_answer`). From the definitions of Keeping, the laws on writing of `text` and `kept_same`.
-use Prim.Native.Nat.{ℕ, ◌+◌, ◌-◌, ◌≤◌, ◌<◌}
+use Prim.Native.Nat.{ℕ, zero, suc, ◌+◌, ◌-◌, ◌≤◌, ◌<◌, min}
 use mathlib.Core.Path.{◌≡◌, refl, sym, ap, ◌∙◌}
 use mathlib.Core.Logic.{⊎_elim}
 use mathlib.Core.List.{List, [], ◌∷◌, ◌++◌, append-nil, append_assoc}
-use mathlib.Core.Bool.{and_comm}
+use mathlib.Core.Bool.{Bool, true, false, cond, ◌&&◌}
 use native.Mathlib.Omega.{arith}
 use native.Mathlib.Numerals.{add-one}
 use lib.ListN.{length, get_or, take, drop, replicate, length-append, length-take, length-drop, drop_of_length-le}
@@ -12,7 +12,7 @@ use lib.Seq.{take_all, take_at, drop-cons, length-take-le, sets-eq}
 use lib.Dec.{ltb, eqb}
 use borrow.Author.Tests.{lt-ltb, le-ltb, ne_eqb, eq-eqb}
 use Rattle.text.specs.Bytes.{part}
-use Rattle.text.specs.Runs.{run}
+use Rattle.text.specs.Runs.{run, run_end}
 use Rattle.text.specs.Writing.{Wrote}
 use Rattle.text.proofs.Laws.Orders.{le_or_lt}
 use Rattle.text.proofs.Laws.Runs.{run_le}
@@ -24,56 +24,30 @@ use Rattle.check_input.specs.Keeping.{line_end, without_zeros, time_front, kept_
 use Rattle.check_input.specs.Lines.{answered}
 use Rattle.check_input.proofs.Laws.Keeping.{kept_same}
 
--- `without_zeros`: what is left from a place on is what is left of all
-module _ (b : ℕ) (t : List ℕ) where
-  other_stays : (b ≡ 48 → ⊥) → without_zeros (b ∷ t) ≡ b ∷ t
-  unfolding without_zeros
-  other_stays h = rw (ne_eqb b 48 h)
+-- `without_zeros`: the zeros that lead it go, and its last byte stays
+abbrev pub is_zero : ℕ → Bool
+is_zero b = eqb b 48
 
-  last_stays : length t ≡ 0 → without_zeros (b ∷ t) ≡ b ∷ t
-  unfolding without_zeros
-  last_stays h = rw (and_comm (eqb b 48) (ltb 0 (length t)), le-ltb 0 (length t) (omega arith))
+skip_by : (t : Bool) (b : ℕ) (s : List ℕ) → drop (min (run is_zero s) (length s - 1)) s ≡ without_zeros s
+    → drop (min (cond t (suc (run is_zero s)) 0) (length (b ∷ s) - 1)) (b ∷ s) ≡ cond (t && ltb 0 (length s)) (without_zeros s) (b ∷ s)
+skip_by false b s ih = let z : min 0 (length (b ∷ s) - 1) ≡ 0 = omega arith in rw z
+skip_by true b [] ih = let z : min (suc (run is_zero [])) (length (b ∷ []) - 1) ≡ 0 = omega arith in rw z
+skip_by true b (c ∷ s) ih =
+    let r = run is_zero (c ∷ s) in
+    let z : min (suc r) (length (b ∷ (c ∷ s)) - 1) ≡ suc (min r (length (c ∷ s) - 1)) = omega arith in
+    rw (z, lt-ltb 0 (length (c ∷ s)) (omega arith)) ih
 
-  zero_goes : b ≡ 48 → 0 < length t → without_zeros (b ∷ t) ≡ without_zeros t
-  unfolding without_zeros
-  zero_goes z h = rw (eq-eqb b 48 z, lt-ltb 0 (length t) h)
+skips : (s : List ℕ) → drop (min (run is_zero s) (length s - 1)) s ≡ without_zeros s
+unfolding run without_zeros
+skips [] = refl
+skips (b ∷ s) = skip_by (eqb b 48) b s (skips s)
 
-none_left : without_zeros [] ≡ []
-unfolding without_zeros
-none_left = refl
-
-pub record Skipped (s : List ℕ) (i : ℕ) : Type 0 where
-  pub within : i ≤ length s
-  pub rest : without_zeros (drop i s) ≡ without_zeros s
-
-pub skipped_start : (s : List ℕ) → Skipped s 0
-skipped_start s = record { within = omega arith; rest = refl }
-
-module _ (s : List ℕ) (i : ℕ) (skipped : Skipped s i) where
-  rest_is : take (length s - i) (drop i s) ≡ drop i s
-  rest_is = take_all (length s - i) (drop i s) (omega (arith, length-drop i s))
-
-  pub zeros_out : length s ≤ i → take (length s - i) (drop i s) ≡ without_zeros s
-  zeros_out h = let d = drop_of_length-le s {i = i} h in rest_is ∙ d ∙ sym none_left ∙ ap without_zeros (sym d) ∙ skipped.rest
-
-  module _ (h : i < length s) where
-    from_here : drop i s ≡ get_or s i 0 ∷ drop (i + 1) s
-    from_here = rw add-one (drop-cons s i 0 h)
-
-    stays : without_zeros (get_or s i 0 ∷ drop (i + 1) s) ≡ get_or s i 0 ∷ drop (i + 1) s → take (length s - i) (drop i s) ≡ without_zeros s
-    stays k = rest_is ∙ from_here ∙ sym k ∙ ap without_zeros (sym from_here) ∙ skipped.rest
-
-    pub zeros_last : length s - i ≡ 1 → take (length s - i) (drop i s) ≡ without_zeros s
-    zeros_last k = stays (last_stays (get_or s i 0) (drop (i + 1) s) (rw length-drop (omega arith)))
-
-    pub zeros_other : (get_or s i 0 ≡ 48 → ⊥) → take (length s - i) (drop i s) ≡ without_zeros s
-    zeros_other k = stays (other_stays (get_or s i 0) (drop (i + 1) s) k)
-
-    pub zeros_next : (length s - i ≡ 1 → ⊥) → get_or s i 0 ≡ 48 → Skipped s (i + 1)
-    zeros_next k z =
-        let more : 1 < length s - i = ⊎_elim (λ (p : length s - i ≤ 1). absurd (k (omega arith))) (λ (p : 1 < length s - i). p) (le_or_lt (length s - i) 1) in
-        let goes = zero_goes (get_or s i 0) (drop (i + 1) s) z (rw length-drop (omega arith)) in
-        record { within = omega arith; rest = sym goes ∙ ap without_zeros (sym from_here) ∙ skipped.rest }
+pub zeros_gone : (s : List ℕ) (z : ℕ) → z ≡ run_end is_zero s 0 → (l : ℕ) → l ≡ length s - 1 → (k : ℕ) → k ≡ min z l
+    → take (length s - k) (drop k s) ≡ without_zeros s
+unfolding run_end
+zeros_gone s z e l f k g =
+    let start : z ≡ run is_zero s = e ∙ omega arith in
+    take_all (length s - k) (drop k s) (omega (arith, length-drop k s)) ∙ rw (g, start, f) (skips s)
 
 -- `put_front`, `keep_line` and `keep_time`
 first_length : (s : List ℕ) → length (field 10 0 s) ≡ run (is_not 10) s
@@ -117,13 +91,13 @@ module _ (out : List ℕ) (at : ℕ) (input s₁ : List ℕ) (e₁ : s₁ ≡ af
     unfolding kept_by after_fields
     helo_on u v w = wrote_then out at _ _ o₁ o₃ n₁ n₃ u (wrote_then o₁ n₁ _ _ o₂ o₃ n₂ n₃ (rw e₁ at v) (rw e₂ at w))
 
-module _ (out input s₁ s₂ s₃ : List ℕ) (e₁ : s₁ ≡ after_fields 10 1 input) (e₂ : s₂ ≡ after_fields 10 2 input) (e₃ : s₃ ≡ after_fields 10 3 input) where
+module _ (out : List ℕ) (at : ℕ) (input s₁ s₂ s₃ : List ℕ) (e₁ : s₁ ≡ after_fields 10 1 input) (e₂ : s₂ ≡ after_fields 10 2 input) (e₃ : s₃ ≡ after_fields 10 3 input) where
   pub all_kept : (o₁ : List ℕ) (n₁ : ℕ) (o₂ : List ℕ) (n₂ : ℕ) (o₃ : List ℕ) (n₃ : ℕ) (o₄ : List ℕ) (n₄ : ℕ)
-      → Wrote (take 46 (first_field 10 input) ++ line_end input) out 0 o₁ n₁ → Wrote (take 256 (first_field 10 s₁) ++ line_end s₁) o₁ n₁ o₂ n₂
-      → Wrote (take 321 (first_field 10 s₂) ++ line_end s₂) o₂ n₂ o₃ n₃ → Wrote (kept_by host_fronts s₃) o₃ n₃ o₄ n₄ → Wrote (kept input) out 0 o₄ n₄
+      → Wrote (take 46 (first_field 10 input) ++ line_end input) out at o₁ n₁ → Wrote (take 256 (first_field 10 s₁) ++ line_end s₁) o₁ n₁ o₂ n₂
+      → Wrote (take 321 (first_field 10 s₂) ++ line_end s₂) o₂ n₂ o₃ n₃ → Wrote (kept_by host_fronts s₃) o₃ n₃ o₄ n₄ → Wrote (kept input) out at o₄ n₄
   unfolding kept kept_by after_fields
   all_kept o₁ n₁ o₂ n₂ o₃ n₃ o₄ n₄ u v w x =
-      wrote_then out 0 _ _ o₁ o₄ n₁ n₄ u (wrote_then o₁ n₁ _ _ o₂ o₄ n₂ n₄ (rw e₁ at v) (wrote_then o₂ n₂ _ _ o₃ o₄ n₃ n₄ (rw e₂ at w) (rw e₃ at x)))
+      wrote_then out at _ _ o₁ o₄ n₁ n₄ u (wrote_then o₁ n₁ _ _ o₂ o₄ n₂ n₄ (rw e₁ at v) (wrote_then o₂ n₂ _ _ o₃ o₄ n₃ n₄ (rw e₂ at w) (rw e₃ at x)))
 
 -- how much is kept
 front_length : (n : ℕ) (s : List ℕ) → length (take n s) ≤ n
@@ -186,7 +160,7 @@ module _ (held chunk more : List ℕ) (n size : ℕ) (a : n ≤ 66698) (b : leng
         let z : m - 0 ≡ m = omega arith in
         f ∙ rw (z, wrote_front (kept x) space space' m v (omega (arith, kept_length x))) (take_at (kept x) (drop (length (kept x)) space) m (sym size_kept))
 
-    pub held_more : (h₂ : List ℕ) (r : ℕ) → Wrote y h₁ 0 h₂ r → Held held n (part chunk 0 size) h₂ r
+    held_more : (h₂ : List ℕ) (r : ℕ) → Wrote y h₁ 0 h₂ r → Held held n (part chunk 0 size) h₂ r
     held_more h₂ r w =
         let k : kept x ≡ kept (take n held ++ part chunk 0 size) = ap kept (both_held x e ∙ ap (λ (s : List ℕ). take n held ++ s) q) in
         let w' : Wrote (kept x) h₁ 0 h₂ r = rw kept_stands at w in
@@ -196,6 +170,17 @@ module _ (held chunk more : List ℕ) (n size : ℕ) (a : n ≤ 66698) (b : leng
           small = omega (arith, s, kept_length x);
           buffer = wrote_over (kept x) h₁ h₂ r w' ∙ rw (k, u.text, q);
         }
+
+-- the same by three writers, each of which begins at what the one before left
+module _ (held chunk more : List ℕ) (n size : ℕ) (a : n ≤ 66698) (b : length chunk ≤ 65536) (c : 132234 ≤ length held) (q : more ≡ part chunk 0 size) where
+  pub held_written : (h₁ h : List ℕ) (end : ℕ) → h ≡ h₁ → Wrote more held n h₁ end → (x : List ℕ) → x ≡ part h 0 end
+      → (space : List ℕ) → 66698 ≡ length space → (s₀ s₁ s : List ℕ) (i m : ℕ) → s₀ ≡ space → i ≡ 0 → s ≡ s₁ → Wrote (kept x) s₀ i s₁ m
+      → (y : List ℕ) → y ≡ part s 0 m → (b₀ b₁ after : List ℕ) (j r : ℕ) → b₀ ≡ h → j ≡ 0 → after ≡ b₁ → Wrote y b₀ j b₁ r
+      → Held held n (part chunk 0 size) after r
+  held_written h₁ h end eh u x e space l s₀ s₁ s i m es ei et v y f b₀ b₁ after j r eb ej ea w =
+      rw ea
+      (held_more held chunk more n size a b c q h₁ end u x (e ∙ ap (λ (z : List ℕ). part z 0 end) eh) space l s₁ m (rw (es, ei) at v)
+      y (f ∙ ap (λ (z : List ℕ). part z 0 m) et) b₁ r (rw (eb, eh, ej) at w))
 
 -- chunk after chunk
 module _ (name text : List ℕ) where

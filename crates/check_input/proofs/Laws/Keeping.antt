@@ -1,6 +1,7 @@
 -- The answer depends on no byte that isn't kept, whatever follows: `kept_same`. Line by line, the input and what is kept of it have the same rest
 -- after a part of which only a front is kept; and such a line is refused alike or is the same. From the definitions of Keeping and Input and the laws
 -- of Addresses and Times.
+use Rattle.std.proofs.Common.{None, Option, Some, Err}
 use Prim.Native.Nat.{ℕ, suc, ◌+◌, ◌≤◌, ◌<◌}
 use mathlib.Core.Path.{◌≡◌, refl, sym, ap, ◌∙◌}
 use mathlib.Core.Logic.{◌⊎◌, inl, inr, ⊎_elim}
@@ -16,8 +17,6 @@ use Rattle.text.specs.Bytes.{at, within, is_printable, is_visible}
 use Rattle.text.specs.Lists.{all}
 use Rattle.text.specs.Runs.{run}
 use Rattle.text.specs.Decimal.{read_decimal}
-use Rattle.text.specs.declared.decimal.Number.{Number}
-use Rattle.text.specs.declared.decimal.Number.TheVariants.{Value, Refused}
 use Rattle.text.proofs.Laws.Classes.{within_range}
 use Rattle.text.proofs.Laws.Orders.{le_or_lt}
 use Rattle.text.proofs.Laws.Parts.{all_rest, all_first}
@@ -26,9 +25,7 @@ use Rattle.text.proofs.Laws.Runs.{run_all, run_stops, run_cons}
 use Rattle.text.proofs.Laws.Tests.{and_left, cond-elim, test_fails}
 use Rattle.address.specs.declared.Address.{Address}
 use Rattle.networks.specs.Reader6.{read_address}
-use Rattle.networks.specs.declared.Network.{Network}
-use Rattle.networks.specs.declared.Network.TheVariants.{Is, NoNetwork}
-use Rattle.answer_table.specs.declared.TableAnswer.TheVariants.{TooLong}
+use Rattle.answer_table.specs.declared.TableError.TheVariants.{TooLong}
 use Rattle.answer_table.specs.Reader.{check_in, check_table}
 use Rattle.macros.specs.Expansion.{is_sender, is_host, is_short}
 use Rattle.evaluation.specs.Numbers.{Outcome}
@@ -229,7 +226,7 @@ short_bound : (s : List ℕ) → is_short s ≡ true → length s < 256
 unfolding is_short
 short_bound s h = omega (arith, leb-true (length s) 255 h)
 
-long_table : (t : List ℕ) → 65536 ≤ length t → check_table t ≡ TooLong
+long_table : (t : List ℕ) → 65536 ≤ length t → check_table t ≡ Err TooLong
 unfolding check_in
 long_table t h = rw (lt-ltb 65535 (length t) (omega arith))
 
@@ -270,12 +267,12 @@ module _ (client : Address) (seconds : ℕ) (name text : List ℕ) where
       (λ (q : (65536 ≤ length t) × (65536 ≤ length t')). rw (long_table t q.0, long_table t' q.1))
       (same_or_long 65536 t t' f)
 
-on_same : (x : Network) (y : Number) (f g : Address → ℕ → Outcome) → ((a : Address) (t : ℕ) → f a t ≡ g a t)
+on_same : (x : Option Address) (y : Option ℕ) (f g : Address → ℕ → Outcome) → ((a : Address) (t : ℕ) → f a t ≡ g a t)
     → on_client_and_time x y f ≡ on_client_and_time x y g
 unfolding on_client_and_time
-on_same NoNetwork y f g h = refl
-on_same (Is a) Refused f g h = refl
-on_same (Is a) (Value t) f g h = ap evaluates (h a t)
+on_same None y f g h = refl
+on_same (Some a) None f g h = refl
+on_same (Some a) (Some t) f g h = ap evaluates (h a t)
 
 same_outcome : (name text a b : List ℕ) → Agree fronts a b → checked_input a name text ≡ checked_input b name text
 unfolding checked_input checked_lines field after_fields

@@ -1,6 +1,8 @@
 -- The lines of an answer, written piece after piece: one rule for each way out of the functions of src/lines.rt. From the definitions of Lines and
 -- the laws on writing of `text`.
+use Rattle.std.proofs.Common.{None, Option, Some}
 use Prim.Native.Nat.{ℕ}
+use mathlib.Core.Path.{◌≡◌, sym, subst, ◌∙◌}
 use mathlib.Core.List.{List, [], ◌∷◌, ◌++◌, append-nil}
 use Rattle.text.specs.Texts.{bytes}
 use Rattle.text.specs.Writing.{Wrote}
@@ -8,7 +10,10 @@ use Rattle.text.proofs.Laws.Writing.{wrote_then}
 use Rattle.address_text.specs.Digits.{in_decimal}
 use Rattle.records.specs.Readings.{absent, present}
 use Rattle.rules.specs.declared.Counts.{Counts}
-use Rattle.evaluation.specs.Together.{given}
+use Rattle.rules.specs.Evaluation.{no_counts}
+use Rattle.evaluation.specs.declared.Refusal.{Refusal}
+use Rattle.evaluation.specs.Evaluating.{number_of, place_of}
+use Rattle.evaluation.specs.Together.{given, optional, refused_by}
 use Rattle.check_input.specs.Lines.{line, or_dot, spaced, counts_text, report_text, report_line, second_line, given_lines}
 
 module _ (out : List ℕ) (at : ℕ) (o₁ : List ℕ) (n₁ : ℕ) where
@@ -64,3 +69,14 @@ module _ (c : Counts) (life : ℕ) (out : List ℕ) (at : ℕ) (o : List ℕ) (r
       → Wrote (given_lines (given 3 absent c life (present s))) out at o r
   unfolding given_lines report_line or_dot second_line
   fail_given s o₁ n₁ v w = wrote_then out at (report_text 3 (bytes ".") c.lookups c.voids life) (line s) o₁ o n₁ r v w
+
+-- `put_refusal`
+module _ (e : Refusal) (number : ℕ) (n : number ≡ number_of e) (p : Option ℕ) (h : p ≡ place_of e) (out : List ℕ) (at : ℕ) (o : List ℕ) (r : ℕ) where
+  by_place : (x : Option ℕ) → p ≡ x → Wrote (given_lines (given (number_of e) (optional x) no_counts 0 absent)) out at o r → Wrote (given_lines (refused_by e)) out at o r
+  by_place x q w = subst (λ (y : Option ℕ). Wrote (given_lines (given (number_of e) (optional y) no_counts 0 absent)) out at o r) (sym q ∙ h) w
+
+  pub refusal_placed : (place : ℕ) → p ≡ Some place → Wrote (report_text number (in_decimal place) 0 0 0) out at o r → Wrote (given_lines (refused_by e)) out at o r
+  refusal_placed place q w = by_place (Some place) q (placed_given no_counts 0 out at o r (number_of e) place (rw n at w))
+
+  pub refusal_numbered : p ≡ None → Wrote (report_text number (bytes ".") 0 0 0) out at o r → Wrote (given_lines (refused_by e)) out at o r
+  refusal_numbered q w = by_place None q (number_given no_counts 0 out at o r (number_of e) (rw n at w))

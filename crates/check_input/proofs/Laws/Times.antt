@@ -1,4 +1,5 @@
 -- The zeros that lead a number, and all digits after the 21st besides, decide nothing of t. From the definitions of Keeping and of `text`.
+use Rattle.std.proofs.Common.{None, Some}
 use Prim.Native.Nat.{ℕ, zero, suc, ◌+◌, ◌-◌, ◌*◌, ◌≤◌, ◌<◌}
 use mathlib.Core.Path.{◌≡◌, refl, sym, ap, ◌∙◌}
 use mathlib.Core.Logic.{⊎_elim}
@@ -12,7 +13,6 @@ use borrow.Author.Tests.{ltb-true, ltb-false, leb-true, le-leb, eqb-true}
 use Rattle.text.specs.Bytes.{at, is_digit, within}
 use Rattle.text.specs.Lists.{all}
 use Rattle.text.specs.Decimal.{decimal_from, decimal, is_decimal, read_decimal}
-use Rattle.text.specs.declared.decimal.Number.TheVariants.{Value, Refused}
 use Rattle.text.proofs.Laws.Classes.{within_range}
 use Rattle.text.proofs.Laws.Digits.{decimal_grows}
 use Rattle.text.proofs.Laws.Orders.{le_or_lt}
@@ -54,10 +54,10 @@ large b t h n l =
     let g = grown_least 20 1 (10 * 0 + (b - 48)) t (omega arith) l in
     omega arith
 
-long_refused : (w : List ℕ) → 21 ≤ length w → (at w 0 ≡ 48 → ⊥) → read_decimal 18446744073709551615 w ≡ Refused
+long_refused : (w : List ℕ) → 21 ≤ length w → (at w 0 ≡ 48 → ⊥) → read_decimal 18446744073709551615 w ≡ None
 unfolding read_decimal is_decimal
 long_refused [] h n = absurd (omega arith)
-long_refused (b ∷ t) h n = ap (λ (c : Bool). cond c (Value (decimal (b ∷ t))) Refused) (test_fails _ refuses)
+long_refused (b ∷ t) h n = ap (λ (c : Bool). cond c (Some (decimal (b ∷ t))) None) (test_fails _ refuses)
   where
     refuses : ((leb 1 (length (b ∷ t)) && all is_digit (b ∷ t)) && leb (decimal (b ∷ t)) 18446744073709551615) ≡ true → ⊥
     refuses e =

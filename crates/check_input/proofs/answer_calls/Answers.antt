@@ -1,5 +1,5 @@
--- `check_input::answer_calls` meets its contract. From the laws of Inputs.
-use Rattle.check_input.proofs.Laws.Inputs.{calls_decided, calls_fail, calls_wanting, calls_refused, calls_placed}
+-- `answer_calls` meets its contract. From the laws of Inputs.
+use Rattle.check_input.proofs.Laws.Inputs.{calls_decided, calls_fail, calls_wanting, calls_refused}
 use Rattle.check_input.proofs.answer_calls.Goals as goal
 
 pub returns-in-Decided : goal.returns-in-Decided
@@ -11,8 +11,5 @@ returns-in-Fail c = search calls_fail
 pub returns-in-Wanting : goal.returns-in-Wanting
 returns-in-Wanting c = search calls_wanting
 
-pub returns-in-Refused : goal.returns-in-Refused
-returns-in-Refused c = search calls_refused
-
-pub returns-in-RefusedAt : goal.returns-in-RefusedAt
-returns-in-RefusedAt c = search calls_placed
+pub returns-in-Err : goal.returns-in-Err
+returns-in-Err c = search calls_refused

@@ -1,11 +1,8 @@
--- `client_match::any_matches` meets its contract. From the rules of Laws.Addresses, item after item.
-use Prim.Native.Nat.{◌-◌}
-use lib.ListN.{length as size}
-use Rattle.client_match.proofs.Laws.Addresses.{Unmatched}
+-- `client_match::any_matches` meets its contract: the items passed have not matched.
+use mathlib.Core.Path.{◌≡◌}
+use Rattle.answer_table.specs.Reader.{items_of}
+use Rattle.rules.specs.Mechanisms.{any_matches}
 use Rattle.client_match.proofs.any_matches.Given as goal
 
-abbrev pub invariant-loop-at : goal.invariant-loop-at
-invariant-loop-at l = Unmatched l.client l.length l.items l.at
-
-abbrev pub decreases-loop-at : goal.decreases-loop-at
-decreases-loop-at l = size l.items - l.at
+abbrev pub invariant-loop-item : goal.invariant-loop-item
+invariant-loop-item l = any_matches l.client l.length l.item-iterator ≡ any_matches l.client l.length (items_of l.items)

@@ -1,33 +1,19 @@
--- `domain::labels_fit` meets its contract. From the law of labels by runs of label bytes. It ends since what follows the first dot is shorter.
-use Rattle.std.proofs.Common.{arith}
-use lib.ListN.{length-take, length-drop}
-use Rattle.text.proofs.Laws.Tests.{ways}
-use Rattle.domain.proofs.Laws.Labels.{fit_step, fit_inside}
+-- `domain::labels_fit` meets its contract. From the laws of Labels.
+use Rattle.std.proofs.Common.{rules}
+use Rattle.domain.proofs.Laws.Labels.{fits_none, fits_over, fits_one, fits_other, fits_more}
 use Rattle.domain.proofs.+labels_fit.Goals as goal
 
-pub returns-then-end-eq0 : goal.returns-then-end-eq0
-returns-then-end-eq0 t c = search (fit_step, ways)
+pub returns-in-None : goal.returns-in-None
+returns-in-None t c q h = fits_one _ q h _ _ c.run_end-end.ensures (search rules) (search rules) c.in-None.ensures.lookup.0
 
-pub returns-then-end-gt63 : goal.returns-then-end-gt63
-returns-then-end-gt63 t c = search (fit_step, ways)
+pub returns-in-Some-eq46 : goal.returns-in-Some-eq46
+returns-in-Some-eq46 t c q h = fits_more _ q h _ _ c.run_end-end.ensures (search rules) (search rules) c.in-Some-eq46.ensures.lookup.0 (search rules) _ (c.labels_fit.ensures q h)
 
-pub returns-then-end-s : goal.returns-then-end-s
-returns-then-end-s t c = search (fit_step, ways)
+pub returns-in-Some : goal.returns-in-Some
+returns-in-Some t c q h = fits_other _ q h _ _ c.run_end-end.ensures (search rules) (search rules) c.in-Some.ensures.lookup.0 (λ d. c.in-Some.field-0-test.1 (search rules))
 
-pub bounds-s-end : goal.bounds-s-end
-bounds-s-end t c = omega (arith, fit_inside _ _ c.run_end-end.ensures)
+pub returns-in_default : goal.returns-in_default
+returns-in_default t c q h = fits_none _ q h _ _ c.run_end-end.ensures (search rules)
 
-pub returns-then-s-end-ne46 : goal.returns-then-s-end-ne46
-returns-then-s-end-ne46 t c = search (fit_step, ways)
-
-pub slice_bounds-labels_fit-count : goal.slice_bounds-labels_fit-count
-slice_bounds-labels_fit-count t c = omega (arith, fit_inside _ _ c.run_end-end.ensures)
-
-pub slice_bounds-labels_fit-start : goal.slice_bounds-labels_fit-start
-slice_bounds-labels_fit-start t c = omega (arith, fit_inside _ _ c.run_end-end.ensures)
-
-pub labels_fit-requires : goal.labels_fit-requires
-labels_fit-requires t c = (simp (length-take, length-drop) (omega (arith, fit_inside _ _ c.run_end-end.ensures)), tt)
-
-pub returns : goal.returns
-returns t c = search (fit_step, ways)
+pub returns-in_default-2 : goal.returns-in_default-2
+returns-in_default-2 t c q h = fits_over _ q h _ _ c.run_end-end.ensures (search rules)

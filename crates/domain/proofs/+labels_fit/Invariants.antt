@@ -1,4 +1,4 @@
--- `domain::labels_fit` meets its contract. From the law of labels by runs of label bytes. It ends since what follows the first dot is shorter.
+-- `domain::labels_fit` meets its contract. It ends since what follows the first dot is shorter.
 use lib.ListN.{length}
 use Rattle.domain.proofs.+labels_fit.Given as goal
 

@@ -1,21 +1,20 @@
 -- At or below a target: by labels, as the definition says it, and by bytes, as the code tests it. From the definitions of Names and the laws
 -- of splitting and joining.
-use Prim.Native.Nat.{ℕ, suc, ◌+◌, ◌-◌, ◌≤◌, ◌<◌}
+use Prim.Native.Nat.{ℕ, ◌-◌, ◌≤◌, ◌<◌}
 use mathlib.Core.Path.{◌≡◌, refl, sym, ap, ◌∙◌}
 use mathlib.Core.Logic.{◌⊎◌, ⊎_elim, inl, inr, ◌↔◌}
 use mathlib.Core.List.{List, [], ◌∷◌, ◌++◌}
 use mathlib.Core.Bool.{Bool, true, false}
 use native.Mathlib.Omega.{arith}
 use lib.ListN.{length, take, drop, length-append, take-append-drop}
-use lib.Seq.{append_snoc, drop_at, drop-cons, get_or_at, split_at}
+use lib.Seq.{append_snoc, drop-cons, get_or_at}
 use lib.Dec.{eqb}
 use borrow.Author.Tests.{eqb-true, eqb-false}
 use Rattle.text.specs.Bytes.{at, is_dot}
-use Rattle.text.specs.Lists.{same, split, join, rightmost}
+use Rattle.text.specs.Lists.{split, join, rightmost}
 use Rattle.text.proofs.Laws.Tests.{fails_test}
-use Rattle.text.proofs.Laws.Parts.{rightmost_append}
-use Rattle.text.proofs.Laws.Words.{same_true, true_same, same_refl}
-use Rattle.text.proofs.Laws.Spans.{rest_part}
+use Rattle.text.proofs.Laws.Parts.{rightmost_append, at_last, Last, empty, snoc, last_of}
+use Rattle.text.proofs.Laws.Words.{same_true, same_refl}
 use Rattle.text.proofs.Laws.Splitting.{Some, some, some_count, split_append, join_append}
 use Rattle.domain.specs.Names.{labels, label_count, at_or_below}
 use Rattle.domain.proofs.Laws.Labels.{labels_some, join_labels}
@@ -61,44 +60,27 @@ module _ (name target : List ℕ) where
   not_below : (name ≡ target → ⊥) → ((u : List ℕ) → name ≡ u ++ 46 ∷ target → ⊥) → false ≡ at_or_below name target
   not_below h k = fails_test (at_or_below name target) (λ t. ⊎_elim h (λ p. k p.0 p.1) (below_bytes t))
 
-  -- `at_or_below`: the place where the target would begin
-  pub below_short : length name < length target → false ≡ at_or_below name target
-  below_short h = not_below (λ e. omega (arith, ap length e)) (λ u e. omega (arith, length-append u (46 ∷ target), ap length e))
+  -- `at_or_below`: nothing is left before the target, or what ends in a dot
+  pub below_none : ((u : List ℕ) → name ≡ u ++ target → ⊥) → false ≡ at_or_below name target
+  below_none h = not_below (h []) (λ u e. h (u ++ (46 ∷ [])) (e ∙ sym (append_snoc u 46 target)))
 
-  module _ (h : length target ≤ length name) (r : Bool)
-      (p : r ≡ same (take (length name - (length name - length target)) (drop (length name - length target) name)) target) where
-    ends_in : r ≡ true → drop (length name - length target) name ≡ target
-    ends_in t = sym (rest_part name (length name - length target)) ∙ same_true _ _ (sym p ∙ t)
+  pub below_all : (u : List ℕ) → name ≡ u ++ target → length u < 1 → true ≡ at_or_below name target
+  below_all [] e h = same_below e
+  below_all (x ∷ u) e h = absurd (omega arith)
 
-    -- where a name that ends in a dot and the target has that dot
-    dot_place : (u : List ℕ) → name ≡ u ++ 46 ∷ target → length u + 1 ≡ length name - length target
-    dot_place u e = omega (arith, length-append u (46 ∷ target), ap length e)
+  last_byte : (u : List ℕ) (b : ℕ) → name ≡ u ++ (b ∷ target) → eqb b 46 ≡ at_or_below name target
+  last_byte u b e = by (eqb b 46) refl
+    where
+      by : (x : Bool) → eqb b 46 ≡ x → x ≡ at_or_below name target
+      by true d = dot_below u (e ∙ ap (λ (c : ℕ). u ++ (c ∷ target)) (eqb-true b 46 d))
+      by false d = not_below
+          (λ k. omega (arith, length-append u (b ∷ target), ap length (sym k ∙ e)))
+          (λ v k. eqb-false b 46 d (sym (get_or_at u b target 0 (length u) refl) ∙ ap (λ (l : List ℕ). at l (length u)) (sym e ∙ k)
+          ∙ get_or_at v 46 target 0 (length u) (omega (arith, length-append u (b ∷ target), length-append v (46 ∷ target), ap length (sym e ∙ k)))))
 
-    pub below_same : r ≡ true → length name - length target ≡ 0 → true ≡ at_or_below name target
-    below_same t z = same_below (rw z at (ends_in t))
-
-    pub below_dot : r ≡ true → (length name - length target ≡ 0 → ⊥) → eqb (at name (length name - length target - 1)) 46 ≡ at_or_below name target
-    below_dot t z = by (eqb (at name (length name - length target - 1)) 46) refl
-      where
-        by : (x : Bool) → eqb (at name (length name - length target - 1)) 46 ≡ x → x ≡ at_or_below name target
-        by true e =
-            let i = length name - length target - 1 in
-            let n : suc i ≡ length name - length target = omega arith in
-            dot_below (take i name)
-            (split_at name i 0 (omega arith) ∙ rw (eqb-true (at name i) 46 e, n, ends_in t))
-        by false e = not_below
-            (λ k. z (omega (arith, ap length k)))
-            (λ u k.
-            let d = dot_place u k in
-            eqb-false (at name (length name - length target - 1)) 46 e (ap (λ (l : List ℕ). at l (length name - length target - 1)) k ∙ get_or_at u 46 target 0 (length name - length target - 1) (omega arith)))
-
-    pub below_other : r ≡ false → false ≡ at_or_below name target
-    below_other f = not_below
-        (λ k. differs (let z : length name - length target ≡ 0 = omega (arith, ap length k) in rw z k))
-        (λ u k. let d = dot_place u k in differs (ap (drop (length name - length target)) (k ∙ sym (append_snoc u 46 target)) ∙ drop_at (u ++ (46 ∷ [])) target (length name - length target) (omega (arith, length-append u (46 ∷ [])))))
-      where
-        differs : drop (length name - length target) name ≡ target → ⊥
-        differs e =
-            let t = true_same _ _ (rest_part name (length name - length target) ∙ e) in
-            let z : ◌≡◌ {A = ℕ} 0 1 = cc in
-            omega arith
+  pub below_last : (u : List ℕ) → name ≡ u ++ target → 1 ≤ length u → eqb (at u (length u - 1)) 46 ≡ at_or_below name target
+  below_last u e h = by (last_of u) e h
+    where
+      by : {u : List ℕ} → Last u → name ≡ u ++ target → 1 ≤ length u → eqb (at u (length u - 1)) 46 ≡ at_or_below name target
+      by empty e h = absurd (omega arith)
+      by (snoc w z) e h = rw (at_last w z) (last_byte w z (e ∙ append_snoc w z target))

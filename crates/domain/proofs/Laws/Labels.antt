@@ -6,23 +6,26 @@ use mathlib.Core.Logic.{⊎_elim}
 use mathlib.Core.List.{List, [], ◌∷◌}
 use mathlib.Core.Bool.{Bool, true, false, cond, not, ◌&&◌}
 use native.Mathlib.Omega.{arith}
+use native.Mathlib.Nat.{zero-add}
 use native.Mathlib.Numerals.{add-one}
-use lib.ListN.{length, take, drop, length-drop, drop_of_length-le}
-use lib.Seq.{drop-cons, drop-drop, get_or-drop, take_all, length-take-le}
-use lib.Dec.{eqb, ltb, eqb-suc-suc, eqb-zero-suc}
-use borrow.Author.Tests.{eqb-true, eqb-false, ltb-true, ltb-false, eq-eqb, ne_eqb, not-false, not-true, lt-leb, le-leb}
+use lib.ListN.{length, take, drop}
+use lib.Seq.{take_all, length-take-le}
+use lib.Dec.{eqb, leb, ltb, eqb-suc-suc, eqb-zero-suc}
+use borrow.Author.Tests.{eqb-true, ltb-true, ltb-false, eq-eqb, not-false, not-true, lt-leb, le-leb}
+use Rattle.std.specs.List.{count_by}
+use Rattle.std.proofs.lemmas.List.Recursion.{is_count_by}
 use Rattle.text.specs.Bytes.{at, is_dot, is_visible, is_label_byte, within}
 use Rattle.text.specs.Lists.{all, split, join}
 use Rattle.text.specs.Runs.{is_in, run, run_end}
 use Rattle.text.specs.declared.bytes.Class.TheVariants.{LabelByte}
-use Rattle.text.proofs.Laws.Tests.{cond-elim, and_left, and_right, and_both, test_fails}
+use Rattle.text.proofs.Laws.Tests.{cond-elim, and_left, and_right, and_both, fails_test}
 use Rattle.text.proofs.Laws.Classes.{within_range, range_within}
 use Rattle.text.proofs.Laws.Parts.{all_first}
-use Rattle.text.proofs.Laws.Runs.{run_le, run_stops, run_within, run_end_inside}
+use Rattle.text.proofs.Laws.Runs.{run_le, run_stops, run_within}
 use Rattle.text.proofs.Laws.Spans.{rest_part}
-use Rattle.text.proofs.Laws.Splitting.{Some, front, split_some, split_none, split_first, count_in, count_out, join_dots}
+use Rattle.text.proofs.Laws.Splitting.{Some, some_count, front, split_some, split_none, split_first, count_in, count_out, join_dots}
 use Rattle.text.proofs.Laws.Orders.{le_or_lt}
-use Rattle.domain.specs.Names.{labels, is_label, is_name, label_count}
+use Rattle.domain.specs.Names.{labels, is_label, label_of, all_fit, is_name, label_count}
 
 -- the byte after the front is a dot, and none within it is
 pub front_dot : (s : List ℕ) → front is_dot s < length s → at s (front is_dot s) ≡ 46
@@ -52,18 +55,6 @@ labels_none s h = split_none is_dot s h
 pub labels_first : (s : List ℕ) → front is_dot s < length s → labels s ≡ take (front is_dot s) s ∷ labels (drop (suc (front is_dot s)) s)
 unfolding labels
 labels_first s h = split_first is_dot s h
-
--- a label of 1 to 63 bytes that pass a test: `is_label` is that of visible bytes
-abbrev pub label_of : (ℕ → Bool) → List ℕ → Bool
-label_of q l = within 1 63 (length l) && all q l
-
--- whether every label of a name is one
-abbrev pub all_fit : (ℕ → Bool) → List ℕ → Bool
-all_fit q s = all (label_of q) (labels s)
-
--- what is tested of the n bytes from i up to e and of the byte at e, where x says whether the labels after that byte fit
-abbrev pub label_step : List ℕ → ℕ → ℕ → ℕ → Bool → Bool
-label_step s i n e x = cond (eqb e i) false (cond (ltb 63 n) false (cond (eqb e (length s)) true (cond (eqb (at s e) 46) x false)))
 
 -- labels whose bytes pass q, by runs of bytes that pass q and are no dot
 module _ (p q : ℕ → Bool) (no_dot : (b : ℕ) → p b ≡ (q b && not (is_dot b))) where
@@ -116,14 +107,14 @@ module _ (p q : ℕ → Bool) (no_dot : (b : ℕ) → p b ≡ (q b && not (is_do
         let v = and_right (within 1 63 (length t)) (all q t) l in
         record { least = omega arith; most = omega arith; ends = eqb-true e (front is_dot s) (sym first.passes ∙ v) }
 
-    fit_empty : e ≡ 0 → all_fit q s ≡ false
-    fit_empty h = test_fails (all_fit q s) (λ k. let f = fits_first k in omega (arith, f.least, f.ends))
+    fit_empty : e ≡ 0 → false ≡ all_fit q s
+    fit_empty h = fails_test (all_fit q s) (λ k. let f = fits_first k in omega (arith, f.least, f.ends))
 
-    fit_long : 63 < e → all_fit q s ≡ false
-    fit_long h = test_fails (all_fit q s) (λ k. let f = fits_first k in omega (arith, f.most, f.ends))
+    fit_long : 63 < e → false ≡ all_fit q s
+    fit_long h = fails_test (all_fit q s) (λ k. let f = fits_first k in omega (arith, f.most, f.ends))
 
-    fit_other : (e ≡ length s → ⊥) → (at s e ≡ 46 → ⊥) → all_fit q s ≡ false
-    fit_other h d = test_fails (all_fit q s) (λ k.
+    fit_other : (e ≡ length s → ⊥) → (at s e ≡ 46 → ⊥) → false ≡ all_fit q s
+    fit_other h d = fails_test (all_fit q s) (λ k.
         let f = fits_first k in
         let i = run_inside in
         let l : e < length s = omega arith in
@@ -161,75 +152,60 @@ module _ (p q : ℕ → Bool) (no_dot : (b : ℕ) → p b ≡ (q b && not (is_do
             let parts : labels s ≡ take e s ∷ labels (drop (suc e) s) = rw at_front (labels_first s (omega arith)) in
             rw (parts, label_fits f)
 
-  -- by the run of n bytes from a place on, which ends at e
-  pub labels_step : (s : List ℕ) (i n e : ℕ) → i ≤ length s → n ≡ run p (drop i s) → e ≡ i + n
-      → all_fit q (drop i s) ≡ label_step s i n e (all_fit q (drop (e + 1) s))
-  labels_step s i n e l r g =
-      let t = drop i s in
-      let size = length-drop i s in
-      let byte : at t n ≡ at s e = get_or-drop i s n 0 ∙ ap (at s) (sym g) in
-      let next : i + suc n ≡ e + 1 = omega arith in
-      let rest : drop (suc n) t ≡ drop (e + 1) s = drop-drop (suc n) i s ∙ ap (λ (m : ℕ). drop m s) next in
-      pick (eqb e i) (λ h. let k = eqb-true e i h in fit_empty t n r (omega arith))
-      (λ h. let z : n ≡ 0 → ⊥ = λ k. eqb-false e i h (omega arith) in
-      pick (ltb 63 n) (λ h. fit_long t n r (ltb-true 63 n h))
-      (λ h. let m = ltb-false 63 n h in
-      pick (eqb e (length s)) (λ h. let k = eqb-true e (length s) h in fit_last t n r z m (omega arith))
-      (λ h. let k : n ≡ length t → ⊥ = λ k. eqb-false e (length s) h (omega arith) in
-      pick (eqb (at s e) 46)
-      (λ h. fit_rest t n r z m k (byte ∙ eqb-true (at s e) 46 h) ∙ ap (all_fit q) rest)
-      (λ h. fit_other t n r k (λ d. eqb-false (at s e) 46 h (sym byte ∙ d))))))
-    where
-      pick : {y z : Bool} (t : Bool) → (t ≡ true → all_fit q (drop i s) ≡ y) → (t ≡ false → all_fit q (drop i s) ≡ z)
-          → all_fit q (drop i s) ≡ cond t y z
-      pick t f g = cond-elim (λ (x : Bool). all_fit q (drop i s) ≡ x) t f g
+-- `labels_fit`: e is the end of the run from the front on
+module _ (p q : ℕ → Bool) (no_dot : (b : ℕ) → p b ≡ (q b && not (is_dot b))) (s : List ℕ) (e : ℕ) (r : e ≡ run_end p s 0) where
+  from_front : e ≡ run p s
+  unfolding run_end
+  from_front = r ∙ zero-add _
 
--- `labels_fit`: e is the end of the run of label bytes
-module _ (s : List ℕ) (e : ℕ) (r : e ≡ run_end (is_in LabelByte) s 0) where
-  pub fit_inside : e ≤ length s
-  fit_inside = rw r (run_end_inside (is_in LabelByte) s 0 (omega arith))
+  pub fits_none : e < 1 → false ≡ all_fit q s
+  fits_none h = fit_empty p q no_dot s e from_front (omega arith)
 
-  pub fit_step : (z : Bool) → z ≡ label_step s 0 e e (all is_label (labels (take (length s - (e + 1)) (drop (e + 1) s)))) → z ≡ all is_label (labels s)
-  unfolding is_label is_in is_label_byte run_end
-  fit_step z h = h ∙ rw rest_part (sym (labels_step (is_in LabelByte) is_visible (λ b. refl) s 0 e e (omega arith) (omega arith) (omega arith)))
+  pub fits_over : 64 ≤ e → false ≡ all_fit q s
+  fits_over h = fit_long p q no_dot s e from_front h
 
--- `is_name`
+  module _ (h : 1 ≤ e) (k : e < 64) where
+    pub fits_one : false ≡ ltb e (length s) → true ≡ all_fit q s
+    fits_one l =
+        let i = run_inside p q no_dot s e from_front in
+        let o = ltb-false e (length s) (sym l) in
+        sym (fit_last p q no_dot s e from_front (λ z. omega arith) (omega arith) (omega arith))
+
+    module _ (l : true ≡ ltb e (length s)) where
+      inside : e < length s
+      inside = ltb-true e (length s) (sym l)
+
+      pub fits_other : (at s e ≡ 46 → ⊥) → false ≡ all_fit q s
+      fits_other d = fit_other p q no_dot s e from_front (λ z. let i = inside in omega arith) d
+
+      pub fits_more : at s e ≡ 46 → (t : Bool) → t ≡ all_fit q (take (length s - (e + 1)) (drop (e + 1) s)) → t ≡ all_fit q s
+      fits_more d t f =
+          let i = inside in
+          f ∙ ap (all_fit q) (rest_part s (e + 1)) ∙ rw add-one (sym (fit_rest p q no_dot s e from_front (λ z. omega arith) (omega arith) (λ z. omega arith) d))
+
+-- `is_name`: the labels of a text that isn't too long
 module _ (s : List ℕ) where
-  pub name_empty : length s ≡ 0 → false ≡ is_name s
-  unfolding is_name within
-  name_empty h = rw h
+  pub label_byte : (b : ℕ) → is_in LabelByte b ≡ (is_visible b && not (is_dot b))
+  unfolding is_in is_label_byte
+  label_byte b = refl
 
-  pub name_long : 253 < length s → false ≡ is_name s
+  pub name_long : 253 < length s → leb (length s) 253 ≡ is_name s
   unfolding is_name within
   name_long h = simp (le-leb 1 (length s) (omega arith), lt-leb (length s) 253 h)
 
-  pub name_fits : (length s ≡ 0 → ⊥) → length s ≤ 253 → (r : Bool) → r ≡ all is_label (labels s) → r ≡ is_name s
-  unfolding is_name within
-  name_fits h k r e = simp (le-leb 1 (length s) (omega arith), le-leb (length s) 253 k) e
+pub name_fits : (s : List ℕ) → length s ≤ 253 → (r : Bool) → r ≡ all_fit is_visible s → r ≡ is_name s
+unfolding is_name is_label labels split all within
+name_fits [] h r e = e
+name_fits (b ∷ s) h r e = simp (le-leb 1 (suc (length s)) (omega arith), le-leb (suc (length s)) 253 h) e
 
--- `count_labels`: the labels of the bytes passed and of those that are left
-module _ (s : List ℕ) where
-  pub record Counted (n i : ℕ) : Type 0 where
-    pub inside : i ≤ length s
-    pub small : n ≤ i + 1
-    pub rest : n + label_count (drop i s) ≡ label_count s + 1
+-- `count_labels`
+pub count_dots : (s : List ℕ) → count_by is_dot s + 1 ≡ label_count s
+unfolding label_count labels split
+count_dots s = omega (arith, is_count_by dots is_dot refl more s, some_count (split_some is_dot s))
+  where
+    dots : List ℕ → ℕ
+    dots s = length (split is_dot s) - 1
 
-  pub counted_start : Counted 1 0
-  counted_start = record { inside = omega arith; small = omega arith; rest = omega arith }
-
-  module _ (n i : ℕ) (c : Counted n i) where
-    pub counted_dot : i < length s → at s i ≡ 46 → (m : ℕ) → m ≡ n + 1 → Counted m (i + 1)
-    unfolding label_count labels
-    counted_dot h d m e =
-        let q = rw (drop-cons s i 0 h, count_in is_dot (at s i) (drop (suc i) s) (eq-eqb (at s i) 46 d)) at c.rest in
-        record { inside = omega arith; small = omega (arith, c.small); rest = rw (add-one i) (omega arith) }
-
-    pub counted_other : i < length s → (at s i ≡ 46 → ⊥) → (m : ℕ) → m ≡ n → Counted m (i + 1)
-    unfolding label_count labels
-    counted_other h d m e =
-        let q = rw (drop-cons s i 0 h, count_out is_dot (at s i) (drop (suc i) s) (ne_eqb (at s i) 46 d)) at c.rest in
-        record { inside = omega arith; small = omega (arith, c.small); rest = rw (add-one i) (omega arith) }
-
-    pub counted_end : length s ≤ i → n ≡ label_count s
-    unfolding label_count labels split
-    counted_end h = let q = rw (drop_of_length-le s {i = i} h) at c.rest in omega arith
+    more : (b : ℕ) (s : List ℕ) → dots (b ∷ s) ≡ cond (is_dot b) (1 + dots s) (dots s)
+    more b s = cond-elim (λ (n : ℕ). dots (b ∷ s) ≡ n) (is_dot b)
+        (λ e. omega (arith, count_in is_dot b s e, some_count (split_some is_dot s))) (λ e. omega (arith, count_out is_dot b s e))

@@ -1,5 +1,6 @@
 -- A to Z lowered, a text is a name exactly if it was one; what `without_dot`, `write_lowered` and `read_name` answer. From the definitions of
 -- Names and Normal and the laws of writing.
+use Rattle.std.proofs.Common.{None, Option, Some}
 use Prim.Native.Nat.{ℕ, ◌+◌, ◌-◌, ◌*◌, ◌^◌, ◌≤◌, ◌<◌}
 use mathlib.Core.Path.{◌≡◌, refl, sym, ap, ◌∙◌}
 use mathlib.Core.List.{List, [], ◌∷◌, map}
@@ -14,8 +15,6 @@ use Rattle.text.proofs.Laws.Tests.{cond-elim}
 use Rattle.text.proofs.Laws.Parts.{all_map}
 use Rattle.text.proofs.Laws.Classes.{within_range, range_within}
 use Rattle.text.proofs.Laws.Writing.{wrote_over, wrote_length}
-use Rattle.domain.specs.declared.Name.{Name}
-use Rattle.domain.specs.declared.Name.TheVariants.{Written, Malformed}
 use Rattle.domain.specs.Names.{labels, is_label, is_name}
 use Rattle.domain.specs.Normal.{name, malformed, without_dot, lowered, normal, name_answer, name_buffer}
 
@@ -69,13 +68,13 @@ module _ (s : List ℕ) (r : Bool) (p : r ≡ is_name s) where
 
   -- `write_lowered`
   module _ (h : r ≡ true) (before after : List ℕ) (n : ℕ) (w : Wrote (map lower s) before 0 after n) where
-    pub write_answer : length s * 1 < 2 ^ 63 → Written n ≡ name_answer (lowered s)
-    write_answer l = rw (lowered_name h) (ap Written (wrote_length (map lower s) before after n w (rw length-map (omega arith))))
+    pub write_answer : length s * 1 < 2 ^ 63 → Some n ≡ name_answer (lowered s)
+    write_answer l = rw (lowered_name h) (ap Some (wrote_length (map lower s) before after n w (rw length-map (omega arith))))
 
     pub write_buffer : after ≡ name_buffer (lowered s) before
     write_buffer = rw (lowered_name h) (wrote_over (map lower s) before after n w)
 
-  pub refuse_answer : r ≡ false → Malformed ≡ name_answer (lowered s)
+  pub refuse_answer : r ≡ false → None ≡ name_answer (lowered s)
   refuse_answer h = rw (lowered_malformed h)
 
   pub refuse_buffer : r ≡ false → (before : List ℕ) → before ≡ name_buffer (lowered s) before
@@ -83,13 +82,13 @@ module _ (s : List ℕ) (r : Bool) (p : r ≡ is_name s) where
 
 -- `without_dot`
 module _ (s : List ℕ) where
-  pub without_empty : length s ≡ 0 → s ≡ without_dot s
+  pub without_empty : length s < 1 → s ≡ without_dot s
   unfolding without_dot
-  without_empty h = simp (h, ne_eqb (at s 0) 46 (none s h))
+  without_empty h = by s h
     where
-      none : (t : List ℕ) → length t ≡ 0 → at t 0 ≡ 46 → ⊥
-      none [] h e = omega arith
-      none (x ∷ xs) h e = omega arith
+      by : (s : List ℕ) → length s < 1 → s ≡ cond (is_dot (at s (length s - 1))) (take (length s - 1) s) s
+      by [] h = refl
+      by (x ∷ s) h = absurd (omega arith)
 
   pub without_last : at s (length s - 1) ≡ 46 → take (length s - 1) s ≡ without_dot s
   unfolding without_dot
@@ -101,7 +100,7 @@ module _ (s : List ℕ) where
 
 -- `read_name`
 module _ (s t : List ℕ) (e : t ≡ without_dot s) where
-  pub read_answer : (r : Name) → r ≡ name_answer (lowered t) → r ≡ name_answer (normal s)
+  pub read_answer : (r : Option ℕ) → r ≡ name_answer (lowered t) → r ≡ name_answer (normal s)
   unfolding normal
   read_answer r h = rw e at h
 

@@ -1,14 +1,11 @@
--- `domain::count_labels` meets its contract. The loop's invariant: the labels counted and those of the bytes that are left are one more than
--- all labels. The measure is what is left of the length.
-use Rattle.domain.proofs.Laws.Labels.{counted_start, counted_dot, counted_other, counted_end}
+-- `domain::count_labels` meets its contract. From the laws of Labels.
+use Rattle.std.proofs.Common.{◌≡◌, ◌∙◌, ap, ◌+◌, ℕ, rules}
+use Rattle.std.specs.List.{count_by}
+use Rattle.text.specs.Bytes.{is_dot}
+use Rattle.domain.proofs.Laws.Labels.{count_dots}
 use Rattle.domain.proofs.count_labels.Goals as goal
-use Rattle.domain.proofs.count_labels.Goals.{then-s-i-eq46, else-s-i-eq46}
-
-pub loop-i-init : goal.loop-i-init
-loop-i-init c = search counted_start
-
-pub loop-i-preserved : goal.loop-i-preserved
-loop-i-preserved c = elim c.if-s-i-eq46.branch [ then-s-i-eq46 w ↦ search counted_dot | else-s-i-eq46 w ↦ search counted_other ]
 
 pub returns : goal.returns
-returns c = search counted_end
+returns c =
+    let n : c.count.result ≡ count_by is_dot c.args.s.now = search rules in
+    ap (λ (k : ℕ). k + 1) n ∙ count_dots c.args.s.now

@@ -1,12 +1,10 @@
--- `domain::is_name` meets its contract. From the laws of names: one for each way out.
-use Rattle.domain.proofs.Laws.Labels.{name_empty, name_long, name_fits}
+-- `domain::is_name` meets its contract. From the laws of Labels.
+use Rattle.text.specs.Bytes.{is_visible}
+use Rattle.domain.proofs.Laws.Labels.{label_byte, name_long, name_fits}
 use Rattle.domain.proofs.is_name.Goals as goal
 
-pub returns-then-s-eq0 : goal.returns-then-s-eq0
-returns-then-s-eq0 c = search name_empty
+pub returns-then-s-le-MOST_NAME : goal.returns-then-s-le-MOST_NAME
+returns-then-s-le-MOST_NAME c = name_fits _ c.if-s-le-MOST_NAME.true _ (c.labels_fit.ensures is_visible (label_byte c.args.s.now))
 
-pub returns-then-s-gt-MOST_NAME : goal.returns-then-s-gt-MOST_NAME
-returns-then-s-gt-MOST_NAME c = search name_long
-
-pub returns : goal.returns
-returns c = search name_fits
+pub returns-else-s-le-MOST_NAME : goal.returns-else-s-le-MOST_NAME
+returns-else-s-le-MOST_NAME c = search name_long

@@ -1,5 +1,6 @@
 -- The first's answer depends only on what its own questions find: two accepted tables that have the same for these have the same answer but for where the
 -- exp argument stands, and all of it where one table is the other with entries appended. From `agrees` of `rules` and the laws of the exp argument.
+use Rattle.std.proofs.Common.{None}
 use Prim.Native.Nat.{ℕ, ◌≤◌}
 use mathlib.Core.Path.{◌≡◌, refl, sym, ap, subst, ◌∙◌}
 use mathlib.Core.List.{List, ◌++◌}
@@ -10,7 +11,6 @@ use Rattle.answer_table.specs.Answers.{Encoded, most_bytes}
 use Rattle.answer_table.proofs.Laws.Entries.{entries_one}
 use Rattle.records.specs.Readings.{Optional}
 use Rattle.rules.specs.declared.Counts.{Counts}
-use Rattle.rules.specs.declared.Life.{Life}
 use Rattle.rules.specs.Tree.{Settled, run}
 use Rattle.rules.specs.Lifetimes.{seconds}
 use Rattle.rules.specs.Tables.{table_of}
@@ -18,6 +18,7 @@ use Rattle.rules.specs.Evaluation.{Failing, Result, evaluation}
 use Rattle.rules.specs.Exp.{ExpAt, ExpOf, without, with_exp}
 use Rattle.rules.proofs.Laws.Agreement.{agrees}
 use Rattle.rules.proofs.Laws.Exp.{exp_one, exp_grown}
+use Rattle.evaluation.specs.declared.Refusal.{Refusal}
 use Rattle.evaluation.specs.First.{Lent, Handed, mail_in, Outcome, failed, answer_of, name_after, Says, Comes, decides, fails, lacks, Answers, refuses, bad_table, evaluates, Evaluates}
 use Rattle.evaluation.specs.Together.{with_table, same, moved, SameButPlace, Unasked}
 use Rattle.evaluation.proofs.Laws.Refusing.{refuses_fits, refuses_one, table_accepted}
@@ -59,20 +60,20 @@ module _ (t u : List ℕ) where
       ap (λ (n : ℕ). failed k life d n (length x)) (exp_one y j).0
 
 module _ (a : Lent) {t u : List ℕ} {es fs : List Entry} (l : length t ≤ most_bytes) (p : Encoded t es) (m : length u ≤ most_bytes) (q : Encoded u fs)
-    (e : run (table_of fs) Life.Unmet (evaluation (mail_in a) a.domain) ≡ run (table_of es) Life.Unmet (evaluation (mail_in a) a.domain)) where
+    (e : run (table_of fs) None (evaluation (mail_in a) a.domain) ≡ run (table_of es) None (evaluation (mail_in a) a.domain)) where
   -- over two accepted tables that settle the same
   answers_alike : {o v : Outcome} → Answers (with_table a t) o → Answers (with_table a u) v → Alike t u o v
-  answers_alike (refuses {number = n} r) (refuses {number = k} s) =
-      subst (λ (y : ℕ). Alike t u (Outcome.refused n) (Outcome.refused y)) (refuses_one r s) same_outcome
+  answers_alike (refuses {e = i} r) (refuses s) =
+      subst (λ (y : Refusal). Alike t u (Outcome.refused i) (Outcome.refused y)) (refuses_one r s) same_outcome
   answers_alike (refuses r) (bad_table f c) = absurd (refuses_fits r f)
   answers_alike (refuses r) (evaluates f h d c) = absurd (refuses_fits r f)
-  answers_alike (bad_table f c) x = absurd (table_accepted l p c)
+  answers_alike (bad_table {e = i} f c) x = absurd (table_accepted i l p c)
   answers_alike (evaluates f h d c) (refuses r) = absurd (refuses_fits r f)
-  answers_alike (evaluates f h d c) (bad_table g k) = absurd (table_accepted m q k)
+  answers_alike (evaluates f h d c) (bad_table {e = i} g k) = absurd (table_accepted i m q k)
   answers_alike (evaluates {o = o} f h d c) (evaluates {o = v} g k b j) =
       comes_alike t u c
-      (subst (λ (x : Settled Result). Comes u x v) (e ∙ ap (λ (ds : List Entry). run (table_of ds) Life.Unmet (evaluation (mail_in a) a.domain)) (entries_one p.entries d.entries))
-      (subst (λ (ds : List Entry). Comes u (run (table_of ds) Life.Unmet (evaluation (mail_in a) a.domain)) v) (entries_one b.entries q.entries) j))
+      (subst (λ (x : Settled Result). Comes u x v) (e ∙ ap (λ (ds : List Entry). run (table_of ds) None (evaluation (mail_in a) a.domain)) (entries_one p.entries d.entries))
+      (subst (λ (ds : List Entry). Comes u (run (table_of ds) None (evaluation (mail_in a) a.domain)) v) (entries_one b.entries q.entries) j))
 
   module _ (h g : Handed) (x : Evaluates (with_table a t) h) (y : Evaluates (with_table a u) g) where
     pub same_but_place : SameButPlace t u h g
@@ -85,5 +86,5 @@ module _ (a : Lent) {t u : List ℕ} {es fs : List Entry} (l : length t ≤ most
 
 pub unasked : Unasked
 unasked a t u es fs l p m q s h g x y =
-    let e = agrees (table_of es) (table_of fs) Life.Unmet (evaluation (mail_in a) a.domain) s in
+    let e = agrees (table_of es) (table_of fs) None (evaluation (mail_in a) a.domain) s in
     (same_but_place a l p m q e h g x y, grown_same a l p m q e h g x y)

@@ -1,9 +1,12 @@
 -- `evaluation::decide` meets its contract. From the rules of Laws.Deciding.
-use Rattle.evaluation.proofs.Laws.Deciding.{decide_wants, decide_result}
+use Rattle.evaluation.proofs.Laws.Deciding.{decide_placed, decide_wants, decide_result}
 use Rattle.evaluation.proofs.decide.Goals as goal
 
-pub returns-in-Wanting : goal.returns-in-Wanting
-returns-in-Wanting c = search decide_wants
+pub finish-requires : goal.finish-requires
+finish-requires c = search decide_placed
 
-pub returns-in-Result : goal.returns-in-Result
-returns-in-Result c = search decide_result
+pub returns-in-Ok : goal.returns-in-Ok
+returns-in-Ok c = search decide_result
+
+pub returns-in-Err : goal.returns-in-Err
+returns-in-Err c = search decide_wants

@@ -1,22 +1,20 @@
 -- `evaluation::evaluate` meets its contract. From the rules of Laws.Deciding: 20 to 26 first, then the check.
 use Rattle.std.proofs.Common.{rules}
-use Rattle.evaluation.proofs.Laws.Deciding.{sender_small, evaluated_refused, evaluated_long, evaluated_malformed, evaluated_repeated, evaluated_decided}
+use Rattle.std.proofs.lemmas.Result.{err_from_is_err_and}
+use Rattle.evaluation.proofs.Laws.Refusing.{sender_small}
+use Rattle.evaluation.proofs.Laws.Deciding.{evaluated_refused, evaluated_bad, evaluated_decided}
 use Rattle.evaluation.proofs.evaluate.Goals as goal
 
-pub decide-requires : goal.decide-requires
-decide-requires c = search (sender_small, rules)
+pub returns-in_err-check_arguments : goal.returns-in_err-check_arguments
+returns-in_err-check_arguments c = let p = err_from_is_err_and c.from_residual.result c.from_residual.ensures.1 in rw (p.1, p.2) (search (evaluated_refused, c.in_err-check_arguments.was))
 
-pub returns-in-TooLong : goal.returns-in-TooLong
-returns-in-TooLong c = search evaluated_long
+pub returns-in_err-check_table : goal.returns-in_err-check_table
+returns-in_err-check_table c =
+    let p = err_from_is_err_and c.from_residual-in_err-check_table.result c.from_residual-in_err-check_table.ensures.1 in
+    rw (p.1, p.2) (search (evaluated_bad, c.in_ok-check_arguments.was, c.in_err-check_table.was))
 
-pub returns-in-Malformed : goal.returns-in-Malformed
-returns-in-Malformed c = search evaluated_malformed
-
-pub returns-in-Repeated : goal.returns-in-Repeated
-returns-in-Repeated c = search evaluated_repeated
-
-pub returns-in-Accepted : goal.returns-in-Accepted
-returns-in-Accepted c = search evaluated_decided
+pub invariant_of-mail : goal.invariant_of-mail
+invariant_of-mail c = search (sender_small, c.in_ok-check_arguments.was, rules)
 
 pub returns : goal.returns
-returns c = search evaluated_refused
+returns c = search (evaluated_decided, c.in_ok-check_arguments.was, c.in_ok-check_table.was)

@@ -5,11 +5,11 @@ use Rattle.evaluation.proofs.finish.Goals as goal
 pub returns-in_default : goal.returns-in_default
 returns-in_default c = search finish_nowhere
 
-pub overflow_sub-result : goal.overflow_sub-result
-overflow_sub-result c = search finish_order
+pub overflow_sub-at : goal.overflow_sub-at
+overflow_sub-at c = search (finish_order, c.requires)
 
-pub returns-in-Absent : goal.returns-in-Absent
-returns-in-Absent c = search finish_absent
+pub returns-in-None : goal.returns-in-None
+returns-in-None c = search finish_absent
 
-pub returns-in-Part : goal.returns-in-Part
-returns-in-Part c = search finish_part
+pub returns-in-Some-exp : goal.returns-in-Some-exp
+returns-in-Some-exp c = search finish_part

@@ -10,7 +10,7 @@ use Rattle.address_text.specs.Digits.{in_decimal}
 use Rattle.received.specs.Quoting.{unescaped}
 use Rattle.received.specs.RoundTrip.{bytes_at}
 use Rattle.received.specs.Texts.{word_of}
-use Rattle.received.specs.declared.Part.{Part}
+use Rattle.text.specs.declared.spans.Span.{Span as Part}
 use Rattle.received.specs.declared.Parts.{Parts}
 use Rattle.line_input.specs.Lines.{line, refusal_line}
 use Rattle.line_input.specs.Reader.{part_lines}
@@ -34,14 +34,14 @@ module _ (out : List ℕ) (at : ℕ) (o₁ : List ℕ) (n₁ : ℕ) (o₂ : List
       wrote_then out at (bytes "refused ") (in_decimal number ++ (10 ∷ [])) o₁ o₃ n₁ n₃ u (wrote_then o₁ n₁ (in_decimal number) (10 ∷ []) o₂ o₃ n₂ n₃ v w)
 
 -- `put_parts`
-pub parts_written : (s : List ℕ) (f : Parts) {out o₁ o₂ o₃ o₄ o₅ o₆ o₇ : List ℕ} {n₁ n₂ n₃ n₄ n₅ n₆ n₇ : ℕ} → Wrote (word_of f.result) out 0 o₁ n₁
-    → Wrote (10 ∷ []) o₁ n₁ o₂ n₂ → Wrote (line (unescaped (bytes_at s f.client))) o₂ n₂ o₃ n₃ → Wrote (line (unescaped (bytes_at s f.sender))) o₃ n₃ o₄ n₄
+pub parts_written : (s : List ℕ) (f : Parts) {out o₂ o₃ o₄ o₅ o₆ o₇ : List ℕ} {at n₂ n₃ n₄ n₅ n₆ n₇ : ℕ} → Wrote (line (word_of f.result)) out at o₂ n₂
+    → Wrote (line (unescaped (bytes_at s f.client))) o₂ n₂ o₃ n₃ → Wrote (line (unescaped (bytes_at s f.sender))) o₃ n₃ o₄ n₄
     → Wrote (line (unescaped (bytes_at s f.helo))) o₄ n₄ o₅ n₅ → Wrote (line (unescaped (bytes_at s f.receiver))) o₅ n₅ o₆ n₆
-    → Wrote (line (unescaped (bytes_at s f.identity))) o₆ n₆ o₇ n₇ → Wrote (part_lines s f) out 0 o₇ n₇
+    → Wrote (line (unescaped (bytes_at s f.identity))) o₆ n₆ o₇ n₇ → Wrote (part_lines s f) out at o₇ n₇
 unfolding part_lines
-parts_written s f {out} {o₁} {o₂} {o₃} {o₄} {o₅} {o₆} {o₇} {n₁} {n₂} {n₃} {n₄} {n₅} {n₆} {n₇} u v w x y z k =
+parts_written s f {out} {o₂} {o₃} {o₄} {o₅} {o₆} {o₇} {at} {n₂} {n₃} {n₄} {n₅} {n₆} {n₇} u w x y z k =
     let value : Part → List ℕ = λ p. line (unescaped (bytes_at s p)) in
-    wrote_then out 0 (line (word_of f.result)) _ o₂ o₇ n₂ n₇ (line_written out 0 o₁ n₁ o₂ n₂ (word_of f.result) u v)
+    wrote_then out at (line (word_of f.result)) _ o₂ o₇ n₂ n₇ u
     (wrote_then o₂ n₂ (value f.client) _ o₃ o₇ n₃ n₇ w
     (wrote_then o₃ n₃ (value f.sender) _ o₄ o₇ n₄ n₇ x
     (wrote_then o₄ n₄ (value f.helo) _ o₅ o₇ n₅ n₇ y

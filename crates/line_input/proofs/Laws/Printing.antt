@@ -1,5 +1,6 @@
 -- What is printed of an input: it is what the productions say, it is one text of at most 1,500 bytes, no byte past 4,097 of the input matters, and the
 -- line that is printed for six lines is printed back as those. From the laws of SixLines and of `received`.
+use Rattle.std.proofs.Common.{None, Option, Some, Result, Ok, Err}
 use Prim.Native.Nat.{ℕ, ◌≤◌, ◌<◌}
 use mathlib.Core.Path.{◌≡◌, refl, sym, ap, subst, ◌∙◌}
 use mathlib.Core.List.{List}
@@ -17,29 +18,25 @@ use Rattle.address.specs.Octets.{as_client}
 use Rattle.address_text.proofs.Laws.Lengths.{length_decimal, length_readable}
 use Rattle.macros.specs.Expansion.{is_host}
 use Rattle.networks.specs.Reader6.{read_address}
-use Rattle.networks.specs.declared.Network.{Network}
-use Rattle.networks.specs.declared.Network.TheVariants as networks
 use Rattle.networks.proofs.Laws.Ranges.{address_range}
 use Rattle.received.specs.Quoting.{escaped, unescaped}
 use Rattle.received.specs.Line.{Word, none, neutral, pass, fail, softfail, temperror, permerror, Values, Line}
-use Rattle.received.specs.Numbers.{Outcome, refused, written}
+use Rattle.received.specs.Numbers.{error_number, Outcome}
 use Rattle.received.specs.Answers.{Given, given, identity_text, values_of, most_line, Writes, fits, LineFor, ReadsLine}
 use Rattle.received.specs.Texts.{word_of, outcome}
 use Rattle.received.specs.Reader.{number_of, line_answer}
 use Rattle.received.specs.declared.Identity.{Identity}
 use Rattle.received.specs.declared.Identity.TheVariants.{MailFrom, Helo}
 use Rattle.received.specs.declared.Parts.{Parts}
-use Rattle.received.specs.declared.LineAnswer.{LineAnswer}
-use Rattle.received.specs.declared.LineAnswer.TheVariants as answers
+use Rattle.received.specs.declared.LineError.{LineError}
 use Rattle.received.proofs.Laws.Quoting.{unescaped_escaped}
 use Rattle.received.proofs.Laws.Lines.{word_of_lem, word_one, writes as writes-right}
 use Rattle.received.proofs.Laws.Inverse.{line_stands, reads_right, sender_short, host_short}
 use Rattle.received.proofs.Laws.Deciding.{writes_is, reads_one}
 use Rattle.line_input.specs.Lines.{line, refusal_line, six_lines, Opens, most_input, SixLines, Prints, unreadable, refuses, writes, no_line, reads, room}
 use Rattle.line_input.specs.Reader.{opens, has_six_lines, identity_named, part_lines, answer_lines, read_text, outcome_text, written_text, named_text, lines_text, printed}
-use Rattle.line_input.specs.declared.Named.{Named}
-use Rattle.line_input.specs.declared.Named.TheVariants as named
 use Rattle.line_input.proofs.Laws.SixLines.{six_shape, six_small, six_client, six_identity, six_text, six_found}
+use Rattle.address.specs.declared.Address.{Address}
 
 -- the test of how an input begins
 opens_true : (input : List ℕ) → opens input ≡ true → Opens input
@@ -68,18 +65,18 @@ lines_back {g} w k =
 
 -- what the code prints is what the productions say
 module _ (input : List ℕ) where
-  read_prints : Opens input → (r : LineAnswer) → ReadsLine input r → Prints input (answer_lines input r)
+  read_prints : Opens input → (r : Result Parts LineError) → ReadsLine input r → Prints input (answer_lines input r)
   unfolding answer_lines
-  read_prints o (answers.Read f) (ReadsLine.reads {g} w) =
+  read_prints o (Ok f) (ReadsLine.reads {g} w) =
       let k = word_of_lem g.result w.fit.result in
       subst (Prints input) (sym (lines_back w k)) (reads o w k)
-  read_prints o (answers.Refused number) r = no_line o r
+  read_prints o (Err e) r = no_line o r
 
   module _ (closed : Opens input → ⊥) where
     outcome_prints : (g : Given) → SixLines input g → (x : Outcome) → Writes g most_line x → Prints input (outcome_text x)
     unfolding outcome_text
-    outcome_prints g x (refused number) w = refuses closed x w
-    outcome_prints g x (written xs) w = writes closed x w
+    outcome_prints g x (Err e) w = refuses closed x w
+    outcome_prints g x (Ok xs) w = writes closed x w
 
     lines_print : has_six_lines input ≡ true
         → Prints input (lines_text (field 10 0 input) (field 10 1 input) (field 10 2 input) (field 10 3 input) (field 10 4 input) (field 10 5 input))
@@ -89,11 +86,11 @@ module _ (input : List ℕ) where
         (λ e. unreadable closed (λ g x. omega (arith, six_small input g x, leb-true 7 (number_of (field 10 0 input)) e)))
         (λ e. by (leb-false 7 (number_of (field 10 0 input)) e) (read_address (field 10 1 input)) refl (identity_named (field 10 5 input)) refl)
       where
-        by : number_of (field 10 0 input) < 7 → (y : Network) → read_address (field 10 1 input) ≡ y → (i : Named) → identity_named (field 10 5 input) ≡ i
+        by : number_of (field 10 0 input) < 7 → (y : Option Address) → read_address (field 10 1 input) ≡ y → (i : Option Identity) → identity_named (field 10 5 input) ≡ i
             → Prints input (named_text (number_of (field 10 0 input)) y i (field 10 2 input) (field 10 3 input) (field 10 4 input))
-        by k networks.NoNetwork e i f = unreadable closed (λ g x. let c = six_client input g x in let q : ◌≡◌ {A = ℕ} 0 1 = cc in omega arith)
-        by k (networks.Is a) e named.NoIdentity f = unreadable closed (λ g x. let c = six_identity input g x in let q : ◌≡◌ {A = ℕ} 0 1 = cc in omega arith)
-        by k (networks.Is a) e (named.Is i) f =
+        by k None e i f = unreadable closed (λ g x. let c = six_client input g x in let q : ◌≡◌ {A = ℕ} 0 1 = cc in omega arith)
+        by k (Some a) e None f = unreadable closed (λ g x. let c = six_identity input g x in let q : ◌≡◌ {A = ℕ} 0 1 = cc in omega arith)
+        by k (Some a) e (Some i) f =
             let g = given (number_of (field 10 0 input)) a (field 10 2 input) (field 10 3 input) (field 10 4 input) i in
             outcome_prints g (six_found input h k a e i f) (outcome g most_line) (writes-right g most_line)
 
@@ -119,17 +116,17 @@ six_printed : (input : List ℕ) (g : Given) (x : Outcome) → (Opens input → 
 unfolding printed written_text
 six_printed input g x n l w = rw (opens_false input n, six_shape input g l, six_text input g l) (ap outcome_text (writes_is w))
 
-line_printed : (input : List ℕ) (r : LineAnswer) → Opens input → ReadsLine input r → answer_lines input r ≡ printed input
+line_printed : (input : List ℕ) (r : Result Parts LineError) → Opens input → ReadsLine input r → answer_lines input r ≡ printed input
 unfolding printed read_text
 line_printed input r o x = rw (true_opens input o) (ap (answer_lines input) (reads_one input r (line_answer input) x (reads_right input)))
 
 pub prints_is : (input s : List ℕ) → Prints input s → s ≡ printed input
 unfolding outcome_text answer_lines
 prints_is input s (unreadable n k) = none_other input n k (printed input) (prints_right input)
-prints_is input s (refuses {g} {number} n x w) = six_printed input g (refused number) n x w
-prints_is input s (writes {g} {xs} n x w) = six_printed input g (written xs) n x w
-prints_is input s (no_line {number} o r) = line_printed input (answers.Refused number) o r
-prints_is input s (reads {g} {f} o w k) = sym (lines_back w k) ∙ line_printed input (answers.Read f) o (ReadsLine.reads w)
+prints_is input s (refuses {g} {e} n x w) = six_printed input g (Err e) n x w
+prints_is input s (writes {g} {xs} n x w) = six_printed input g (Ok xs) n x w
+prints_is input s (no_line {e} o r) = line_printed input (Err e) o r
+prints_is input s (reads {g} {f} o w k) = sym (lines_back w k) ∙ line_printed input (Ok f) o (ReadsLine.reads w)
 
 pub prints_one : (input s t : List ℕ) → Prints input s → Prints input t → s ≡ t
 prints_one input s t p q = prints_is input s p ∙ sym (prints_is input t q)
@@ -161,9 +158,9 @@ six_length g word k a b c =
 pub prints_length : (input s : List ℕ) → Prints input s → length s ≤ room
 unfolding line
 prints_length input s (unreadable n k) = omega arith
-prints_length input s (refuses {number = number} n x w) = omega (arith, refusal_length number)
+prints_length input s (refuses {e = e} n x w) = omega (arith, refusal_length (error_number e))
 prints_length input s (writes n x (fits f l h k)) = h
-prints_length input s (no_line {number} o r) = omega (arith, refusal_length number)
+prints_length input s (no_line {e} o r) = omega (arith, refusal_length (error_number e))
 prints_length input s (reads {g} {word = word} o w k) =
     let hosts = w.fit.hosts in
     six_length g word k (sender_short g.sender w.fit.sender)
@@ -192,7 +189,7 @@ long_input input s h (reads o w k) = absurd (omega (arith, w.short))
 line_opens : {n : ℕ} {v : Values} {s : List ℕ} {f : Parts} → Line n v s f → Opens s
 line_opens (Line.line w a b c d e) = refl
 
-pub printed_back : (input xs : List ℕ) (g : Given) (word : List ℕ) → SixLines input g → Word g.result word → Writes g most_line (written xs)
+pub printed_back : (input xs : List ℕ) (g : Given) (word : List ℕ) → SixLines input g → Word g.result word → Writes g most_line (Ok xs)
     → Prints xs (six_lines word (values_of g))
 printed_back input xs g word x k (fits {f = f} fit l h r) =
     reads (line_opens l) (record { client = address_range x.client; fit = fit; line = l; short = h }) k

@@ -2,8 +2,8 @@
 use Rattle.line_input.proofs.Laws.Inputs.{line_read, line_refused}
 use Rattle.line_input.proofs.answer_line.Goals as goal
 
-pub returns-in-Read : goal.returns-in-Read
-returns-in-Read c = search line_read
+pub returns-in-Ok : goal.returns-in-Ok
+returns-in-Ok c = search line_read
 
-pub returns-in-Refused : goal.returns-in-Refused
-returns-in-Refused c = search line_refused
+pub returns-in-Err : goal.returns-in-Err
+returns-in-Err c = search line_refused

@@ -2,8 +2,8 @@
 use Rattle.line_input.proofs.Laws.Inputs.{six_too_long, six_or_not}
 use Rattle.line_input.proofs.has_six_lines.Goals as goal
 
-pub returns-then-input-gt-MOST_INPUT : goal.returns-then-input-gt-MOST_INPUT
-returns-then-input-gt-MOST_INPUT c = search six_too_long
+pub returns-else-input-le-MOST_INPUT : goal.returns-else-input-le-MOST_INPUT
+returns-else-input-le-MOST_INPUT c = search six_too_long
 
-pub returns : goal.returns
-returns c = search six_or_not
+pub returns-then-input-le-MOST_INPUT : goal.returns-then-input-le-MOST_INPUT
+returns-then-input-le-MOST_INPUT c = search six_or_not

@@ -11,6 +11,6 @@ pub returns-then-equal-2 : goal.returns-then-equal-2
 unfolding identity_named
 returns-then-equal-2 c = search ways
 
-pub returns : goal.returns
+pub returns-else-equal-2 : goal.returns-else-equal-2
 unfolding identity_named
-returns c = search ways
+returns-else-equal-2 c = search ways

@@ -8,5 +8,5 @@ returns-then-is_opened c = search opened_printed
 pub returns-then-has_six_lines : goal.returns-then-has_six_lines
 returns-then-has_six_lines c = search lines_printed
 
-pub returns : goal.returns
-returns c = search other_printed
+pub returns-else-has_six_lines : goal.returns-else-has_six_lines
+returns-else-has_six_lines c = search other_printed

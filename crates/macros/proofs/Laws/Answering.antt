@@ -1,4 +1,5 @@
 -- What an expansion answers, by the productions: `outcome` answers so, and nothing else does. From Soundness and Completeness.
+use Rattle.std.proofs.Common.{Result}
 use Prim.Native.Nat.{ℕ}
 use mathlib.Core.Path.{◌≡◌}
 use mathlib.Core.List.{List}
@@ -8,7 +9,7 @@ use lib.Dec.{leb}
 use borrow.Author.Tests.{leb-true, leb-false, le-leb, lt-leb}
 use Rattle.text.proofs.Laws.Tests.{cond-elim, test_fails, true_false}
 use Rattle.macros.specs.declared.Form.{Form}
-use Rattle.macros.specs.declared.Expanded.{Expanded}
+use Rattle.macros.specs.declared.ExpandError.{ExpandError}
 use Rattle.macros.specs.Grammar.{Piece, Produces}
 use Rattle.macros.specs.Reader.{pieces, is_macro_string}
 use Rattle.macros.specs.Expansion.{Given, letters_of, text_of, is_sender, is_host, is_short}
@@ -58,7 +59,7 @@ module _ (form : Form) (s : List ℕ) (g : Given) (room : ℕ) where
       rw (f.sender, f.hosts, f.short, q.0, q.1, le-leb (length (text_of (letters_of g) ps)) room l)
 
 -- what says the outcome is an answer
-pub answered : (form : Form) (s : List ℕ) (g : Given) (r : Expanded) (before after : List ℕ) → Says (outcome form s g (length before)) r before after
+pub answered : (form : Form) (s : List ℕ) (g : Given) (r : Result ℕ ExpandError) (before after : List ℕ) → Says (outcome form s g (length before)) r before after
     → Says (outcome form s g (length before)) r before after × Answered form s g r before after
 answered form s g r before after w =
     (w, record { outcome = outcome form s g (length before); expands = outcome_expands form s g (length before); says = w })

@@ -1,6 +1,7 @@
 -- One macro-expand: what the reader finds at the front of a text, the grammar produces, and what it produces, the reader finds, whatever stands
 -- behind it. The digits are a longest run, and r, a delimiter or the brace behind them is no digit; a delimiter or the brace is no r; the
 -- delimiters are a longest run, and the brace behind them is no delimiter. From the laws of runs and of spans.
+use Rattle.std.proofs.Common.{Option, Some, None}
 use Prim.Native.Nat.{ℕ, suc, ◌+◌, ◌≤◌, ◌<◌}
 use mathlib.Core.Path.{◌≡◌, refl, sym, ap, subst, ◌∙◌}
 use mathlib.Core.List.{List, [], ◌∷◌, ◌++◌}
@@ -32,12 +33,11 @@ pub record Expanded (form : Form) (s : List ℕ) (n : ℕ) (p : Piece) : Type 0 
   pub made : MacroExpand form word p
   pub inside : n ≤ length s
 
-abbrev pub FoundRight : Form → List ℕ → Found → Type 0
-FoundRight form s Found.End = s ≡ []
-FoundRight form s (Found.Literal b) = (s ≡ b ∷ drop 1 s) × (is_literal form b ≡ true)
-FoundRight form s (Found.Escape b) = Expanded form s 2 (escape b)
-FoundRight form s (Found.Expand m) = Expanded form s (m.to + 1) (expand (macro_of s m))
-FoundRight form s Found.Bad = Unit {0}
+abbrev pub FoundRight : Form → List ℕ → Option Found → Type 0
+FoundRight form s (Some (Found.Literal b)) = (s ≡ b ∷ drop 1 s) × (is_literal form b ≡ true)
+FoundRight form s (Some (Found.Escape b)) = Expanded form s 2 (escape b)
+FoundRight form s (Some (Found.Expand m)) = Expanded form s (m.delimiters.to + 1) (expand (macro_of s m))
+FoundRight form s None = Unit {0}
 
 -- what is found is produced
 letter_zero : (form : Form) → is_letter form 0 ≡ false
@@ -118,7 +118,7 @@ pub piece_sound : (form : Form) (s : List ℕ) → FoundRight form s (piece_of f
 unfolding piece_of
 piece_sound form s =
     cond-elim (FoundRight form s) (eqb (length s) 0)
-    (λ h. empty_of s (eqb-true (length s) 0 h))
+    (λ _. tt)
     (λ n. cond-elim (FoundRight form s) (eqb (at s 0) 37)
     (λ h. cond-elim (FoundRight form s) (is_escape (at s 1))
     (λ k. escape_sound form s (at s 1) (eqb-true (at s 0) 37 h) refl k)
@@ -167,12 +167,12 @@ record Closed (s : List ℕ) (d e : ℕ) (reversed : Bool) (delimiters : List �
   to : ℕ
   span : Span s from to delimiters
   ends : e ≡ to + 1
-  found : reversal_at s d ≡ Found.Expand (record { letter = at s 2; digits = d; reversed = reversed; from = from; to = to })
+  found : reversal_at s d ≡ Some (Found.Expand (record { letter = at s 2; digits = d; reversed = reversed; delimiters = record { from = from; to = to } }))
   stops : is_digit (at s d) ≡ false
 
 delimiters_complete : {s : List ℕ} {f e : ℕ} (d : ℕ) (reversed : Bool) (delimiters : List ℕ) → all is_delimiter delimiters ≡ true
     → Span s f e (delimiters ++ (125 ∷ []))
-    → delimiters_at s d reversed f ≡ Found.Expand (record { letter = at s 2; digits = d; reversed = reversed; from = f; to = f + length delimiters })
+    → delimiters_at s d reversed f ≡ Some (Found.Expand (record { letter = at s 2; digits = d; reversed = reversed; delimiters = record { from = f; to = f + length delimiters } }))
 unfolding delimiters_at closed_at
 delimiters_complete {s} {f} {e} d reversed delimiters h sp =
     let c = span_cut delimiters (125 ∷ []) sp in
@@ -210,7 +210,7 @@ braces_here : (form : Form) (rest : List ℕ) → piece_of form (37 ∷ 123 ∷ 
 unfolding piece_of is_escape
 braces_here form rest = simp (ne_eqb (suc (suc (length rest))) 0 (λ e. omega arith))
 
-escape_here : (form : Form) (b : ℕ) (rest : List ℕ) → is_escape b ≡ true → piece_of form (37 ∷ b ∷ rest) ≡ Found.Escape b
+escape_here : (form : Form) (b : ℕ) (rest : List ℕ) → is_escape b ≡ true → piece_of form (37 ∷ b ∷ rest) ≡ Some (Found.Escape b)
 unfolding piece_of
 escape_here form b rest h = simp (ne_eqb (suc (suc (length rest))) 0 (λ e. omega arith), h)
 

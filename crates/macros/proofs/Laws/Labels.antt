@@ -2,11 +2,11 @@
 use Prim.Native.Nat.{ℕ, ◌-◌, ◌≤◌, ◌<◌}
 use mathlib.Core.Path.{◌≡◌, refl, sym, ap, ◌∙◌}
 use mathlib.Core.List.{List, [], ◌∷◌, ◌++◌}
-use mathlib.Core.Bool.{Bool, true, false, not, and-false}
+use mathlib.Core.Bool.{Bool, true, false, not, and-false, and-true}
 use native.Mathlib.Omega.{arith}
 use lib.ListN.{length, take, drop}
 use borrow.Author.Tests.{not-true}
-use Rattle.text.specs.Bytes.{at, is_dot, is_not_dot, is_alphanumeric, is_toplabel_byte}
+use Rattle.text.specs.Bytes.{at, is_dot, is_not_dot, is_digit, is_alphanumeric, is_toplabel_byte}
 use Rattle.text.specs.Lists.{all, split, grow}
 use Rattle.text.specs.Runs.{is_in, trailing_start}
 use Rattle.text.specs.declared.bytes.Class.TheVariants.{NotDot, Digit, Alphanumeric, ToplabelByte}
@@ -18,8 +18,6 @@ use Rattle.text.proofs.Laws.Spans.{rest_part}
 use Rattle.text.proofs.Laws.Splitting.{Some, some, split_some, Undelimited, undelimited_last, undelimited_whole}
 use Rattle.domain.specs.Normal.{without_dot}
 use Rattle.macros.specs.Reader.{is_toplabel, last_label, ends_in_label}
-use Rattle.macros.proofs.Laws.Braces.{empty_of}
-use Rattle.macros.proofs.Laws.Toplabels.{empty_no_label}
 
 -- the last of several parts
 pub last_label_lem : (xs : List (List ℕ)) (y : List ℕ) → Some xs → last_label (xs ++ (y ∷ [])) ≡ y
@@ -64,42 +62,35 @@ module _ (s : List ℕ) (i : ℕ) (p : i ≡ trailing_start (is_in NotDot) s) wh
   label_none h = sym (ap last_label (undelimited_whole is_dot s i undotted (omega arith)))
 
 -- the ways out of `is_toplabel`
-pub top_digits : (l : List ℕ) (x : Bool) → x ≡ false → (d : Bool) → d ≡ all (is_in Digit) l → d ≡ true → x ≡ is_toplabel l
-unfolding is_toplabel
-top_digits l x e d p q = e ∙ sym (simp (sym (class_tests Digit l) ∙ sym p ∙ q, and-false))
+module _ (l : List ℕ) (r : Bool) (p : r ≡ all (is_in ToplabelByte) l) where
+  bytes : all is_toplabel_byte l ≡ r
+  bytes = sym (class_tests ToplabelByte l) ∙ sym p
 
-module _ (l : List ℕ) where
-  pub top_empty : length l ≡ 0 → false ≡ is_toplabel l
-  top_empty h = sym (ap is_toplabel (empty_of l h) ∙ empty_no_label)
+  pub top_bad_byte : r ≡ false → false ≡ is_toplabel l
+  unfolding is_toplabel
+  top_bad_byte q = sym (simp (bytes ∙ q))
 
-  module _ (r : Bool) (p : r ≡ all (is_in ToplabelByte) l) where
-    bytes : all is_toplabel_byte l ≡ r
-    bytes = sym (class_tests ToplabelByte l) ∙ sym p
+  module _ (d : Bool) (pd : d ≡ all (is_in Digit) l) where
+    digits : all is_digit l ≡ d
+    digits = sym (class_tests Digit l) ∙ sym pd
 
-    pub top_bad_byte : r ≡ false → false ≡ is_toplabel l
+    pub top_digits : d ≡ true → false ≡ is_toplabel l
     unfolding is_toplabel
-    top_bad_byte q = simp (bytes ∙ q)
+    top_digits q = sym (simp (digits ∙ q, and-false))
 
-    module _ (q : r ≡ true) (a : Bool) (pa : a ≡ is_in Alphanumeric (at l 0)) where
+    module _ (q : r ≡ true) (qd : d ≡ false) (f : ℕ) (ef : f ≡ at l 0) (a : Bool) (pa : a ≡ is_in Alphanumeric f) where
       first : is_alphanumeric (at l 0) ≡ a
-      first = sym (class_test Alphanumeric (at l 0)) ∙ sym pa
+      first = sym (class_test Alphanumeric (at l 0)) ∙ ap (is_in Alphanumeric) (sym ef) ∙ sym pa
 
-      pub top_bad_first : a ≡ false → false ≡ is_toplabel l
+      pub top_first : a ≡ false → a ≡ is_toplabel l
       unfolding is_toplabel
-      top_bad_first qa = simp (bytes ∙ q, first ∙ qa)
+      top_first qa = qa ∙ sym (simp (bytes ∙ q, first ∙ qa))
 
-      module _ (qa : a ≡ true) (z : Bool) (pz : z ≡ is_in Alphanumeric (at l (length l - 1))) where
-        last : is_alphanumeric (at l (length l - 1)) ≡ z
-        last = sym (class_test Alphanumeric (at l (length l - 1))) ∙ sym pz
-
-        pub top_bad_last : z ≡ false → false ≡ is_toplabel l
-        unfolding is_toplabel
-        top_bad_last qz = simp (bytes ∙ q, first ∙ qa, last ∙ qz)
-
-        module _ (qz : z ≡ true) (d : Bool) (pd : d ≡ all (is_in Digit) l) where
-          pub top_right : d ≡ false → true ≡ is_toplabel l
-          unfolding is_toplabel
-          top_right qd = simp (bytes ∙ q, first ∙ qa, last ∙ qz, sym (class_tests Digit l) ∙ sym pd ∙ qd)
+      pub top_last : a ≡ true → (k : ℕ) → k ≡ length l - 1 → (g : ℕ) → g ≡ at l k → (z : Bool) → z ≡ is_in Alphanumeric g → z ≡ is_toplabel l
+      unfolding is_toplabel
+      top_last qa k ek g eg z pz =
+          let last : is_alphanumeric (at l (length l - 1)) ≡ z = sym (class_test Alphanumeric (at l (length l - 1))) ∙ ap (is_in Alphanumeric) (sym (eg ∙ ap (at l) ek)) ∙ sym pz in
+          sym (simp (bytes ∙ q, first ∙ qa, last, digits ∙ qd, and-true))
 
 -- `ends_in_label`
 pub label_at_end : (s w l : List ℕ) (r : Bool) → w ≡ without_dot s → l ≡ last_label (split is_dot w) → r ≡ is_toplabel l → r ≡ ends_in_label s

@@ -1,23 +1,22 @@
 -- The ways out of the functions that read macro strings, and the walk over the pieces of a text: a rule for each way. From the definitions of
 -- Reader, the laws of Pieces, and for the productions Completeness.
+use Rattle.std.proofs.Common.{None, Option, Some}
 use Prim.Native.Nat.{ℕ, zero, suc, ◌+◌, ◌-◌, ◌≤◌, ◌<◌, ◌^◌}
 use mathlib.Core.Path.{◌≡◌, refl, sym, ap, ◌∙◌}
 use mathlib.Core.List.{List, [], ◌∷◌}
-use mathlib.Core.Logic.{◌↔◌}
+use mathlib.Core.Logic.{◌↔◌, ◌⊎◌, ⊎_elim}
 use mathlib.Core.Bool.{Bool, true, false, cond, ◌||◌, or_assoc, or-false}
 use native.Mathlib.Omega.{arith}
 use lib.ListN.{length, get_or, take, drop, length-drop}
 use lib.Seq.{drop-cons, drop-drop}
 use lib.Dec.{leb, eqb}
-use borrow.Author.Tests.{eq-eqb, ne_eqb, le-leb, leb-false}
+use borrow.Author.Tests.{eq-eqb, ne_eqb, eqb-true, eqb-false, le-leb, leb-false}
 use Rattle.text.specs.Bytes.{at, part, lower, within, is_digit, is_macro_literal}
 use Rattle.text.specs.Texts.{bytes}
 use Rattle.text.specs.Decimal.{decimal, is_decimal, read_decimal}
 use Rattle.text.specs.Lists.{all, contains}
 use Rattle.text.specs.Runs.{is_in, run_end}
 use Rattle.text.specs.declared.bytes.Class.TheVariants.{Digit, MacroLiteral, Delimiter}
-use Rattle.text.specs.declared.decimal.Number.{Number}
-use Rattle.text.specs.declared.decimal.Number.TheVariants.{Value, Refused}
 use Rattle.text.proofs.Laws.Classes.{class_tests}
 use Rattle.text.proofs.Laws.Runs.{run_end_next, run_end_here, run_end_out, run_end_inside}
 use Rattle.macros.specs.Grammar.{Macro, Piece, literal, escape, expand, Produces, is_letter, is_part_count}
@@ -28,7 +27,7 @@ use Rattle.macros.specs.declared.Summary.{Summary}
 use Rattle.macros.specs.declared.pieces.Braces.{Braces}
 use Rattle.macros.specs.declared.pieces.Found.{Found}
 use Rattle.macros.proofs.Laws.Completeness.{accepted_iff}
-use Rattle.macros.proofs.Laws.Pieces.{reverse_inside, piece_none, found_at, escape_within, expand_within, pieces_none, pieces_end, pieces_bad, pieces_literal, pieces_escape, pieces_expand}
+use Rattle.macros.proofs.Laws.Pieces.{reverse_inside, piece_none, found_at, escape_within, expand_within, pieces_none, pieces_end, pieces_literal, pieces_escape, pieces_expand}
 
 -- `is_count`
 module _ (s : List ℕ) (r : Bool) (p : r ≡ all (is_in Digit) s) where
@@ -39,34 +38,37 @@ module _ (s : List ℕ) (r : Bool) (p : r ≡ all (is_in Digit) s) where
   unfolding is_part_count
   count_other q = simp (digits ∙ q)
 
-  pub count_none : r ≡ true → length s ≡ 0 → true ≡ is_part_count s
+  pub count_none : r ≡ true → (e : Bool) → e ≡ eqb (length s) 0 → e ≡ true → true ≡ is_part_count s
   unfolding is_part_count
-  count_none q h = simp (digits ∙ q, eq-eqb (length s) 0 h)
+  count_none q e h k = simp (digits ∙ q, sym h ∙ k)
 
-  module _ (q : r ≡ true) (some : length s ≡ 0 → ⊥) where
+  module _ (q : r ≡ true) (e : Bool) (h : e ≡ eqb (length s) 0) (k : e ≡ false) where
+    some : length s ≡ 0 → ⊥
+    some = eqb-false (length s) 0 (sym h ∙ k)
+
     counted : is_part_count s ≡ leb 1 (decimal s)
     unfolding is_part_count
-    counted = simp (digits ∙ q, ne_eqb (length s) 0 some)
+    counted = simp (digits ∙ q, sym h ∙ k)
 
     module _ (limit : ℕ) where
-      read : read_decimal limit s ≡ cond (leb (decimal s) limit) (Value (decimal s)) Refused
+      read : read_decimal limit s ≡ cond (leb (decimal s) limit) (Some (decimal s)) None
       unfolding read_decimal is_decimal
-      read = simp (le-leb 1 (length s) (omega arith), digits ∙ q)
+      read = simp (le-leb 1 (length s) (let z = some in omega arith), digits ∙ q)
 
-      value : (v : ℕ) → (t : Bool) → cond t (Value (decimal s)) Refused ≡ Value v → v ≡ decimal s
+      value : (v : ℕ) → (t : Bool) → cond t (Some (decimal s)) None ≡ Some v → v ≡ decimal s
       value v true e = cc
       value v false e = let z : ◌≡◌ {A = ℕ} 0 1 = cc in omega arith
 
-      over : (t : Bool) → leb (decimal s) limit ≡ t → cond t (Value (decimal s)) Refused ≡ Refused → limit < decimal s
+      over : (t : Bool) → leb (decimal s) limit ≡ t → cond t (Some (decimal s)) None ≡ None → limit < decimal s
       over true k e = absurd (let z : ◌≡◌ {A = ℕ} 0 1 = cc in omega arith)
       over false k e = leb-false (decimal s) limit k
 
-      module _ (n : Number) (e : n ≡ read_decimal limit s) where
-        pub count_value : (v : ℕ) → n ≡ Value v → (x : Bool) → x ≡ leb 1 v → x ≡ is_part_count s
-        count_value v h x g = g ∙ ap (leb 1) (value v (leb (decimal s) limit) (sym read ∙ sym e ∙ h)) ∙ sym counted
+      module _ (n : Option ℕ) (en : n ≡ read_decimal limit s) where
+        pub count_value : (v : ℕ) → n ≡ Some v → (x : Bool) → x ≡ leb 1 v → x ≡ is_part_count s
+        count_value v w x g = g ∙ ap (leb 1) (value v (leb (decimal s) limit) (sym read ∙ sym en ∙ w)) ∙ sym counted
 
-        pub count_large : n ≡ Refused → true ≡ is_part_count s
-        count_large h = let l = over (leb (decimal s) limit) refl (sym read ∙ sym e ∙ h) in sym (counted ∙ le-leb 1 (decimal s) (omega arith))
+        pub count_large : n ≡ None → true ≡ is_part_count s
+        count_large w = let l = over (leb (decimal s) limit) refl (sym read ∙ sym en ∙ w) in sym (counted ∙ le-leb 1 (decimal s) (omega arith))
 
 -- `is_letter`
 module _ (form : Form) (b l : ℕ) (p : l ≡ lower b) (r : Bool) where
@@ -74,25 +76,31 @@ module _ (form : Form) (b l : ℕ) (p : l ≡ lower b) (r : Bool) where
   unfolding is_letter
   letter_domain e h = h ∙ simp (p, e)
 
-  pub letter_value_lem : form ≡ ModifierValue → r ≡ contains (bytes "slodipvhcrt") l → r ≡ is_letter form b
+  pub letter_other : (form ≡ ModifierValue) ⊎ (form ≡ Explanation) → r ≡ contains (bytes "slodipvhcrt") l → r ≡ is_letter form b
   unfolding is_letter
-  letter_value_lem e h = h ∙ simp (p, e)
+  letter_other f h = ⊎_elim (λ (e : form ≡ ModifierValue). h ∙ simp (p, e)) (λ (e : form ≡ Explanation). h ∙ simp (p, e)) f
 
-  pub letter_explanation : form ≡ Explanation → r ≡ contains (bytes "slodipvhcrt") l → r ≡ is_letter form b
-  unfolding is_letter
-  letter_explanation e h = h ∙ simp (p, e)
+-- `is_literal`
+pub literal_other : (form : Form) (b : ℕ) (r : Bool) → r ≡ is_in MacroLiteral b → (form ≡ DomainSpec) ⊎ (form ≡ ModifierValue) → r ≡ is_literal form b
+unfolding is_literal is_in
+literal_other form b r h f = ⊎_elim (λ (e : form ≡ DomainSpec). h ∙ simp e) (λ (e : form ≡ ModifierValue). h ∙ simp e) f
+
+-- `is_escape`
+pub escape_listed : (b : ℕ) (r : Bool) → r ≡ contains (bytes "%_-") b → r ≡ is_escape b
+unfolding contains is_escape
+escape_listed b r h = h ∙ simp or-false
 
 -- `read_delimiters`
 module _ (s : List ℕ) (d : ℕ) (reversed : Bool) (from to b : ℕ) (p : to ≡ run_end (is_in Delimiter) s from) (q : b ≡ at s to) where
-  closed : delimiters_at s d reversed from ≡ cond (eqb b 125) (Found.Expand (record { letter = at s 2; digits = d; reversed = reversed; from = from; to = to })) Found.Bad
+  closed : delimiters_at s d reversed from ≡ cond (eqb b 125) (Some (Found.Expand (record { letter = at s 2; digits = d; reversed = reversed; delimiters = record { from = from; to = to } }))) None
   unfolding delimiters_at closed_at
   closed = rw (← p, q)
 
   pub delimiters_closed : b ≡ 125 → (l : ℕ) → l ≡ at s 2
-      → Found.Expand (record { letter = l; digits = d; reversed = reversed; from = from; to = to }) ≡ delimiters_at s d reversed from
+      → Some (Found.Expand (record { letter = l; digits = d; reversed = reversed; delimiters = record { from = from; to = to } })) ≡ delimiters_at s d reversed from
   delimiters_closed h l e = sym (closed ∙ simp (eq-eqb b 125 h, e))
 
-  pub delimiters_bad : (b ≡ 125 → ⊥) → Found.Bad ≡ delimiters_at s d reversed from
+  pub delimiters_bad : (b ≡ 125 → ⊥) → None ≡ delimiters_at s d reversed from
   delimiters_bad h = sym (closed ∙ simp (ne_eqb b 125 h))
 
 -- `read_reversal`
@@ -104,11 +112,11 @@ module _ (s : List ℕ) (d b l : ℕ) (p : b ≡ at s d) (q : l ≡ lower b) whe
   pub reversal_room : l ≡ 114 → length s < 2 ^ 64 → d + 1 < 2 ^ 64
   reversal_room e h = let i = reverse_inside s d (reverses ∙ eq-eqb l 114 e) in omega arith
 
-  pub reversal_there : l ≡ 114 → (r : Found) → r ≡ delimiters_at s d true (d + 1) → r ≡ reversal_at s d
+  pub reversal_there : l ≡ 114 → (r : Option Found) → r ≡ delimiters_at s d true (d + 1) → r ≡ reversal_at s d
   unfolding reversal_at
   reversal_there e r h = h ∙ sym (simp (reverses, eq-eqb l 114 e))
 
-  pub reversal_absent : (l ≡ 114 → ⊥) → (r : Found) → r ≡ delimiters_at s d false d → r ≡ reversal_at s d
+  pub reversal_absent : (l ≡ 114 → ⊥) → (r : Option Found) → r ≡ delimiters_at s d false d → r ≡ reversal_at s d
   unfolding reversal_at
   reversal_absent e r h = h ∙ sym (simp (reverses, ne_eqb l 114 e))
 
@@ -117,11 +125,11 @@ module _ (s : List ℕ) (d : ℕ) (w : List ℕ) (p : w ≡ part s 3 d) (x : Boo
   counts : is_part_count (part s 3 d) ≡ x
   counts = ap is_part_count (sym p) ∙ sym q
 
-  pub digits_counted : x ≡ true → (r : Found) → r ≡ reversal_at s d → r ≡ digits_at s d
+  pub digits_counted : x ≡ true → (r : Option Found) → r ≡ reversal_at s d → r ≡ digits_at s d
   unfolding digits_at
   digits_counted h r e = e ∙ sym (simp (counts ∙ h))
 
-  pub digits_bad : x ≡ false → Found.Bad ≡ digits_at s d
+  pub digits_bad : x ≡ false → None ≡ digits_at s d
   unfolding digits_at
   digits_bad h = sym (simp (counts ∙ h))
 
@@ -130,48 +138,44 @@ module _ (form : Form) (s : List ℕ) (l : ℕ) (p : l ≡ at s 2) (x : Bool) (q
   lettered : is_letter form (at s 2) ≡ x
   lettered = ap (is_letter form) (sym p) ∙ sym q
 
-  pub braces_letter : x ≡ true → (d : ℕ) → d ≡ run_end (is_in Digit) s 3 → (r : Found) → r ≡ digits_at s d → r ≡ braces_of form s
+  pub braces_letter : x ≡ true → (d : ℕ) → d ≡ run_end (is_in Digit) s 3 → (r : Option Found) → r ≡ digits_at s d → r ≡ braces_of form s
   unfolding braces_of
   braces_letter h d k r e = e ∙ ap (digits_at s) k ∙ sym (simp (lettered ∙ h))
 
-  pub braces_bad : x ≡ false → Found.Bad ≡ braces_of form s
+  pub braces_bad : x ≡ false → None ≡ braces_of form s
   unfolding braces_of
   braces_bad h = sym (simp (lettered ∙ h))
 
 -- `read_piece`
 module _ (form : Form) (s : List ℕ) where
-  pub piece_end : length s ≡ 0 → Found.End ≡ piece_of form s
-  piece_end h = sym (piece_none form s h)
+  pub piece_end : (t : Bool) → t ≡ eqb (length s) 0 → t ≡ true → None ≡ piece_of form s
+  piece_end t e h = sym (piece_none form s (eqb-true (length s) 0 (sym e ∙ h)))
 
-  module _ (some : length s ≡ 0 → ⊥) (a : ℕ) (p : a ≡ at s 0) where
+  module _ (t : Bool) (et : t ≡ eqb (length s) 0) (ht : t ≡ false) (a : ℕ) (p : a ≡ at s 0) where
     module _ (h : a ≡ 37) (b : ℕ) (q : b ≡ at s 1) (x : Bool) (k : x ≡ is_escape b) where
-      percent : piece_of form s ≡ cond x (Found.Escape b) (cond (eqb b 123) (braces_of form s) Found.Bad)
+      percent : piece_of form s ≡ cond x (Some (Found.Escape b)) (cond (eqb b 123) (braces_of form s) None)
       unfolding piece_of
-      percent = simp (ne_eqb (length s) 0 some, eq-eqb (at s 0) 37 (sym p ∙ h), q, k)
+      percent = simp (sym et ∙ ht, eq-eqb (at s 0) 37 (sym p ∙ h), q, k)
 
-      pub piece_escape : x ≡ true → Found.Escape b ≡ piece_of form s
+      pub piece_escape : x ≡ true → Some (Found.Escape b) ≡ piece_of form s
       piece_escape e = sym (percent ∙ simp e)
 
-      pub piece_braces : x ≡ false → b ≡ 123 → (r : Found) → r ≡ braces_of form s → r ≡ piece_of form s
+      pub piece_braces : x ≡ false → b ≡ 123 → (r : Option Found) → r ≡ braces_of form s → r ≡ piece_of form s
       piece_braces e f r g = g ∙ sym (percent ∙ simp (e, eq-eqb b 123 f))
 
-      pub piece_percent : x ≡ false → (b ≡ 123 → ⊥) → Found.Bad ≡ piece_of form s
+      pub piece_percent : x ≡ false → (b ≡ 123 → ⊥) → None ≡ piece_of form s
       piece_percent e f = sym (percent ∙ simp (e, ne_eqb b 123 f))
 
     module _ (h : a ≡ 37 → ⊥) (x : Bool) (k : x ≡ is_literal form a) where
-      other : piece_of form s ≡ cond x (Found.Literal a) Found.Bad
+      other : piece_of form s ≡ cond x (Some (Found.Literal a)) None
       unfolding piece_of
-      other = simp (ne_eqb (length s) 0 some, ne_eqb (at s 0) 37 (λ e. h (p ∙ e)), p, k)
+      other = simp (sym et ∙ ht, ne_eqb (at s 0) 37 (λ e. h (p ∙ e)), p, k)
 
-      pub piece_literal : x ≡ true → Found.Literal a ≡ piece_of form s
+      pub piece_literal : x ≡ true → Some (Found.Literal a) ≡ piece_of form s
       piece_literal e = sym (other ∙ simp e)
 
-      pub piece_bad : x ≡ false → Found.Bad ≡ piece_of form s
+      pub piece_bad : x ≡ false → None ≡ piece_of form s
       piece_bad e = sym (other ∙ simp e)
-
--- `or_p`
-pub or_p_letter : (before : Bool) (b l : ℕ) → before ≡ false → l ≡ lower b → eqb l 112 ≡ (before || eqb (lower b) 112)
-or_p_letter before b l h e = simp (h, e)
 
 -- whether the last of some pieces is a macro-expand, or the last before them where there are none
 abbrev pub ends_after : Bool → List Piece → Bool
@@ -252,42 +256,45 @@ module _ (form : Form) (text : List ℕ) (at : ℕ) (expands asks : Bool) (inv :
   scan_plain h l =
       let b = get_or text at 0 in
       let c : drop at text ≡ b ∷ drop (suc at) text = drop-cons text at 0 h in
-      let f : piece_of form (b ∷ drop (suc at) text) ≡ Found.Literal b = simp (ne_eqb (suc (length (drop (suc at) text))) 0 (λ z. omega arith), plain_not_percent b l, plain_literal form b l) in
+      let f : piece_of form (b ∷ drop (suc at) text) ≡ Some (Found.Literal b) = simp (ne_eqb (suc (length (drop (suc at) text))) 0 (λ z. omega arith), plain_not_percent b l, plain_literal form b l) in
       step 1 (literal b) false asks (ends_literal b) (sym (or-false asks)) (omega arith) (pieces_literal form (drop at text) b (rw c f))
 
-  module _ (here : at < length text) (r : Found) (p : r ≡ piece_of form (take (length text - at) (drop at text))) where
-    found : {x : Found} → r ≡ x → piece_of form (drop at text) ≡ x
-    found q = found_at form text at r p q
+  pub scan_bad : at < length text → (r : Option Found) → r ≡ piece_of form (take (length text - at) (drop at text)) → r ≡ None
+      → (x : Summary) → x ≡ record { whole = false; expands = expands; asks = asks } → x ≡ scan_of form text
+  scan_bad here r p q =
+      told false (rw (ne_eqb (length (drop at text)) 0 (simp length-drop (λ z. omega arith))) at (pieces_end form (drop at text) (found_at form text at r p q)))
 
-    pub scan_end : r ≡ Found.End → (x : Summary) → x ≡ record { whole = true; expands = expands; asks = asks } → x ≡ scan_of form text
-    scan_end q = told true (pieces_end form (drop at text) (found q))
+  module _ (f : Found) (p : Some f ≡ piece_of form (take (length text - at) (drop at text))) where
+    is : {x : Found} → f ≡ x → Some f ≡ Some x
+    is q = ap (λ (y : Found). Some y) q
 
-    pub scan_bad : r ≡ Found.Bad → (x : Summary) → x ≡ record { whole = false; expands = expands; asks = asks } → x ≡ scan_of form text
-    scan_bad q = told false (pieces_bad form (drop at text) (found q))
+    found : {x : Found} → f ≡ x → piece_of form (drop at text) ≡ Some x
+    found q = found_at form text at (Some f) p (is q)
 
     module _ (b : ℕ) where
-      pub scan_literal : r ≡ Found.Literal b → Scanned form text (at + 1) false asks
+      pub scan_literal : at < length text → f ≡ Found.Literal b → Scanned form text (at + 1) false asks
       unfolding is_p
-      scan_literal q = step 1 (literal b) false asks (ends_literal b) (sym (or-false asks)) (omega arith) (pieces_literal form (drop at text) b (found q))
+      scan_literal here q = step 1 (literal b) false asks (ends_literal b) (sym (or-false asks)) (omega arith) (pieces_literal form (drop at text) b (found q))
 
-      pub scan_escape : r ≡ Found.Escape b → Scanned form text (at + 2) true asks
+      pub scan_escape : f ≡ Found.Escape b → Scanned form text (at + 2) true asks
       unfolding is_p
-      scan_escape q = step 2 (escape b) true asks (ends_escape b) (sym (or-false asks)) (escape_within form text at r p b q) (pieces_escape form (drop at text) b (found q))
+      scan_escape q = step 2 (escape b) true asks (ends_escape b) (sym (or-false asks)) (escape_within form text at (Some f) p b (is q)) (pieces_escape form (drop at text) b (found q))
 
-      pub escape_room : r ≡ Found.Escape b → length text < 2 ^ 64 → at + 2 < 2 ^ 64
-      escape_room q h = let w = escape_within form text at r p b q in omega arith
+      pub escape_room : f ≡ Found.Escape b → length text < 2 ^ 64 → at + 2 < 2 ^ 64
+      escape_room q h = let w = escape_within form text at (Some f) p b (is q) in omega arith
 
-    module _ (m : Braces) (q : r ≡ Found.Expand m) where
-      pub scan_expand : (u : Bool) → u ≡ (asks || eqb (lower m.letter) 112) → Scanned form text (at + (m.to + 1)) true u
+    module _ (m : Braces) (q : f ≡ Found.Expand m) where
+      pub scan_expand : (l : ℕ) → l ≡ lower m.letter → Scanned form text (at + (m.delimiters.to + 1)) true (asks || eqb l 112)
       unfolding is_p macro_of
-      scan_expand u e =
-          step (m.to + 1) (expand (macro_of (drop at text) m)) true u (ends_expand (macro_of (drop at text) m)) e (expand_within form text at r p m q) (pieces_expand form (drop at text) m (found q))
+      scan_expand l e =
+          step (m.delimiters.to + 1) (expand (macro_of (drop at text) m)) true (asks || eqb l 112) (ends_expand (macro_of (drop at text) m)) (rw (← e))
+          (expand_within form text at (Some f) p m (is q)) (pieces_expand form (drop at text) m (found q))
 
-      pub brace_room : length text < 2 ^ 64 → m.to + 1 < 2 ^ 64
-      brace_room h = let w = expand_within form text at r p m q in omega arith
+      pub brace_room : length text < 2 ^ 64 → m.delimiters.to + 1 < 2 ^ 64
+      brace_room h = let w = expand_within form text at (Some f) p m (is q) in omega arith
 
-      pub expand_room : length text < 2 ^ 64 → at + (m.to + 1) < 2 ^ 64
-      expand_room h = let w = expand_within form text at r p m q in omega arith
+      pub expand_room : length text < 2 ^ 64 → at + (m.delimiters.to + 1) < 2 ^ 64
+      expand_room h = let w = expand_within form text at (Some f) p m (is q) in omega arith
 
 -- bytes that stand for themselves, up to the end of their run
 plain_run : (form : Form) (text : List ℕ) (asks : Bool) (n i : ℕ) → n + i ≡ length text → Scanned form text i false asks → Scanned form text (run_end (is_in MacroLiteral) text i) false asks
@@ -318,30 +325,26 @@ module _ (form : Form) (text : List ℕ) (told : Summary) (p : told ≡ scan_of 
   unfolding scan_of
   wholly = ap (λ (x : Summary). x.whole) p
 
-  pub string_broken : told.whole ≡ false → false ≡ is_macro_string form text
+  pub string_broken : told.whole ≡ false → told.whole ≡ is_macro_string form text
   unfolding is_macro_string
-  string_broken h = simp (sym wholly ∙ h)
+  string_broken h = h ∙ sym (simp (sym wholly ∙ h))
 
   module _ (h : told.whole ≡ true) where
     right : is_macro_string form text ≡ ends_right form text
     unfolding is_macro_string
     right = simp (sym wholly ∙ h)
 
-    pub string_value : form ≡ ModifierValue → true ≡ is_macro_string form text
+    pub string_other : (form ≡ ModifierValue) ⊎ (form ≡ Explanation) → true ≡ is_macro_string form text
     unfolding ends_right
-    string_value e = sym (right ∙ rw e)
-
-    pub string_explanation : form ≡ Explanation → true ≡ is_macro_string form text
-    unfolding ends_right
-    string_explanation e = sym (right ∙ rw e)
+    string_other = ⊎_elim (λ (e : form ≡ ModifierValue). sym (right ∙ rw e)) (λ (e : form ≡ Explanation). sym (right ∙ rw e))
 
     module _ (e : form ≡ DomainSpec) where
       domain : ends_right form text ≡ (told.expands || ends_in_label text)
       unfolding ends_right scan_of
       domain = ap (λ (f : Form). ends_right f text) e ∙ sym (ap (λ (x : Summary). x.expands || ends_in_label text) (p ∙ ap (λ (f : Form). scan_of f text) e))
 
-      pub string_expands : told.expands ≡ true → true ≡ is_macro_string form text
-      string_expands k = sym (right ∙ domain ∙ simp k)
+      pub string_expands : told.expands ≡ true → told.expands ≡ is_macro_string form text
+      string_expands k = k ∙ sym (right ∙ domain ∙ simp k)
 
       pub string_label : told.expands ≡ false → (r : Bool) → r ≡ ends_in_label text → r ≡ is_macro_string form text
       string_label k r l = l ∙ sym (right ∙ domain ∙ simp k)

@@ -1,58 +1,40 @@
 -- The tests of the values that an expansion is given, and the parts of a sender, whose domain is found from the right. From the definitions of
 -- Expansion and the laws of Splitting.
-use Prim.Native.Nat.{ℕ, suc, ◌-◌, ◌≤◌, ◌<◌}
+use Prim.Native.Nat.{ℕ, suc, ◌+◌, ◌-◌, ◌≤◌, ◌<◌}
 use mathlib.Core.Path.{◌≡◌, refl, sym, ap, ◌∙◌}
 use mathlib.Core.List.{List, [], ◌∷◌, ◌++◌, append-nil}
-use mathlib.Core.Bool.{Bool, true, false}
+use mathlib.Core.Bool.{Bool, true, false, ◌&&◌}
 use native.Mathlib.Omega.{arith}
-use lib.ListN.{length, take, drop, length-append, length-take}
+use lib.ListN.{length, get_or, take, drop, length-append, length-take}
 use lib.Seq.{take-append_seam}
-use lib.Dec.{leb, eqb}
-use borrow.Author.Tests.{eq-eqb, ne_eqb, le-leb, lt-leb}
-use Rattle.text.specs.Bytes.{at, within, is_printable}
+use lib.Dec.{eqb}
+use borrow.Author.Tests.{le-leb}
+use Rattle.text.specs.Bytes.{within, is_printable}
 use Rattle.text.specs.Lists.{all, split, grow, separator_before, join_by}
 use Rattle.text.specs.Runs.{is_in}
 use Rattle.text.specs.Texts.{bytes}
-use Rattle.text.specs.Writing.{Wrote}
-use Rattle.text.specs.declared.bytes.Class.TheVariants.{Visible, Printable}
-use Rattle.text.proofs.Laws.Tests.{cond-elim, and_left}
+use Rattle.text.specs.declared.bytes.Class.TheVariants.{Printable}
+use Rattle.text.proofs.Laws.Tests.{cond-elim, and_left, test_fails}
 use Rattle.text.proofs.Laws.Classes.{within_range}
 use Rattle.text.proofs.Laws.Spans.{rest_part}
-use Rattle.text.proofs.Laws.Splitting.{Some, some, split_some, join_snoc, join_again, Undelimited, undelimited_start, undelimited_next, undelimited_last, undelimited_whole}
-use Rattle.text.proofs.Laws.Writing.{wrote_then}
-use Rattle.macros.specs.Expansion.{is_at, last_part, sender_domain, front_parts, local_as_written, local_part, is_sender, is_host, is_short}
+use Rattle.text.proofs.Laws.Splitting.{Some, some, split_some, join_snoc, join_again}
+use Rattle.transformers.proofs.Laws.Delimiters.{one_part, last_part as delimited}
+use Rattle.macros.specs.Expansion.{is_at, last_part, sender_domain, front_parts, local_as_written, local_part, is_sender}
 
 -- `is_sender`
 module _ (s : List ℕ) where
-  pub sender_empty : length s ≡ 0 → false ≡ is_sender s
-  unfolding is_sender within
-  sender_empty h = rw (lt-leb 1 (length s) (omega arith))
-
-  pub sender_long : 320 < length s → false ≡ is_sender s
-  unfolding is_sender within
-  sender_long h = rw (le-leb 1 (length s) (omega arith), lt-leb (length s) 320 h)
-
-  pub sender_every : (length s ≡ 0 → ⊥) → length s ≤ 320 → (r : Bool) → r ≡ all (is_in Printable) s → r ≡ is_sender s
+  pub sender_every : 1 ≤ length s → length s ≤ 320 → (r : Bool) → r ≡ all (is_in Printable) s → r ≡ is_sender s
   unfolding is_sender within is_in
-  sender_every n h r e = rw (le-leb 1 (length s) (omega arith), le-leb (length s) 320 h) e
+  sender_every l h r e = rw (le-leb 1 (length s) l, le-leb (length s) 320 h) e
 
-  pub sender_bound : (r : Bool) → r ≡ is_sender s → r ≡ true → length s ≤ 320
+  pub sender_outside : ((1 ≤ length s) × (length s ≤ 320) → ⊥) → false ≡ is_sender s
   unfolding is_sender
-  sender_bound r e h = (within_range 1 320 (length s) (and_left (within 1 320 (length s)) (all is_printable s) (sym e ∙ h))).1
+  sender_outside n = sym (ap (λ (b : Bool). b && all is_printable s) (test_fails (within 1 320 (length s)) (λ h. n (within_range 1 320 (length s) h))))
 
--- `is_host`, `is_short`
-module _ (s : List ℕ) where
-  pub host_long : 255 < length s → false ≡ is_host s
-  unfolding is_host
-  host_long h = rw (lt-leb (length s) 255 h)
-
-  pub host_every : length s ≤ 255 → (r : Bool) → r ≡ all (is_in Visible) s → r ≡ is_host s
-  unfolding is_host is_in
-  host_every h r e = rw (le-leb (length s) 255 h) e
-
-  pub short_is : leb (length s) 255 ≡ is_short s
-  unfolding is_short
-  short_is = refl
+-- `write_expansion` is asked for senders that pass
+pub sender_bound : (s : List ℕ) (r : Bool) → r ≡ is_sender s → r ≡ true → length s ≤ 320
+unfolding is_sender
+sender_bound s r e h = (within_range 1 320 (length s) (and_left (within 1 320 (length s)) (all is_printable s) (sym e ∙ h))).1
 
 -- the last of several parts
 last_snoc : (xs : List (List ℕ)) (y : List ℕ) → last_part (xs ++ (y ∷ [])) ≡ y
@@ -61,26 +43,35 @@ last_snoc [] y = refl
 last_snoc (x ∷ []) y = refl
 last_snoc (x ∷ z ∷ r) y = last_snoc (z ∷ r) y
 
--- the loop of `sender_domain`: from i on there is no @
-abbrev pub Unsigned : List ℕ → ℕ → Type 0
-Unsigned s i = Undelimited is_at s i
-
-pub unsigned_start : (s : List ℕ) → Unsigned s (length s)
-unsigned_start s = undelimited_start is_at s
-
-module _ (s : List ℕ) (i : ℕ) (inv : Unsigned s i) where
-  pub unsigned_next : 0 < i → (at s (i - 1) ≡ 64 → ⊥) → Unsigned s (i - 1)
-  unsigned_next h n = undelimited_next is_at s i inv h (ne_eqb (at s (i - 1)) 64 n)
-
-  pub domain_here : 0 < i → at s (i - 1) ≡ 64 → take (length s - i) (drop i s) ≡ sender_domain s
-  unfolding sender_domain
-  domain_here h n =
-      rest_part s i ∙ sym (ap last_part (undelimited_last is_at s i inv h (eq-eqb (at s (i - 1)) 64 n))
-      ∙ last_snoc (split is_at (take (i - 1) s)) (drop i s))
-
-  pub domain_whole : i ≤ 0 → s ≡ sender_domain s
+-- `sender_domain`, `written_local`: no @
+module _ (s : List ℕ) (none : (k : ℕ) → k < length s → is_at (get_or s k 0) ≡ false) where
+  pub domain_whole : s ≡ sender_domain s
   unfolding sender_domain last_part
-  domain_whole h = sym (ap last_part (undelimited_whole is_at s i inv h))
+  domain_whole = sym (ap last_part (one_part is_at s none))
+
+  pub local_none : [] ≡ local_as_written s
+  unfolding local_as_written front_parts join_by
+  local_none = sym (ap (λ (xs : List (List ℕ)). join_by 64 (front_parts xs)) (one_part is_at s none))
+
+-- the last @ at i
+front_snoc : (xs : List (List ℕ)) (y : List ℕ) → front_parts (xs ++ (y ∷ [])) ≡ xs
+unfolding front_parts
+front_snoc [] y = refl
+front_snoc (x ∷ []) y = refl
+front_snoc (x ∷ z ∷ r) y = ap (λ (xs : List (List ℕ)). x ∷ xs) (front_snoc (z ∷ r) y)
+
+module _ (s : List ℕ) (i : ℕ) (inside : i < length s) (here : is_at (get_or s i 0) ≡ true)
+    (after : (k : ℕ) → i + 1 ≤ k → k < length s → is_at (get_or s k 0) ≡ false) where
+  parted : split is_at s ≡ split is_at (take i s) ++ (drop (i + 1) s ∷ [])
+  parted = delimited is_at s i inside here after
+
+  pub domain_here : take (length s - (i + 1)) (drop (i + 1) s) ≡ sender_domain s
+  unfolding sender_domain
+  domain_here = rest_part s (i + 1) ∙ sym (ap last_part parted ∙ last_snoc (split is_at (take i s)) (drop (i + 1) s))
+
+  pub local_here : take i s ≡ local_as_written s
+  unfolding local_as_written
+  local_here = sym (join_again 64 (take i s)) ∙ ap (join_by 64) (sym (ap front_parts parted ∙ front_snoc (split is_at (take i s)) (drop (i + 1) s)))
 
 -- the domain is no longer than the sender
 last_empty : (xs : List (List ℕ)) → Some xs → last_part ([] ∷ xs) ≡ last_part xs
@@ -128,38 +119,8 @@ local_taken s = by (front_parts (split is_at s)) (sym (join_again 64 s) ∙ ap (
         let n : length s - suc (length d) ≡ length (join_by 64 (x ∷ xs)) = omega (arith, ap length (e ∙ j), length-append (join_by 64 (x ∷ xs)) (64 ∷ d)) in
         rw n (sym (ap (take (length (join_by 64 (x ∷ xs)))) (e ∙ j) ∙ take-append_seam (join_by 64 (x ∷ xs)) (64 ∷ d)))
 
--- `written_local`
-module _ (s d : List ℕ) (e : d ≡ sender_domain s) where
-  pub local_here : length d < length s → take (length s - length d - 1) s ≡ local_as_written s
-  local_here h = let n : length s - length d - 1 ≡ length s - suc (length (sender_domain s)) = rw (← e) (omega arith) in rw (local_taken s, n)
-
-  pub local_none : length s ≤ length d → [] ≡ local_as_written s
-  local_none h = let n : length s - suc (length (sender_domain s)) ≡ 0 = rw (← e) (omega arith) in rw (local_taken s, n)
-
--- `put_local`
-module _ (s w : List ℕ) (e : w ≡ local_as_written s) (out : List ℕ) (n : ℕ) (o : List ℕ) (m : ℕ) where
-  pub local_postmaster : length w ≡ 0 → Wrote (bytes "postmaster") out n o m → Wrote (local_part s) out n o m
-  unfolding local_part
-  local_postmaster h x = rw (← e, eq-eqb (length w) 0 h) x
-
-  pub local_written : (length w ≡ 0 → ⊥) → Wrote w out n o m → Wrote (local_part s) out n o m
-  unfolding local_part
-  local_written h x = rw (← e, ne_eqb (length w) 0 h) x
-
--- `put_sender`
-pub sender_parts : (s d : List ℕ) → d ≡ sender_domain s → (out : List ℕ) (n : ℕ) (o₁ o₂ o₃ : List ℕ) (n₁ n₂ n₃ : ℕ)
-    → Wrote (local_part s) out n o₁ n₁ → Wrote (64 ∷ []) o₁ n₁ o₂ n₂ → Wrote d o₂ n₂ o₃ n₃ → Wrote (local_part s ++ (64 ∷ sender_domain s)) out n o₃ n₃
-sender_parts s d e out n o₁ o₂ o₃ n₁ n₂ n₃ u v w =
-    rw (← e) (wrote_then out n (local_part s) (64 ∷ d) o₁ o₃ n₁ n₃ u (wrote_then o₁ n₁ (64 ∷ []) d o₂ o₃ n₂ n₃ v w))
-
 -- how long the local part and the whole sender are
 module _ (s : List ℕ) (bound : length s ≤ 320) where
-  pub local_length : length (local_part s) ≤ 320
-  unfolding local_part
-  local_length =
-      cond-elim (λ (x : List ℕ). length x ≤ 320) (eqb (length (local_as_written s)) 0) {x = bytes "postmaster"} {y = local_as_written s}
-      (λ _. omega arith) (λ _. simp (local_taken, length-take) (omega arith))
-
   pub sender_length : length (local_part s ++ (64 ∷ sender_domain s)) ≤ 331
   unfolding local_part
   sender_length =

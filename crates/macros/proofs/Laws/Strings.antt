@@ -1,11 +1,13 @@
 -- Pieces one after the other: what the reader reads to the end is a row of pieces, and a row of pieces is read so. A row is a macro-string, or an
 -- explain-string, with one derivation: each byte for itself, and each macro-expand. From the laws of one macro-expand.
+use Rattle.std.proofs.Common.{Option, Some, None}
 use Prim.Native.Nat.{ℕ, zero, suc, ◌+◌, ◌<◌}
 use mathlib.Core.Path.{◌≡◌, refl, sym, ap, subst, ◌∙◌}
 use mathlib.Core.List.{List, [], ◌∷◌, ◌++◌, append_assoc, append-nil}
 use mathlib.Core.Bool.{true, false}
 use native.Mathlib.Omega.{arith}
 use lib.ListN.{length, drop, length-append, length-drop}
+use borrow.Author.Tests.{eqb-true}
 use Rattle.text.specs.Bytes.{within, is_macro_literal, is_space}
 use Rattle.text.proofs.Laws.Tests.{or_elim, or_left, true_false}
 use Rattle.text.proofs.Laws.Classes.{space_is}
@@ -14,7 +16,7 @@ use Rattle.macros.specs.Reader.{is_literal, piece_of, macro_of, Pieces, push, pi
 use Rattle.macros.specs.declared.Form.{Form}
 use Rattle.macros.specs.declared.Form.TheVariants.{Explanation}
 use Rattle.macros.specs.declared.pieces.Found.{Found}
-use Rattle.macros.proofs.Laws.Braces.{Expanded, FoundRight, piece_sound, expand_complete, literal_complete, expand_some}
+use Rattle.macros.proofs.Laws.Braces.{Expanded, FoundRight, empty_of, piece_sound, expand_complete, literal_complete, expand_some}
 
 pub data Row (form : Form) : List ℕ → List Piece → Type 0 where
   none : Row form [] []
@@ -33,13 +35,12 @@ unfolding pieces_from pieces_after
 fuel_sound zero form s h = absurd (true_false false h refl)
 fuel_sound (suc f) form s h = go (λ t. fuel_sound f form t) (piece_of form s) (piece_sound form s) h
   where
-    go : ((t : List ℕ) → (pieces_from f form t).whole ≡ true → Row form t (pieces_from f form t).list) → (x : Found) → FoundRight form s x
+    go : ((t : List ℕ) → (pieces_from f form t).whole ≡ true → Row form t (pieces_from f form t).list) → (x : Option Found) → FoundRight form s x
         → (pieces_after s x (pieces_from f form)).whole ≡ true → Row form s (pieces_after s x (pieces_from f form)).list
-    go ih Found.End q h = row_at q none
-    go ih Found.Bad q h = absurd (true_false false h refl)
-    go ih (Found.Literal b) q h = row_at q.0 (literals q.1 (ih (drop 1 s) h))
-    go ih (Found.Escape b) q h = row_expand form s 2 (escape b) (pieces_from f form (drop 2 s)).list q (ih (drop 2 s) h)
-    go ih (Found.Expand m) q h = row_expand form s (m.to + 1) (expand (macro_of s m)) (pieces_from f form (drop (m.to + 1) s)).list q (ih (drop (m.to + 1) s) h)
+    go ih None q h = row_at (empty_of s (eqb-true (length s) 0 h)) none
+    go ih (Some (Found.Literal b)) q h = row_at q.0 (literals q.1 (ih (drop 1 s) h))
+    go ih (Some (Found.Escape b)) q h = row_expand form s 2 (escape b) (pieces_from f form (drop 2 s)).list q (ih (drop 2 s) h)
+    go ih (Some (Found.Expand m)) q h = row_expand form s (m.delimiters.to + 1) (expand (macro_of s m)) (pieces_from f form (drop (m.delimiters.to + 1) s)).list q (ih (drop (m.delimiters.to + 1) s) h)
 
 pub row_sound : (form : Form) (s : List ℕ) → (pieces form s).whole ≡ true → Row form s (pieces form s).list
 unfolding pieces
@@ -73,24 +74,22 @@ enough zero m form s h k = absurd (omega arith)
 enough (suc n) zero form s h k = absurd (omega arith)
 enough (suc n) (suc m) form s h k = go (λ t. enough n m form t) (piece_of form s) (piece_sound form s)
   where
-    go : ((t : List ℕ) → length t < n → length t < m → pieces_from n form t ≡ pieces_from m form t) → (x : Found) → FoundRight form s x
+    go : ((t : List ℕ) → length t < n → length t < m → pieces_from n form t ≡ pieces_from m form t) → (x : Option Found) → FoundRight form s x
         → pieces_after s x (pieces_from n form) ≡ pieces_after s x (pieces_from m form)
-    go ih Found.End q = refl
-    go ih Found.Bad q = refl
-    go ih (Found.Literal b) q =
+    go ih None q = refl
+    go ih (Some (Found.Literal b)) q =
         ap (push (literal b)) (ih (drop 1 s) (omega (arith, ap length q.0)) (omega (arith, ap length q.0)))
-    go ih (Found.Escape b) q = let l = q.inside in ap (push (escape b)) (ih (drop 2 s) (omega (arith, length-drop 2 s)) (omega (arith, length-drop 2 s)))
-    go ih (Found.Expand x) q =
+    go ih (Some (Found.Escape b)) q = let l = q.inside in ap (push (escape b)) (ih (drop 2 s) (omega (arith, length-drop 2 s)) (omega (arith, length-drop 2 s)))
+    go ih (Some (Found.Expand x)) q =
         let l = q.inside in
-        ap (push (expand (macro_of s x))) (ih (drop (x.to + 1) s) (omega (arith, length-drop (x.to + 1) s)) (omega (arith, length-drop (x.to + 1) s)))
+        ap (push (expand (macro_of s x))) (ih (drop (x.delimiters.to + 1) s) (omega (arith, length-drop (x.delimiters.to + 1) s)) (omega (arith, length-drop (x.delimiters.to + 1) s)))
 
-after_same : (s : List ℕ) (x : Found) (f g : List ℕ → Pieces) → ((n : ℕ) → f (drop n s) ≡ g (drop n s)) → pieces_after s x f ≡ pieces_after s x g
+after_same : (s : List ℕ) (x : Option Found) (f g : List ℕ → Pieces) → ((n : ℕ) → f (drop n s) ≡ g (drop n s)) → pieces_after s x f ≡ pieces_after s x g
 unfolding pieces_after
-after_same s Found.End f g h = refl
-after_same s Found.Bad f g h = refl
-after_same s (Found.Literal b) f g h = ap (push (literal b)) (h 1)
-after_same s (Found.Escape b) f g h = ap (push (escape b)) (h 2)
-after_same s (Found.Expand m) f g h = ap (push (expand (macro_of s m))) (h (m.to + 1))
+after_same s None f g h = refl
+after_same s (Some (Found.Literal b)) f g h = ap (push (literal b)) (h 1)
+after_same s (Some (Found.Escape b)) f g h = ap (push (escape b)) (h 2)
+after_same s (Some (Found.Expand m)) f g h = ap (push (expand (macro_of s m))) (h (m.delimiters.to + 1))
 
 pub pieces_next : (form : Form) (s : List ℕ) → pieces form s ≡ pieces_after s (piece_of form s) (pieces form)
 unfolding pieces pieces_from

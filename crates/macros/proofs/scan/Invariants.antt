@@ -5,7 +5,7 @@ use lib.ListN.{length}
 use Rattle.macros.proofs.scan.Given as goal
 
 abbrev pub invariant-loop-at : goal.invariant-loop-at
-invariant-loop-at l = Scanned l.form l.text l.at l.expands l.uses_p
+invariant-loop-at l = Scanned l.form l.text l.at l.expands l.asks
 
 abbrev pub decreases-loop-at : goal.decreases-loop-at
 decreases-loop-at l = length l.text - l.at

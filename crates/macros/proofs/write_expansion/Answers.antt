@@ -1,19 +1,11 @@
 -- `macros::write_expansion` meets its contract. From the laws of Expanding.
-use Rattle.text.proofs.Laws.Writing.{value_inside, value_whole}
-use Rattle.macros.proofs.Laws.Expanding.{sender_fits, local_fits, with_sender_texts}
+use Rattle.std.proofs.Common.{rules}
+use Rattle.macros.proofs.Laws.Expanding.{all_said}
 use Rattle.macros.proofs.write_expansion.Goals as goal
 
-pub slice_bounds-whole-end : goal.slice_bounds-whole-end
-slice_bounds-whole-end c = search (value_inside, sender_fits)
-
-pub slice_bounds-write_with_client-end : goal.slice_bounds-write_with_client-end
-slice_bounds-write_with_client-end c = search (value_whole, sender_fits)
-
-pub slice_bounds-local-end : goal.slice_bounds-local-end
-slice_bounds-local-end c = search (value_inside, local_fits)
-
-pub slice_bounds-write_with_client-end-2 : goal.slice_bounds-write_with_client-end-2
-slice_bounds-write_with_client-end-2 c = search (value_whole, local_fits)
-
 pub returns : goal.returns
-returns c = search with_sender_texts
+returns c =
+    all_said _ c.requires _ c.as_client-client.ensures.value _ c.sender_domain-domain.ensures _ _ _ _ _ _ _ _ _ _ _ _ _ _ _ _ c.new-w.ensures.at (simp c.new-w.ensures.out)
+    c.put_local.ensures.wrote c.put.ensures.wrote c.put_all.ensures.wrote c.put_dotted.ensures.wrote c.put_family.ensures.wrote c.put_readable.ensures.wrote c.put_decimal.ensures.wrote
+    _ (search rules) _ _ _ _ _ _ _ c.part.ensures c.part-2.ensures c.part-3.ensures c.part-4.ensures c.part-5.ensures c.part-6.ensures c.receiver_name.ensures _ _ _ _ _
+    c.write_fitting.ensures

@@ -1,12 +1,16 @@
 -- `mechanism_lookups::ask_exists` meets its contract. From the laws of Replies.
-use Rattle.mechanism_lookups.proofs.Laws.Replies.{own_ended, own_temperror, exists_items}
+use Rattle.std.proofs.lemmas.Result.{err_from_is_err_and}
+use Rattle.mechanism_lookups.proofs.Laws.Replies.{own_ended, own_temperror, own_void, exists_items}
 use Rattle.mechanism_lookups.proofs.ask_exists.Goals as goal
 
-pub returns-in-Ended : goal.returns-in-Ended
-returns-in-Ended c = search own_ended
+pub returns-in_err-ask : goal.returns-in_err-ask
+returns-in_err-ask c = let p = err_from_is_err_and c.from_residual.result c.from_residual.ensures.1 in rw (p.1, p.2) (search (own_ended, c.in_err-ask.ensures))
 
 pub returns-in-Failed : goal.returns-in-Failed
-returns-in-Failed c = search own_temperror
+returns-in-Failed c = search (own_temperror, c.in_ok-ask.ensures)
+
+pub returns-in-Void : goal.returns-in-Void
+returns-in-Void c = search (own_void, c.in_ok-ask.ensures)
 
 pub returns-in-Items : goal.returns-in-Items
-returns-in-Items c = search exists_items
+returns-in-Items c = search (exists_items, c.in_ok-ask.ensures)

@@ -1,7 +1,8 @@
 -- A mechanism that asks for a name: the eleventh lookup, a malformed target, a question of p without an entry, and its own questions.
 -- One rule for each way out of `counted_step` and `ask`. From the definitions of `counted_step` and the inversions of a target's answer.
+use Rattle.std.proofs.Common.{false, Option, Some, None, Ok, Err}
 use Prim.Native.Nat.{ℕ, ◌≤◌, ◌<◌}
-use mathlib.Core.Path.{◌≡◌, refl, ◌∙◌}
+use mathlib.Core.Path.{◌≡◌, refl, ap, ◌∙◌}
 use mathlib.Core.List.{List}
 use lib.ListN.{take}
 use borrow.Author.Tests.{lt-ltb, le-ltb}
@@ -11,68 +12,75 @@ use Rattle.address.specs.declared.Address.{Address}
 use Rattle.domain.specs.Normal.{name, malformed}
 use Rattle.records.specs.Readings.{Optional}
 use Rattle.rules.specs.declared.Counts.{Counts}
-use Rattle.rules.specs.declared.Life.{Life}
+use Rattle.rules.specs.declared.Progress.{Progress}
+use Rattle.rules.specs.declared.Wanted.{Wanted}
 use Rattle.rules.specs.declared.Ending.{Ending}
-use Rattle.rules.specs.declared.Matched.{Matched}
-use Rattle.rules.specs.declared.Stepped.{Stepped}
-use Rattle.rules.specs.declared.Target.{Target}
-use Rattle.rules.specs.declared.Targeted.{Targeted}
-use Rattle.rules.specs.Tree.{Table, Check, run}
+use Rattle.rules.specs.Tree.{Check, run}
+use Rattle.rules.specs.Tables.{table_in}
 use Rattle.rules.specs.Mechanisms.{Mail, no, stop, Step, target_or, begun, counting, at_target, target_step, counted_step, ask_a, ask_mx, ask_ptr, ask_exists}
-use Rattle.rules.specs.Outcomes.{matched_of, SaysStep, SaysTarget}
+use Rattle.rules.specs.Outcomes.{Matched, matched_of, handed, Steps, Target, Targets}
 use Rattle.rules.proofs.Laws.Runs.{bind_is}
 use Rattle.rules.proofs.Laws.Inversions.{gives_bind, wants_bind, step_gives, step_give, step_wanted, target_name, target_malformed, target_wants}
 use Rattle.mechanisms.specs.declared.Question.{Question}
 use Rattle.mechanisms.specs.Terms.{asker}
 
-module _ (t : Table) (mail : Mail) (d : List ℕ) (spec : Optional (List ℕ)) (go : Counts → List ℕ → Check Step) (c : Counts) (l : Life) where
-  pub counted_eleventh : (b : List ℕ) → 10 ≤ c.lookups → SaysStep (run t l (counted_step mail d spec go c)) (record { matched = Matched.Stop (Ending.Result 6); counts = c; life = l }) b b
-  unfolding counted_step counting matched_of
-  counted_eleventh b h = rw (le-ltb _ _ h) (step_give t l (stop 6) c b)
+-- a target leaves the counts
+pub counted_few : (t : List ℕ) (mail : Mail) (d : List ℕ) (spec : Optional (List ℕ)) (p q : Progress) (to b a : List ℕ) (x : Option ℕ)
+    → Targets t (target_or mail d spec (begun p.counts)) (record { counts = begun p.counts; life = p.life }) q (Ok x) to b a → (n : ℕ) → x ≡ Some n → p.counts.voids ≤ 2 → q.counts.voids ≤ 2
+counted_few t mail d spec p q to b a x s n e k = rw (target_name (begun p.counts) _ (handed (Ok x) q) to b a s n (ap Ok e)).3 k
 
-  begun_is : c.lookups < 10 → run t l (counted_step mail d spec go c) ≡ run t l (target_step mail d spec go (begun c))
+module _ (t : List ℕ) (mail : Mail) (d : List ℕ) (spec : Optional (List ℕ)) (go : Counts → List ℕ → Check Step) (p : Progress) where
+  pub counted_eleventh : (b : List ℕ) → 10 ≤ p.counts.lookups → Steps t (counted_step mail d spec go p.counts) p p (Err (Ending.Result 6)) b b
+  unfolding counted_step counting matched_of
+  counted_eleventh b h = rw (le-ltb _ _ h) (step_give (table_in t) p.life (stop 6) p.counts b)
+
+  begun_is : p.counts.lookups < 10 → run (table_in t) p.life (counted_step mail d spec go p.counts) ≡ run (table_in t) p.life (target_step mail d spec go (begun p.counts))
   unfolding counted_step counting
   begun_is h = rw (lt-ltb _ _ h)
 
-  module _ (h : c.lookups < 10) (r : Targeted) (to b a : List ℕ) (s : SaysTarget (begun c) (run t l (target_or mail d spec (begun c))) r to b a) where
-    pub counted_malformed : r.target ≡ Target.Malformed → SaysStep (run t l (counted_step mail d spec go c)) (record { matched = Matched.No; counts = begun c; life = r.life }) b a
+  module _ (h : p.counts.lookups < 10) (q : Progress) (to b a : List ℕ) where
+    pub counted_malformed : (x : Option ℕ) → Targets t (target_or mail d spec (begun p.counts)) (record { counts = begun p.counts; life = p.life }) q (Ok x) to b a → x ≡ None
+        → Steps t (counted_step mail d spec go p.counts) p q (Ok false) b a
     unfolding target_step at_target matched_of
-    counted_malformed e =
-        let g = target_malformed (begun c) _ r to b a s e in
-        rw (begun_is h)
-        (step_gives _ (record { match = no; counts = begun c }) r.life _ b a
-        (gives_bind t l (target_or mail d spec (begun c)) (at_target (go (begun c)) (begun c)) malformed _ r.life b a g refl) refl)
+    counted_malformed x s e =
+        let g = target_malformed (begun p.counts) _ (handed (Ok x) q) to b a s (ap Ok e) in
+        rw (begun_is h, g.1)
+        (step_gives _ (record { match = no; counts = begun p.counts }) q.life _ b a
+        (gives_bind (table_in t) p.life (target_or mail d spec (begun p.counts)) (at_target (go (begun p.counts)) (begun p.counts)) malformed _ q.life b a g.0 refl) refl)
 
-    pub counted_wants : (kind n : ℕ) → r.target ≡ Target.Wanting kind n
-        → SaysStep (run t l (counted_step mail d spec go c)) (record { matched = Matched.Stop (Ending.Wanting kind n); counts = begun c; life = r.life }) b a
+    pub counted_wants : (w : Wanted) → Targets t (target_or mail d spec (begun p.counts)) (record { counts = begun p.counts; life = p.life }) q (Err w) to b a
+        → Steps t (counted_step mail d spec go p.counts) p q (Err (Ending.Wanting w)) b a
     unfolding target_step
-    counted_wants kind n e =
-        let w = target_wants (begun c) _ r to b a s kind n e in
-        rw (begun_is h)
-        (step_wanted _ kind n (begun c) r.life b a (wants_bind t l (target_or mail d spec (begun c)) (at_target (go (begun c)) (begun c)) kind n (begun c) r.life b a w))
+    counted_wants w s =
+        let g = target_wants (begun p.counts) _ (handed (Err w) q) to b a s w refl in
+        rw (begun_is h, g.1)
+        (step_wanted _ w (begun p.counts) q.life b a
+        (wants_bind (table_in t) p.life (target_or mail d spec (begun p.counts)) (at_target (go (begun p.counts)) (begun p.counts)) w.kind w.length (begun p.counts) q.life b a g.0))
 
-    pub counted_asks : (n : ℕ) → r.target ≡ Target.Name n → (m : List ℕ) → m ≡ part to 0 n → (o : Stepped) (z : List ℕ)
-        → SaysStep (run t r.life (go (begun c) m)) o a z → SaysStep (run t l (counted_step mail d spec go c)) o b z
-    unfolding target_step at_target
-    counted_asks n e m i o z w =
-        let g = (target_name (begun c) _ r to b a s n e).0 in
-        let j : m ≡ take n to = i ∙ front_part to n in
-        rw (begun_is h, bind_is t l (target_or mail d spec (begun c)) (at_target (go (begun c)) (begun c)) (name (take n to)) r.life g.is, ← j, ← g.kept) w
+    module _ (x : Option ℕ) (s : Targets t (target_or mail d spec (begun p.counts)) (record { counts = begun p.counts; life = p.life }) q (Ok x) to b a) (n : ℕ) (e : x ≡ Some n) where
+      pub counted_asks : (m : List ℕ) → m ≡ part to 0 n → (z : Progress) (r : Matched) (o : List ℕ)
+          → Steps t (go q.counts m) q z r a o → Steps t (counted_step mail d spec go p.counts) p z r b o
+      unfolding target_step at_target
+      counted_asks m i z r o w =
+          let f = target_name (begun p.counts) _ (handed (Ok x) q) to b a s n (ap Ok e) in
+          let g = f.0 in
+          let j : m ≡ take n to = i ∙ front_part to n in
+          rw (begun_is h, bind_is (table_in t) p.life (target_or mail d spec (begun p.counts)) (at_target (go (begun p.counts)) (begun p.counts)) (name (take n to)) q.life g.is, ← j, ← g.kept, ← f.3) w
 
 -- by the mechanism
-module _ (t : Table) (client : Address) (n : ℕ) (c : Counts) (l : Life) (m : List ℕ) (q : Question) (o : Stepped) (b a : List ℕ) where
-  pub by_a : q ≡ Question.A → SaysStep (run t l (ask_a client n c m)) o b a → SaysStep (run t l (asker q client n c m)) o b a
+module _ (t : List ℕ) (client : Address) (n : ℕ) (p q : Progress) (m : List ℕ) (x : Question) (r : Matched) (b a : List ℕ) where
+  pub by_a : x ≡ Question.A → Steps t (ask_a client n p.counts m) p q r b a → Steps t (asker x client n p.counts m) p q r b a
   unfolding asker
   by_a e s = rw e s
 
-  pub by_mx : q ≡ Question.Mx → SaysStep (run t l (ask_mx client n c m)) o b a → SaysStep (run t l (asker q client n c m)) o b a
+  pub by_mx : x ≡ Question.Mx → Steps t (ask_mx client n p.counts m) p q r b a → Steps t (asker x client n p.counts m) p q r b a
   unfolding asker
   by_mx e s = rw e s
 
-  pub by_ptr : q ≡ Question.Ptr → SaysStep (run t l (ask_ptr client c m)) o b a → SaysStep (run t l (asker q client n c m)) o b a
+  pub by_ptr : x ≡ Question.Ptr → Steps t (ask_ptr client p.counts m) p q r b a → Steps t (asker x client n p.counts m) p q r b a
   unfolding asker
   by_ptr e s = rw e s
 
-  pub by_exists : q ≡ Question.Exists → SaysStep (run t l (ask_exists c m)) o b a → SaysStep (run t l (asker q client n c m)) o b a
+  pub by_exists : x ≡ Question.Exists → Steps t (ask_exists p.counts m) p q r b a → Steps t (asker x client n p.counts m) p q r b a
   unfolding asker
   by_exists e s = rw e s

@@ -1,5 +1,6 @@
 -- Four octets read from a place on, against a word that begins there, with neither a digit nor a dot after it: each octet is read in the list as in
 -- the word, so that the word is an ip4-network exactly if the octets end where it ends. From the laws of Spans, Runs and Octets.
+use Rattle.std.proofs.Common.{None, Option, Some}
 use Prim.Native.Nat.{ℕ, ◌+◌, ◌≤◌, ◌<◌}
 use mathlib.Core.Path.{◌≡◌, refl, sym, ap, subst, ◌∙◌}
 use mathlib.Core.Logic.{⊎_elim}
@@ -15,21 +16,16 @@ use Rattle.text.specs.Bytes.{at, is_digit, within}
 use Rattle.text.specs.Decimal.{read_number}
 use Rattle.text.specs.Runs.{is_in, run, run_end}
 use Rattle.text.specs.declared.bytes.Class.TheVariants.{Digit}
-use Rattle.text.specs.declared.decimal.Number.{Number}
-use Rattle.text.specs.declared.decimal.Number.TheVariants.{Value, Refused}
 use Rattle.text.proofs.Laws.Tests.{cond-elim}
 use Rattle.text.proofs.Laws.Orders.{le_or_lt}
 use Rattle.text.proofs.Laws.Classes.{nonzero_inside, past_end}
 use Rattle.text.proofs.Laws.Spans.{Span, span_all}
 use Rattle.text.proofs.Laws.Runs.{run_le, run_zero, run_end_inside}
 use Rattle.address.specs.declared.Address.TheVariants.{IPv4}
-use Rattle.networks.specs.declared.Network.{Network}
-use Rattle.networks.specs.declared.Network.TheVariants.{Is, NoNetwork}
 use Rattle.networks.specs.declared.Front.{Front}
-use Rattle.networks.specs.declared.ip4.Octet.{Octet}
-use Rattle.networks.specs.declared.ip4.Octet.TheVariants.{Ends, NoOctet}
-use Rattle.networks.specs.Reader.{on_number, on_octet, octet_at, dot_octet_at, front_at, read_ip4}
+use Rattle.networks.specs.Reader.{front, on_number, on_octet, octet_at, dot_octet_at, front_at, read_ip4}
 use Rattle.networks.proofs.Laws.Octets.{end_at, digits_at, digits_run}
+use Rattle.address.specs.declared.Address.{Address}
 
 -- neither a digit nor a dot: the 0 past the end, and a slash
 pub record Stops (b : ℕ) : Type 0 where
@@ -45,15 +41,15 @@ unfolding is_in is_digit within
 stops_slash = record { digit = refl; dot = refl }
 
 -- a word as a network, and the octets read from its place on: they end with the word, or before it, or aren't there
-pub data Cut (from to : ℕ) : Network → Front → Type 0 where
-  whole : {v end : ℕ} → end ≡ to → Cut from to (Is (IPv4 v)) (Front.Ends v end)
-  short : {v end : ℕ} → from ≤ end → end < to → Cut from to NoNetwork (Front.Ends v end)
-  none : Cut from to NoNetwork Front.NoFront
+pub data Cut (from to : ℕ) : Option Address → Option Front → Type 0 where
+  whole : {v end : ℕ} → end ≡ to → Cut from to (Some (IPv4 v)) (Some (front v end))
+  short : {v end : ℕ} → from ≤ end → end < to → Cut from to None (Some (front v end))
+  none : Cut from to None None
 
-pub cut_none : {from to : ℕ} {x : Network} → Cut from to x Front.NoFront → NoNetwork ≡ x
+pub cut_none : {from to : ℕ} {x : Option Address} → Cut from to x None → None ≡ x
 cut_none none = refl
 
-pub cut_end : {from to v end : ℕ} {x : Network} → Cut from to x (Front.Ends v end) → end ≤ to
+pub cut_end : {from to v end : ℕ} {x : Option Address} → Cut from to x (Some (front v end)) → end ≤ to
 cut_end (whole e) = omega arith
 cut_end (short h l) = omega arith
 
@@ -85,17 +81,17 @@ module _ {s : List ℕ} {from to : ℕ} {w : List ℕ} (p : Span s from to w) (s
       ∙ sym (digits_run w j)
 
   -- an octet in the word, and in the list
-  data Same : Octet → Octet → Type 0 where
-    ends : {o j : ℕ} → j ≤ length w → Same (Ends o j) (Ends o (from + j))
-    neither : Same NoOctet NoOctet
+  data Same : Option (ℕ × ℕ) → Option (ℕ × ℕ) → Type 0 where
+    ends : {o j : ℕ} → j ≤ length w → Same (Some (o, j)) (Some (o, from + j))
+    neither : Same None None
 
   octet_same : (j : ℕ) → j ≤ length w → Same (octet_at w j) (octet_at s (from + j))
   unfolding octet_at
   octet_same j h = rw (digits_same j h, digits_end j h) (by (read_number 255 (digits_at w j)))
     where
-      by : (x : Number) → Same (on_number x (λ o. Ends o (end_at w j)) NoOctet) (on_number x (λ o. Ends o (from + end_at w j)) NoOctet)
-      by (Value o) = ends (run_end_inside (is_in Digit) w j h)
-      by Refused = neither
+      by : (x : Option ℕ) → Same (on_number x (λ o. Some (o, end_at w j)) None) (on_number x (λ o. Some (o, from + end_at w j)) None)
+      by (Some o) = ends (run_end_inside (is_in Digit) w j h)
+      by None = neither
 
   dot_test : (j : ℕ) → j ≤ length w → eqb (at s (from + j)) 46 ≡ eqb (at w j) 46
   dot_test j h = ⊎_elim
@@ -110,19 +106,19 @@ module _ {s : List ℕ} {from to : ℕ} {w : List ℕ} (p : Span s from to w) (s
   unfolding dot_octet_at
   dot_same j h = rw (dot_test j h, add_assoc) (by (eqb (at w j) 46) refl)
     where
-      by : (t : Bool) → eqb (at w j) 46 ≡ t → Same (cond t (octet_at w (j + 1)) NoOctet) (cond t (octet_at s (from + (j + 1))) NoOctet)
+      by : (t : Bool) → eqb (at w j) 46 ≡ t → Same (cond t (octet_at w (j + 1)) None) (cond t (octet_at s (from + (j + 1))) None)
       by true e = let f = eqb-true (at w j) 46 e in let l = nonzero_inside w j (omega arith) in octet_same (j + 1) (omega arith)
       by false e = neither
 
   -- what is made of an octet of each
-  step : {x y : Octet} → Same x y → (f : ℕ → ℕ → Network) (g : ℕ → ℕ → Front)
-      → ((o j : ℕ) → j ≤ length w → Cut from to (f o j) (g o (from + j))) → Cut from to (on_octet x f NoNetwork) (on_octet y g Front.NoFront)
+  step : {x y : Option (ℕ × ℕ)} → Same x y → (f : ℕ → ℕ → Option Address) (g : ℕ → ℕ → Option Front)
+      → ((o j : ℕ) → j ≤ length w → Cut from to (f o j) (g o (from + j))) → Cut from to (on_octet x f None) (on_octet y g None)
   step (ends h) f g k = k _ _ h
   step neither f g k = none
 
-  ended : (v l : ℕ) → l ≤ length w → Cut from to (cond (eqb l (length w)) (Is (IPv4 v)) NoNetwork) (Front.Ends v (from + l))
+  ended : (v l : ℕ) → l ≤ length w → Cut from to (cond (eqb l (length w)) (Some (IPv4 v)) None) (Some (front v (from + l)))
   ended v l h =
-      cond-elim (λ (x : Network). Cut from to x (Front.Ends v (from + l))) (eqb l (length w))
+      cond-elim (λ (x : Option Address). Cut from to x (Some (front v (from + l)))) (eqb l (length w))
       (λ e. whole (omega (arith, eqb-true l (length w) e, p.size)))
       (λ e. short (omega arith) (omega (arith, eqb-false l (length w) e, p.size)))
 
@@ -136,24 +132,24 @@ module _ {s : List ℕ} {from to : ℕ} {w : List ℕ} (p : Span s from to w) (s
       (λ d l hl. ended _ l hl))))
 
 -- `read_ip4`
-module _ (s : List ℕ) (r : Front) (p : r ≡ front_at s 0) where
-  cut : {x : Front} → r ≡ x → Cut 0 (length s) (read_ip4 s) x
+module _ (s : List ℕ) (r : Option Front) (p : r ≡ front_at s 0) where
+  cut : {x : Option Front} → r ≡ x → Cut 0 (length s) (read_ip4 s) x
   cut e = subst (Cut 0 (length s) (read_ip4 s)) (sym p ∙ e) (front_cut (span_all s) (rw (← (past_end s (length s) (omega arith))) stops_end))
 
-  pub front_none : r ≡ Front.NoFront → NoNetwork ≡ read_ip4 s
+  pub front_none : r ≡ None → None ≡ read_ip4 s
   front_none e = cut_none (cut e)
 
-  module _ (v end : ℕ) (e : r ≡ Front.Ends v end) where
-    pub front_whole : end ≡ length s → Is (IPv4 v) ≡ read_ip4 s
+  module _ (v end : ℕ) (e : r ≡ Some (front v end)) where
+    pub front_whole : end ≡ length s → Some (IPv4 v) ≡ read_ip4 s
     front_whole h = by (cut e)
       where
-        by : {x : Network} → Cut 0 (length s) x (Front.Ends v end) → Is (IPv4 v) ≡ x
+        by : {x : Option Address} → Cut 0 (length s) x (Some (front v end)) → Some (IPv4 v) ≡ x
         by (whole g) = refl
         by (short g l) = absurd (omega arith)
 
-    pub front_short : (end ≡ length s → ⊥) → NoNetwork ≡ read_ip4 s
+    pub front_short : (end ≡ length s → ⊥) → None ≡ read_ip4 s
     front_short h = by (cut e)
       where
-        by : {x : Network} → Cut 0 (length s) x (Front.Ends v end) → NoNetwork ≡ x
+        by : {x : Option Address} → Cut 0 (length s) x (Some (front v end)) → None ≡ x
         by (whole g) = absurd (h g)
         by (short g l) = refl

@@ -1,4 +1,5 @@
 -- Groups as octets, two for each, and the address of eight groups. From the definitions of Grammar, Reader6 and `from_octets`.
+use Rattle.std.proofs.Common.{Some}
 use Prim.Native.Nat.{ℕ, zero, suc, ◌+◌, ◌-◌, ◌*◌, ◌/◌, ◌%◌, ◌≤◌}
 use mathlib.Core.Path.{◌≡◌, refl, sym, ap, ◌∙◌}
 use mathlib.Core.List.{List, [], ◌∷◌, ◌++◌, append_assoc, append-nil}
@@ -6,11 +7,8 @@ use native.Mathlib.Omega.{arith}
 use lib.ListN.{length, take, drop, replicate, length-append, length-replicate, length-take, take-append-drop, drop_of_length-le, replicate-append-replicate}
 use lib.Seq.{take_at, drop_at, sets, sets-eq}
 use Rattle.address.specs.Octets.{value_from, value_of, from_octets}
-use Rattle.address.specs.declared.Address.{Address}
-use Rattle.address.specs.declared.FromOctets.{FromOctets}
 use Rattle.networks.specs.Grammar.{groups_from, address_of, filled}
-use Rattle.networks.specs.Reader6.{octet_pairs, network_of}
-use Rattle.networks.specs.declared.Network.TheVariants.{Is, NoNetwork}
+use Rattle.networks.specs.Reader6.{octet_pairs}
 
 pub length_pairs : (gs : List ℕ) → length (octet_pairs gs) ≡ 2 * length gs
 unfolding octet_pairs
@@ -34,8 +32,8 @@ value_pairs v [] = refl
 value_pairs v (g ∷ gs) = let e : 256 * (256 * v + g / 256) + g % 256 ≡ 65536 * v + g = omega arith in ap (λ (n : ℕ). value_from n (octet_pairs gs)) e ∙ value_pairs (65536 * v + g) gs
 
 -- eight groups and their address
-pub eight_address : (gs : List ℕ) → length gs ≡ 8 → network_of (from_octets (octet_pairs gs)) ≡ Is (address_of gs)
-unfolding from_octets network_of address_of value_of
+pub eight_address : (gs : List ℕ) → length gs ≡ 8 → from_octets (octet_pairs gs) ≡ Some (address_of gs)
+unfolding from_octets address_of value_of
 eight_address gs h =
     let n : length (octet_pairs gs) ≡ 16 = length_pairs gs ∙ omega arith in
     let m : length (octet_pairs (take 4 gs)) ≡ 8 = length_pairs (take 4 gs) ∙ simp length-take (omega arith) in
@@ -43,16 +41,6 @@ eight_address gs h =
     let p : take 8 (octet_pairs gs) ≡ octet_pairs (take 4 gs) = ap (take 8) e ∙ take_at (octet_pairs (take 4 gs)) (octet_pairs (drop 4 gs)) 8 m in
     let q : drop 8 (octet_pairs gs) ≡ octet_pairs (drop 4 gs) = ap (drop 8) e ∙ drop_at (octet_pairs (take 4 gs)) (octet_pairs (drop 4 gs)) 8 m in
     rw (n, p, q, value_pairs 0 (take 4 gs), value_pairs 0 (drop 4 gs))
-
--- the ways out of `network_of`
-module _ (s : List ℕ) (r : FromOctets) (p : r ≡ from_octets s) where
-  pub network_is : (a : Address) → r ≡ FromOctets.Is a → Is a ≡ network_of (from_octets s)
-  unfolding network_of
-  network_is a q = rw (sym p ∙ q)
-
-  pub network_none : r ≡ FromOctets.NoAddress → NoNetwork ≡ network_of (from_octets s)
-  unfolding network_of
-  network_none q = rw (sym p ∙ q)
 
 -- zeros between the groups of both sides
 pub length_filled : (ls rs : List ℕ) → length ls + length rs ≤ 7 → length (filled ls rs) ≡ 8

@@ -1,4 +1,5 @@
 -- The numbers that hex digits write, as the code reads them, and groups against `Group`. From the definitions of Grammar and Reader6.
+use Rattle.std.proofs.Common.{None, Option, Some}
 use Prim.Native.Nat.{ℕ, ◌+◌, ◌-◌, ◌*◌, ◌^◌, ◌≤◌, ◌<◌}
 use mathlib.Core.Path.{◌≡◌, refl, sym, ap, subst, ◌∙◌}
 use mathlib.Core.List.{List, [], ◌∷◌, ◌++◌}
@@ -19,8 +20,6 @@ use Rattle.text.proofs.Laws.Classes.{class_tests, within_range, range_within, al
 use Rattle.text.proofs.Laws.Parts.{all_at_lem}
 use Rattle.networks.specs.Grammar.{hex_value, hex_from, Group, digits}
 use Rattle.networks.specs.Reader6.{read_h16}
-use Rattle.networks.specs.declared.ip6.H16.{H16}
-use Rattle.networks.specs.declared.ip6.H16.TheVariants.{Value, NoValue}
 
 -- the ways out of `hex_value`
 module _ (b : ℕ) (t : Bool) (e : t ≡ within 48 57 b) where
@@ -94,20 +93,20 @@ module _ (w : List ℕ) (v i : ℕ) (p : HexRead w v i) where
 
 -- the ways out of `read_h16`
 module _ (w : List ℕ) where
-  pub h16_empty : length w ≡ 0 → NoValue ≡ read_h16 w
+  pub h16_empty : length w ≡ 0 → None ≡ read_h16 w
   unfolding read_h16
   h16_empty h = simp h
 
-  pub h16_long : 4 < length w → NoValue ≡ read_h16 w
+  pub h16_long : 4 < length w → None ≡ read_h16 w
   unfolding read_h16
   h16_long h = simp (ne_eqb (length w) 0 (λ e. omega arith), lt-ltb 4 (length w) h)
 
   module _ (some : length w ≡ 0 → ⊥) (short : length w ≤ 4) (t : Bool) (e : t ≡ all (is_in HexDigit) w) where
-    pub h16_value : t ≡ true → (v : ℕ) → v ≡ hex_from 0 w → Value v ≡ read_h16 w
+    pub h16_value : t ≡ true → (v : ℕ) → v ≡ hex_from 0 w → Some v ≡ read_h16 w
     unfolding read_h16
     h16_value h v q = simp (ne_eqb (length w) 0 some, le-ltb 4 (length w) short, sym e ∙ h, q)
 
-    pub h16_other : t ≡ false → NoValue ≡ read_h16 w
+    pub h16_other : t ≡ false → None ≡ read_h16 w
     unfolding read_h16
     h16_other h = simp (ne_eqb (length w) 0 some, le-ltb 4 (length w) short, sym e ∙ h)
 
@@ -115,23 +114,23 @@ module _ (w : List ℕ) where
     h16_asks h = (short, sym (class_tests HexDigit w) ∙ sym e ∙ h)
 
 -- against the production
-abbrev H16Right : List ℕ → H16 → Type 0
-H16Right w (Value g) = Group w g
-H16Right w NoValue = Unit {0}
+abbrev H16Right : List ℕ → Option ℕ → Type 0
+H16Right w (Some g) = Group w g
+H16Right w None = Unit {0}
 
 h16_right : (w : List ℕ) → H16Right w (read_h16 w)
 unfolding read_h16
 h16_right w =
     cond-elim (H16Right w) (eqb (length w) 0) (λ _. tt)
     (λ a. cond-elim (H16Right w) (ltb 4 (length w)) (λ _. tt)
-    (λ b. cond-elim (H16Right w) (all (is_in HexDigit) w) {x = Value (hex_from 0 w)} {y = NoValue}
+    (λ b. cond-elim (H16Right w) (all (is_in HexDigit) w) {x = Some (hex_from 0 w)} {y = None}
     (λ c. let some = eqb-false (length w) 0 a in let short = ltb-false 4 (length w) b in digits (range_within 1 4 (length w) (omega arith) (omega arith)) (sym (class_tests HexDigit w) ∙ c))
     (λ _. tt)))
 
-pub h16_sound : (w : List ℕ) (g : ℕ) → read_h16 w ≡ Value g → Group w g
+pub h16_sound : (w : List ℕ) (g : ℕ) → read_h16 w ≡ Some g → Group w g
 h16_sound w g e = subst (H16Right w) e (h16_right w)
 
-pub h16_complete : {w : List ℕ} {g : ℕ} → Group w g → read_h16 w ≡ Value g
+pub h16_complete : {w : List ℕ} {g : ℕ} → Group w g → read_h16 w ≡ Some g
 unfolding read_h16
 h16_complete (digits {w = w} l h) =
     let r = within_range 1 4 (length w) l in

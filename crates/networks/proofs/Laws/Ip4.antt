@@ -1,4 +1,5 @@
 -- An ip4-network's text is exactly what is read as one. From the laws of Numbers, Spans and Runs.
+use Rattle.std.proofs.Common.{None, Option, Some}
 use Prim.Native.Nat.{ℕ, ◌+◌, ◌≤◌}
 use mathlib.Core.Path.{◌≡◌, refl, sym, subst, ◌∙◌}
 use mathlib.Core.List.{List, [], ◌∷◌, ◌++◌}
@@ -19,10 +20,6 @@ use Rattle.text.proofs.Laws.Runs.{run_span, span_run}
 use Rattle.address.specs.Octets.{value_of}
 use Rattle.address.specs.declared.Address.{Address}
 use Rattle.address.specs.declared.Address.TheVariants.{IPv4}
-use Rattle.networks.specs.declared.Network.{Network}
-use Rattle.networks.specs.declared.Network.TheVariants.{Is, NoNetwork}
-use Rattle.networks.specs.declared.ip4.Octet.{Octet}
-use Rattle.networks.specs.declared.ip4.Octet.TheVariants.{Ends, NoOctet}
 use Rattle.networks.specs.Grammar.{Qnum, Ip4Network, octets, Network4, of_octets}
 use Rattle.networks.specs.Answers.{NetworkAnswer}
 use Rattle.networks.specs.Reader.{octet_at, dot_octet_at, read_ip4}
@@ -41,18 +38,18 @@ record Found (s : List ℕ) (i o j : ℕ) : Type 0 where
   qnum : Qnum (part s i j) o
   span : Span s i j (part s i j)
 
-abbrev OctetRight : List ℕ → ℕ → Octet → Type 0
-OctetRight s i (Ends o j) = Found s i o j
-OctetRight s i NoOctet = Unit {0}
+abbrev OctetRight : List ℕ → ℕ → Option (ℕ × ℕ) → Type 0
+OctetRight s i (Some x) = Found s i x.0 x.1
+OctetRight s i None = Unit {0}
 
 octet_right : (s : List ℕ) (i : ℕ) → OctetRight s i (octet_at s i)
 unfolding octet_at
 octet_right s i =
-    number-elim (OctetRight s i) (read_number 255 (part s i (run_end (is_in Digit) s i))) (λ o. Ends o (run_end (is_in Digit) s i)) NoOctet
+    number-elim (OctetRight s i) (read_number 255 (part s i (run_end (is_in Digit) s i))) (λ o. Some (o, run_end (is_in Digit) s i)) None
     (λ o e. record { qnum = number_qnum (number_made 255 (part s i (run_end (is_in Digit) s i)) o e); span = run_span (is_in Digit) s i })
     (λ _. tt)
 
-octet_found : (s : List ℕ) (i o j : ℕ) → octet_at s i ≡ Ends o j → Found s i o j
+octet_found : (s : List ℕ) (i o j : ℕ) → octet_at s i ≡ Some (o, j) → Found s i o j
 octet_found s i o j e = subst (OctetRight s i) e (octet_right s i)
 
 -- what was read as a dot and an octet
@@ -60,20 +57,20 @@ record DotFound (s : List ℕ) (i o j : ℕ) : Type 0 where
   qnum : Qnum (part s (i + 1) j) o
   span : Span s i j (46 ∷ part s (i + 1) j)
 
-abbrev DotRight : List ℕ → ℕ → Octet → Type 0
-DotRight s i (Ends o j) = DotFound s i o j
-DotRight s i NoOctet = Unit {0}
+abbrev DotRight : List ℕ → ℕ → Option (ℕ × ℕ) → Type 0
+DotRight s i (Some x) = DotFound s i x.0 x.1
+DotRight s i None = Unit {0}
 
-dot_found : (s : List ℕ) (i o j : ℕ) → dot_octet_at s i ≡ Ends o j → DotFound s i o j
+dot_found : (s : List ℕ) (i o j : ℕ) → dot_octet_at s i ≡ Some (o, j) → DotFound s i o j
 unfolding dot_octet_at
 dot_found s i o j e = subst (DotRight s i) e
-    (cond-elim (DotRight s i) (eqb (at s i) 46) {x = octet_at s (i + 1)} {y = NoOctet} (λ h. after (octet_at s (i + 1)) refl (eqb-true (at s i) 46 h)) (λ _. tt))
+    (cond-elim (DotRight s i) (eqb (at s i) 46) {x = octet_at s (i + 1)} {y = None} (λ h. after (octet_at s (i + 1)) refl (eqb-true (at s i) 46 h)) (λ _. tt))
   where
-    after : (x : Octet) → octet_at s (i + 1) ≡ x → at s i ≡ 46 → DotRight s i x
-    after (Ends p k) q h =
-        let f = octet_found s (i + 1) p k q in
+    after : (x : Option (ℕ × ℕ)) → octet_at s (i + 1) ≡ x → at s i ≡ 46 → DotRight s i x
+    after (Some x) q h =
+        let f = octet_found s (i + 1) x.0 x.1 q in
         record { qnum = f.qnum; span = span_join (span_byte s i 45 h) f.span }
-    after NoOctet q h = tt
+    after None q h = tt
 
 -- what was read as an ip4-network: four octets, and the address that they write; the bounds are those that an IPv6 tail's groups need
 pub record Ip4Made (s : List ℕ) (address : Address) : Type 0 where
@@ -86,9 +83,9 @@ pub record Ip4Made (s : List ℕ) (address : Address) : Type 0 where
   pub third_small : third ≤ 255
   pub fourth_small : fourth ≤ 255
 
-abbrev Ip4Right : List ℕ → Network → Type 0
-Ip4Right s (Is x) = Ip4Made s x
-Ip4Right s NoNetwork = Unit {0}
+abbrev Ip4Right : List ℕ → Option Address → Type 0
+Ip4Right s (Some x) = Ip4Made s x
+Ip4Right s None = Unit {0}
 
 four_found : (s : List ℕ) (a b c d i j k l : ℕ) → Found s 0 a i → DotFound s i b j → DotFound s j c k → DotFound s k d l → l ≡ length s
     → Ip4Made s (IPv4 (value_of (a ∷ b ∷ c ∷ d ∷ [])))
@@ -109,29 +106,29 @@ four_found s a b c d i j k l p q r t e =
 ip4_right : (s : List ℕ) → Ip4Right s (read_ip4 s)
 unfolding read_ip4
 ip4_right s =
-    octet-elim (Ip4Right s) (octet_at s 0) _ NoNetwork
-    (λ a i p. octet-elim (Ip4Right s) (dot_octet_at s i) _ NoNetwork
-    (λ b j q. octet-elim (Ip4Right s) (dot_octet_at s j) _ NoNetwork
-    (λ c k r. octet-elim (Ip4Right s) (dot_octet_at s k) _ NoNetwork
+    octet-elim (Ip4Right s) (octet_at s 0) _ None
+    (λ a i p. octet-elim (Ip4Right s) (dot_octet_at s i) _ None
+    (λ b j q. octet-elim (Ip4Right s) (dot_octet_at s j) _ None
+    (λ c k r. octet-elim (Ip4Right s) (dot_octet_at s k) _ None
     (λ d l t. cond-elim (Ip4Right s) (eqb l (length s))
     (λ e. four_found s a b c d i j k l (octet_found s 0 a i p) (dot_found s i b j q) (dot_found s j c k r) (dot_found s k d l t) (eqb-true l (length s) e))
     (λ _. tt))
     (λ _. tt)) (λ _. tt)) (λ _. tt)) (λ _. tt)
 
-pub ip4_made : (s : List ℕ) (a : Address) → read_ip4 s ≡ Is a → Ip4Made s a
+pub ip4_made : (s : List ℕ) (a : Address) → read_ip4 s ≡ Some a → Ip4Made s a
 ip4_made s a e = subst (Ip4Right s) e (ip4_right s)
 
-pub ip4_sound : (s : List ℕ) (a : Address) → read_ip4 s ≡ Is a → Network4 s a
+pub ip4_sound : (s : List ℕ) (a : Address) → read_ip4 s ≡ Some a → Network4 s a
 ip4_sound s a e = let m = ip4_made s a e in subst (Network4 s) (sym m.value) (of_octets m.written)
 
 -- what the grammar makes is read
 module _ {s : List ℕ} {i j : ℕ} {w : List ℕ} {o : ℕ} (q : Qnum w o) (stops : is_in Digit (at s j) ≡ false) where
-  octet_complete : Span s i j w → octet_at s i ≡ Ends o j
+  octet_complete : Span s i j w → octet_at s i ≡ Some (o, j)
   unfolding octet_at
   octet_complete p = simp (span_run (is_in Digit) p (qnum_digits q) stops, span_word p, number_read (qnum_number q))
 
 module _ {s : List ℕ} {i j : ℕ} {w : List ℕ} {o : ℕ} (q : Qnum w o) (stops : is_in Digit (at s j) ≡ false) where
-  dot_complete : Span s i j (46 ∷ w) → dot_octet_at s i ≡ Ends o j
+  dot_complete : Span s i j (46 ∷ w) → dot_octet_at s i ≡ Some (o, j)
   unfolding dot_octet_at
   dot_complete p = simp (eq-eqb (at s i) 46 (span_at p), octet_complete q stops (span_cut (46 ∷ []) w p).1)
 
@@ -144,7 +141,7 @@ end_stops : (s : List ℕ) → is_in Digit (at s (length s)) ≡ false
 unfolding is_in is_digit within
 end_stops s = simp (sym (past_end s (length s) (omega arith)))
 
-pub ip4_octets : {w os : List ℕ} → Ip4Network w os → read_ip4 w ≡ Is (IPv4 (value_of os))
+pub ip4_octets : {w os : List ℕ} → Ip4Network w os → read_ip4 w ≡ Some (IPv4 (value_of os))
 unfolding read_ip4
 ip4_octets (octets {p = p} {q = q} {r = r} {s = t} {a = a} {b = b} {c = c} {d = d} qa qb qc qd) =
     let s = p ++ (46 ∷ (q ++ (46 ∷ (r ++ (46 ∷ t))))) in
@@ -159,9 +156,9 @@ ip4_octets (octets {p = p} {q = q} {r = r} {s = t} {a = a} {b = b} {c = c} {d = 
       eq-eqb (length s) (length s) refl,
     )
 
-pub ip4_complete : (s : List ℕ) (a : Address) → Network4 s a → read_ip4 s ≡ Is a
+pub ip4_complete : (s : List ℕ) (a : Address) → Network4 s a → read_ip4 s ≡ Some a
 ip4_complete s a (of_octets n) = ip4_octets n
 
 -- the answer of `read_ip4`
-pub ip4_answer : (s : List ℕ) (r : Network) → r ≡ read_ip4 s → (r ≡ read_ip4 s) × NetworkAnswer (Network4 s) r
+pub ip4_answer : (s : List ℕ) (r : Option Address) → r ≡ read_ip4 s → (r ≡ read_ip4 s) × NetworkAnswer (Network4 s) r
 ip4_answer s r e = (e, subst (NetworkAnswer (Network4 s)) (sym e) (network_answer (Network4 s) (read_ip4 s) (ip4_sound s) (ip4_complete s)))

@@ -1,4 +1,5 @@
 -- IPv6 networks: the reader is sound and complete for the production, so that a text writes one address. From the laws of Rows and Colons.
+use Rattle.std.proofs.Common.{None, Option, Some}
 use Prim.Native.Nat.{ℕ, ◌+◌, ◌-◌, ◌≤◌, ◌<◌}
 use mathlib.Core.Path.{◌≡◌, sym, subst, ◌∙◌}
 use mathlib.Core.List.{List, [], ◌∷◌, ◌++◌, append-nil}
@@ -14,16 +15,14 @@ use Rattle.address.specs.declared.Address.{Address}
 use Rattle.networks.specs.Grammar.{Side, Ip6Network, full, short, Network6, of_groups, address_of}
 use Rattle.networks.specs.Answers.{NetworkAnswer}
 use Rattle.networks.specs.Reader6.{double_colon, Reading, groups, refused, read_row, read_side, full_of, short_of, read_ip6}
-use Rattle.networks.specs.declared.Network.{Network}
-use Rattle.networks.specs.declared.Network.TheVariants.{Is, NoNetwork}
 use Rattle.networks.proofs.Laws.Readings.{network_answer}
 use Rattle.networks.proofs.Laws.Colons.{double_splits, double_at, double_empty}
 use Rattle.networks.proofs.Laws.Rows.{RowRight, SideRight, row_right, side_right, row_complete, side_complete, row_double}
 
 -- what was read as an address is written so
-abbrev Ip6Right : List ℕ → Network → Type 0
-Ip6Right s (Is a) = Network6 s a
-Ip6Right s NoNetwork = Unit {0}
+abbrev Ip6Right : List ℕ → Option Address → Type 0
+Ip6Right s (Some a) = Network6 s a
+Ip6Right s None = Unit {0}
 
 full_right : (s : List ℕ) (x : Reading) → RowRight true s x → Ip6Right s (full_of x)
 unfolding full_of
@@ -50,7 +49,7 @@ ip6_right s =
     (short_right u w (read_side false u) (read_side true w) (side_right false u) (side_right true w)))
     (λ _. full_right s (read_row true s) (row_right true s))
 
-pub ip6_sound : (s : List ℕ) (a : Address) → read_ip6 s ≡ Is a → Network6 s a
+pub ip6_sound : (s : List ℕ) (a : Address) → read_ip6 s ≡ Some a → Network6 s a
 ip6_sound s a e = subst (Ip6Right s) e (ip6_right s)
 
 -- what the production makes is read
@@ -58,7 +57,7 @@ side_double : {tails : Bool} {u ls : List ℕ} → Side tails u ls → (t : List
 side_double Side.nothing t = double_at t
 side_double (Side.row r) t = (row_double r (58 ∷ 58 ∷ t) (double_at t)).place
 
-pub groups_read : {w gs : List ℕ} → Ip6Network w gs → read_ip6 w ≡ Is (address_of gs)
+pub groups_read : {w gs : List ℕ} → Ip6Network w gs → read_ip6 w ≡ Some (address_of gs)
 unfolding read_ip6 full_of short_of
 groups_read (full {w = w} {gs = gs} r e) =
     let d : double_colon w ≡ length w = rw append-nil at (row_double r [] double_empty).place in
@@ -71,7 +70,7 @@ groups_read (short {u = u} {w = w} {ls = ls} {rs = rs} b a h) =
     let right : drop (length u + 2) s ≡ w = drop-append-add u (58 ∷ 58 ∷ w) 2 in
     rw (d, lt-ltb (length u) (length s) inside, left, right, side_complete b, side_complete a, le-leb (length ls + length rs) 7 h)
 
-pub ip6_complete : (s : List ℕ) (a : Address) → Network6 s a → read_ip6 s ≡ Is a
+pub ip6_complete : (s : List ℕ) (a : Address) → Network6 s a → read_ip6 s ≡ Some a
 ip6_complete s a (of_groups n) = groups_read n
 
 -- a text writes one address, which tells a reader that the production isn't ambiguous
@@ -79,11 +78,11 @@ pub ip6_one : (s : List ℕ) (a b : Address) → Network6 s a → Network6 s b �
 ip6_one s a b p q = let f = ip6_complete s a p in let g = ip6_complete s b q in cc
 
 -- the answer of `read_ip6`
-pub ip6_answer : (s : List ℕ) (r : Network) → r ≡ read_ip6 s → (r ≡ read_ip6 s) × NetworkAnswer (Network6 s) r
+pub ip6_answer : (s : List ℕ) (r : Option Address) → r ≡ read_ip6 s → (r ≡ read_ip6 s) × NetworkAnswer (Network6 s) r
 ip6_answer s r e = (e, subst (NetworkAnswer (Network6 s)) (sym e) (network_answer (Network6 s) (read_ip6 s) (ip6_sound s) (ip6_complete s)))
 
 -- its ways out
-module _ (s : List ℕ) (k : ℕ) (p : k ≡ double_colon s) (r : Network) where
+module _ (s : List ℕ) (k : ℕ) (p : k ≡ double_colon s) (r : Option Address) where
   pub ip6_short : k < length s → r ≡ short_of (read_side false (take k s)) (read_side true (take (length s - (k + 2)) (drop (k + 2) s)))
       → r ≡ read_ip6 s
   unfolding read_ip6

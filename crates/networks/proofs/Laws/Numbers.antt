@@ -1,5 +1,6 @@
 -- The numbers of the grammar are those that are read: a length's number at its limit, and a qnum at 255. From the definitions of Grammar and
 -- Decimal.
+use Rattle.std.proofs.Common.{None, Option, Some}
 use Prim.Native.Nat.{ℕ, suc, ◌+◌, ◌-◌, ◌*◌, ◌≤◌, ◌<◌}
 use mathlib.Core.Path.{◌≡◌, refl, sym, ap, subst, ◌∙◌}
 use mathlib.Core.List.{List, [], ◌∷◌}
@@ -11,8 +12,6 @@ use borrow.Author.Tests.{le-leb, leb-true, leb-false, lt-leb, eq-eqb, ne_eqb, eq
 use Rattle.text.specs.Bytes.{within, is_digit}
 use Rattle.text.specs.Lists.{all}
 use Rattle.text.specs.Decimal.{decimal_from, decimal, is_decimal, read_decimal, has_no_leading_zero, read_number}
-use Rattle.text.specs.declared.decimal.Number.{Number}
-use Rattle.text.specs.declared.decimal.Number.TheVariants.{Value, Refused}
 use Rattle.text.proofs.Laws.Tests.{cond-elim, and_left, and_right, or_right}
 use Rattle.text.proofs.Laws.Classes.{within_range, range_within}
 use Rattle.text.proofs.Laws.Parts.{all_none, all_cons, all_first, all_rest}
@@ -63,15 +62,15 @@ module _ {limit : ℕ} where
 
 -- what is read of digits, and that nothing is of a number above the limit
 pub read_digits : (limit : ℕ) (s : List ℕ) → has_no_leading_zero s ≡ true → 0 < length s → all is_digit s ≡ true → decimal s ≤ limit
-    → read_number limit s ≡ Value (decimal s)
+    → read_number limit s ≡ Some (decimal s)
 unfolding read_number read_decimal is_decimal
 read_digits limit s z l d h = simp (z, le-leb 1 (length s) l, d, le-leb (decimal s) limit h)
 
-pub number_over : (limit : ℕ) (w : List ℕ) → limit < decimal w → read_number limit w ≡ Refused
+pub number_over : (limit : ℕ) (w : List ℕ) → limit < decimal w → read_number limit w ≡ None
 unfolding read_number read_decimal is_decimal
 number_over limit w h = rw (lt-leb (decimal w) limit h) (by (has_no_leading_zero w) (leb 1 (length w) && all is_digit w))
   where
-    by : (t u : Bool) → cond t (cond (u && false) (Value (decimal w)) Refused) Refused ≡ Refused
+    by : (t u : Bool) → cond t (cond (u && false) (Some (decimal w)) None) None ≡ None
     by true true = refl
     by true false = refl
     by false u = refl
@@ -88,17 +87,17 @@ unfolding has_no_leading_zero
 one_digit a = refl
 
 -- what the grammar makes is read
-pub number_read : {limit : ℕ} {w : List ℕ} {n : ℕ} → LengthNumber limit w n → read_number limit w ≡ Value n
+pub number_read : {limit : ℕ} {w : List ℕ} {n : ℕ} → LengthNumber limit w n → read_number limit w ≡ Some n
 number_read {limit} nought =
     let e : decimal (48 ∷ []) ≡ 0 = decimal_1 48 in
-    read_digits limit (48 ∷ []) (one_digit 48) (omega arith) (number_digits {limit = limit} nought) (omega arith) ∙ ap Value e
+    read_digits limit (48 ∷ []) (one_digit 48) (omega arith) (number_digits {limit = limit} nought) (omega arith) ∙ ap Some e
 number_read {limit} (number {a = a} {w = w} ha hw le) =
     read_digits limit (a ∷ w) (no_leading_zero a w ha) (omega arith) (all_cons is_digit a w (first_digit a ha) hw) le
 
 -- what is read the grammar makes
-abbrev Right : ℕ → List ℕ → Number → Type 0
-Right limit w (Value n) = LengthNumber limit w n
-Right limit w Refused = Unit {0}
+abbrev Right : ℕ → List ℕ → Option ℕ → Type 0
+Right limit w (Some n) = LengthNumber limit w n
+Right limit w None = Unit {0}
 
 nonzero_first : (a b : ℕ) (w : List ℕ) → has_no_leading_zero (a ∷ b ∷ w) ≡ true → a ≡ 48 → ⊥
 unfolding has_no_leading_zero
@@ -129,7 +128,7 @@ number_right limit w =
     (λ _. tt))
     (λ _. tt)
 
-pub number_made : (limit : ℕ) (w : List ℕ) (n : ℕ) → read_number limit w ≡ Value n → LengthNumber limit w n
+pub number_made : (limit : ℕ) (w : List ℕ) (n : ℕ) → read_number limit w ≡ Some n → LengthNumber limit w n
 number_made limit w n e = subst (Right limit w) e (number_right limit w)
 
 -- a qnum is a number up to 255

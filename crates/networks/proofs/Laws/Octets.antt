@@ -1,4 +1,5 @@
 -- An octet read digit by digit, in one pass, is the octet of the longest run of digits. From the laws of Runs, Digits and Numbers.
+use Rattle.std.proofs.Common.{None, Some}
 use Prim.Native.Nat.{ℕ, suc, ◌+◌, ◌-◌, ◌*◌, ◌≤◌, ◌<◌}
 use mathlib.Core.Path.{◌≡◌, refl, sym, ap, ◌∙◌}
 use mathlib.Core.List.{List, [], ◌∷◌}
@@ -19,7 +20,6 @@ use Rattle.text.proofs.Laws.Tests.{or_left, or_right}
 use Rattle.text.proofs.Laws.Classes.{class_tests}
 use Rattle.text.proofs.Laws.Digits.{decimal_grows, number_zero}
 use Rattle.text.proofs.Laws.Runs.{run_le, run_cons, run_end_next, loop_here, loop_out, run_span, run_span_all}
-use Rattle.networks.specs.declared.ip4.Octet.TheVariants.{Ends, NoOctet}
 use Rattle.networks.specs.Reader.{octet_at}
 use Rattle.networks.proofs.Laws.Numbers.{read_digits, number_over}
 
@@ -83,7 +83,7 @@ module _ (s : List ℕ) (k v i : ℕ) (p : Passed s k v i) where
       value = grown;
     }
 
-    pub octet_over : 255 < 10 * v + (at s i - 48) → NoOctet ≡ octet_at s k
+    pub octet_over : 255 < 10 * v + (at s i - 48) → None ≡ octet_at s k
     unfolding octet_at
     octet_over l =
         let m : 255 < decimal (digits_at s k) = rw (← grown) (omega (arith, decimal_grows (10 * v + (at s i - 48)) (digits_at s (i + 1)))) in
@@ -111,15 +111,15 @@ module _ (s : List ℕ) (k v i : ℕ) (p : Passed s k v i) where
     pub octet_first : 1 < i - k → k < length s
     octet_first h = digits_inside s k (omega arith)
 
-    pub octet_empty : i ≡ k → NoOctet ≡ octet_at s k
+    pub octet_empty : i ≡ k → None ≡ octet_at s k
     unfolding octet_at read_number read_decimal is_decimal has_no_leading_zero
     octet_empty h = rw (digits_none s k (sym e ∙ h))
 
-    pub octet_zero : 1 < i - k → at s k ≡ 48 → NoOctet ≡ octet_at s k
+    pub octet_zero : 1 < i - k → at s k ≡ 48 → None ≡ octet_at s k
     unfolding octet_at
     octet_zero h z = rw (← (number_zero 255 (digits_at s k) (omega (arith, size)) (first (omega arith) ∙ z)))
 
-    ends : (i ≡ k → ⊥) → has_no_leading_zero (digits_at s k) ≡ true → Ends v i ≡ octet_at s k
+    ends : (i ≡ k → ⊥) → has_no_leading_zero (digits_at s k) ≡ true → Some (v, i) ≡ octet_at s k
     unfolding octet_at
     ends n z =
         let d : all is_digit (digits_at s k) ≡ true = sym (class_tests Digit (digits_at s k)) ∙ run_span_all (is_in Digit) s k in
@@ -127,11 +127,11 @@ module _ (s : List ℕ) (k v i : ℕ) (p : Passed s k v i) where
         rw (r, total, e)
 
     module _ (n : i ≡ k → ⊥) where
-      pub octet_one : i - k ≤ 1 → Ends v i ≡ octet_at s k
+      pub octet_one : i - k ≤ 1 → Some (v, i) ≡ octet_at s k
       unfolding has_no_leading_zero
       octet_one h = ends n (or_left (leb (length (digits_at s k)) 1) _ (le-leb (length (digits_at s k)) 1 (omega (arith, size))))
 
-      pub octet_more : (at s k ≡ 48 → ⊥) → Ends v i ≡ octet_at s k
+      pub octet_more : (at s k ≡ 48 → ⊥) → Some (v, i) ≡ octet_at s k
       unfolding has_no_leading_zero
       octet_more z =
           let f : not (eqb (at (digits_at s k) 0) 48) ≡ true = rw (first (omega arith), ne_eqb (at s k) 48 z) in

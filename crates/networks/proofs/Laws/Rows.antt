@@ -1,5 +1,6 @@
 -- Rows of groups: the reader against the productions, sound and complete, whether or not a tail may stand. From the laws of Ip4, Plain, of hex
 -- numbers, of colons and of splitting.
+use Rattle.std.proofs.Common.{None, Option, Some}
 use Prim.Native.Nat.{ℕ, ◌+◌, ◌*◌, ◌/◌, ◌%◌, ◌≤◌, ◌<◌}
 use mathlib.Core.Path.{◌≡◌, refl, ap, subst}
 use mathlib.Core.List.{List, [], ◌∷◌, ◌++◌, append_assoc, append-nil}
@@ -19,15 +20,12 @@ use Rattle.address.specs.declared.Address.TheVariants.{IPv4, IPv6}
 use Rattle.networks.specs.Grammar.{Ip4Network, octets, Group, digits, Row, Side}
 use Rattle.networks.specs.Reader.{read_ip4}
 use Rattle.networks.specs.Reader6.{double_colon, read_h16, Reading, refused, tail_of, last_of, last_part, push, row_of, read_row, read_side}
-use Rattle.networks.specs.declared.Network.{Network}
-use Rattle.networks.specs.declared.Network.TheVariants.{Is, NoNetwork}
-use Rattle.networks.specs.declared.ip6.H16.{H16}
-use Rattle.networks.specs.declared.ip6.H16.TheVariants.{Value, NoValue}
 use Rattle.networks.proofs.Laws.Plain.{group_bytes, ip4_bytes}
 use Rattle.networks.proofs.Laws.Ip4.{ip4_made, ip4_octets, qnum_small}
 use Rattle.networks.proofs.Laws.HexNumbers.{h16_sound, h16_complete}
 use Rattle.networks.proofs.Laws.Colons.{first_none, first_part, double_past, double_single}
 use Rattle.networks.proofs.Laws.RowWriting.{row_cons}
+use Rattle.address.specs.declared.Address.{Address}
 
 -- a group has no colon, and an IPv4 tail has none
 hex_not_colon : (b : ℕ) → is_hex_digit b ≡ true → is_not_colon b ≡ true
@@ -90,12 +88,12 @@ ip4_no_hex (octets {p = p} {q = q} {r = r} {s = s} a b c d) h =
     let z : ◌≡◌ {A = ℕ} 0 1 = cc dot_no_digit in
     omega arith
 
-ip4_no_h16 : {w os : List ℕ} → Ip4Network w os → read_h16 w ≡ NoValue
+ip4_no_h16 : {w os : List ℕ} → Ip4Network w os → read_h16 w ≡ None
 ip4_no_h16 {w} n = by (read_h16 w) refl
   where
-    by : (x : H16) → read_h16 w ≡ x → x ≡ NoValue
-    by (Value g) e = absurd (ip4_no_hex n (group_hex (h16_sound w g e)))
-    by NoValue e = refl
+    by : (x : Option ℕ) → read_h16 w ≡ x → x ≡ None
+    by (Some g) e = absurd (ip4_no_hex n (group_hex (h16_sound w g e)))
+    by None e = refl
 
 octets_small : {w os : List ℕ} → Ip4Network w os → all (λ o. leb o 255) os ≡ true
 unfolding all
@@ -112,7 +110,7 @@ unfolding value_of value_from
 two_groups v a b c d e hc hd = record { high = omega arith; low = omega arith }
 
 tail_groups : (a b c d : ℕ) → all (λ o. leb o 255) (a ∷ b ∷ c ∷ d ∷ []) ≡ true
-    → tail_of (Is (IPv4 (value_of (a ∷ b ∷ c ∷ d ∷ [])))) ≡ Reading.groups ((256 * a + b) ∷ (256 * c + d) ∷ [])
+    → tail_of (Some (IPv4 (value_of (a ∷ b ∷ c ∷ d ∷ [])))) ≡ Reading.groups ((256 * a + b) ∷ (256 * c + d) ∷ [])
 unfolding tail_of all
 tail_groups a b c d h =
     let cs = and_right (leb b 255) (leb c 255 && (leb d 255 && true)) (and_right (leb a 255) (leb b 255 && (leb c 255 && (leb d 255 && true))) h) in
@@ -139,27 +137,27 @@ abbrev pub RowRight : Bool → List ℕ → Reading → Type 0
 RowRight tails s (Reading.groups gs) = Row tails s gs
 RowRight tails s refused = Unit {0}
 
-tail_right : (w : List ℕ) (x : Network) → read_ip4 w ≡ x → RowRight true w (tail_of x)
+tail_right : (w : List ℕ) (x : Option Address) → read_ip4 w ≡ x → RowRight true w (tail_of x)
 unfolding tail_of
-tail_right w (Is (IPv4 v)) e =
+tail_right w (Some (IPv4 v)) e =
     let m = ip4_made w (IPv4 v) e in
     let same : v ≡ value_of (m.first ∷ m.second ∷ m.third ∷ m.fourth ∷ []) = cc m.value in
     let g = two_groups v m.first m.second m.third m.fourth same m.third_small m.fourth_small in
     rw (g.high, g.low) (Row.tail m.written)
-tail_right w (Is (IPv6 high low)) e = tt
-tail_right w NoNetwork e = tt
+tail_right w (Some (IPv6 high low)) e = tt
+tail_right w None e = tt
 
-last_right : (tails : Bool) (w : List ℕ) (h : H16) → read_h16 w ≡ h → RowRight tails w (last_of tails w h)
+last_right : (tails : Bool) (w : List ℕ) (h : Option ℕ) → read_h16 w ≡ h → RowRight tails w (last_of tails w h)
 unfolding last_of
-last_right tails w (Value g) e = Row.one (h16_sound w g e)
-last_right true w NoValue e = tail_right w (read_ip4 w) refl
-last_right false w NoValue e = tt
+last_right tails w (Some g) e = Row.one (h16_sound w g e)
+last_right true w None e = tail_right w (read_ip4 w) refl
+last_right false w None e = tt
 
-push_right : (tails : Bool) (w s : List ℕ) (h : H16) → read_h16 w ≡ h → (x : Reading) → RowRight tails s x → RowRight tails (w ++ (58 ∷ s)) (push h x)
+push_right : (tails : Bool) (w s : List ℕ) (h : Option ℕ) → read_h16 w ≡ h → (x : Reading) → RowRight tails s x → RowRight tails (w ++ (58 ∷ s)) (push h x)
 unfolding push
-push_right tails w s (Value g) e (Reading.groups gs) r = Row.more (h16_sound w g e) r
-push_right tails w s (Value g) e refused r = tt
-push_right tails w s NoValue e x r = tt
+push_right tails w s (Some g) e (Reading.groups gs) r = Row.more (h16_sound w g e) r
+push_right tails w s (Some g) e refused r = tt
+push_right tails w s None e x r = tt
 
 parts_right : (tails : Bool) (ws : List (List ℕ)) → RowRight tails (join_by 58 ws) (row_of tails ws)
 unfolding row_of join_by separator_before last_part

@@ -1,7 +1,9 @@
 -- The new table of an old one: there is one (`rewritten_some`), longer by four bytes for each entry, and no other (`rewritten_one`); its entries are
 -- those of the old one, whose lifetimes are 0 (`same_entries`), and it is accepted with as many (`new_accepted`). From the productions and the laws of
 -- `answer_table` on one entry.
+use Rattle.std.proofs.Common.{Some}
 use Prim.Native.Nat.{ℕ, ◌+◌, ◌*◌, ◌≤◌}
+use Rattle.answer_table.specs.declared.entries.Header.{Header}
 use mathlib.Core.Path.{◌≡◌, refl, sym, ap, ◌∙◌}
 use mathlib.Core.List.{List, [], ◌++◌, append_assoc}
 use native.Mathlib.Omega.{arith}
@@ -51,19 +53,24 @@ record SameFront (k k' : List ℕ) (status status' : ℕ) (name name' i i' rest 
 front_one : {l l' k k' : List ℕ} {kind kind' : ℕ} (status status' : ℕ) (name name' i i' : List ℕ) → Two l (length (body k status [] name i)) → Two k kind
     → Two l' (length (body k' status' [] name' i')) → Two k' kind' → (rest rest' : List ℕ)
     → l ++ body k status [] name i ++ rest ≡ l' ++ body k' status' [] name' i' ++ rest' → SameFront k k' status status' name name' i i' rest rest'
-front_one {l} {l'} {k} {k'} status status' name name' i i' tl tk tl' tk' rest rest' q =
+front_one {l} {l'} {k} {k'} {kind} {kind'} status status' name name' i i' tl tk tl' tk' rest rest' q =
     let x = laid_out status name i tl tk no_lifetime rest in
     let y = laid_out status' name' i' tl' tk' no_lifetime rest' in
     let d = drop-append_seam (l ++ body k status [] name i) rest in
     let d' = drop-append_seam (l' ++ body k' status' [] name' i') rest' in
     let a = kind_at tl tk status name i rest in
     let a' = kind_at tl' tk' status' name' i' rest' in
+    let h : Header = record { kind = kind; status = status; name = length name; size = length (l ++ body k status [] name i) } in
+    let h' : Header = record { kind = kind'; status = status'; name = length name'; size = length (l' ++ body k' status' [] name' i') } in
+    let o : Some h ≡ Some h' = cc (x.header, y.header) in
+    let e : h ≡ h' = cc in
+    let size = ap (λ (h : Header). h.size) e in
     record {
       same_kind = cc;
-      same_status = cc (x.header, y.header);
-      same_name = cc (x.header, y.header, x.name_read, y.name_read);
-      same_items = cc (x.header, y.header, x.bytes_read, y.bytes_read);
-      same_rest = cc (x.header, y.header);
+      same_status = ap (λ (h : Header). h.status) e;
+      same_name = cc (x.name_read, y.name_read);
+      same_items = cc (x.bytes_read, y.bytes_read);
+      same_rest = cc;
     }
 
 -- there is one new table only

@@ -1,5 +1,6 @@
 -- One rule for each way out of the functions of src/lib.rt: its premises are what the code knows there. From the laws of Entries and those on writing
 -- of `text`.
+use Rattle.std.proofs.Common.{Result, Ok, Err}
 use Prim.Native.Nat.{ℕ, ◌+◌, ◌-◌, ◌*◌, ◌/◌, ◌%◌, ◌≤◌, ◌<◌, ◌^◌}
 use mathlib.Core.Path.{◌≡◌, refl, sym, ap, ◌∙◌}
 use mathlib.Core.Logic.{inl, inr}
@@ -10,15 +11,18 @@ use lib.Seq.{take_at, drop-drop, drop-append_seam}
 use mir.Syntax.{w64}
 use mir.Val.{Fits}
 use Rattle.text.specs.Bytes.{part}
-use Rattle.text.specs.Writing.{Wrote}
+use Rattle.text.specs.Writing.{Wrote, Writes}
+use Rattle.text.specs.declared.writing.Writer.{Writer}
 use Rattle.text.proofs.Laws.Spans.{rest_part}
-use Rattle.text.proofs.Laws.Writing.{wrote_none, wrote_then, length_wrote, wrote_front, wrote_length}
+use Rattle.text.proofs.Laws.Writing.{wrote_none, wrote_then, wrote_front, wrote_length}
 use Rattle.answer_table.specs.Layout.{Two, two, body}
-use Rattle.answer_table.specs.Numbers.{nowhere, byte, accepted, reported}
+use Rattle.answer_table.specs.Numbers.{nowhere, accepted, reported}
 use Rattle.answer_table.specs.Answers.{most_bytes, TableAnswersIn}
 use Rattle.answer_table.specs.Reader.{number}
 use Rattle.answer_table.specs.declared.Layout.TheVariants.{Old}
-use Rattle.answer_table.specs.declared.TableAnswer.{TableAnswer}
+use Rattle.answer_table.specs.declared.TableError.{TableError}
+use Rattle.answer_table.specs.declared.TableError.TheVariants.{TooLong, Malformed, Repeated}
+use Rattle.old_layout.specs.Numbers.{outcome_of}
 use Rattle.answer_table.proofs.Laws.Items.{two_front}
 use Rattle.answer_entry.specs.Encoding.{two_bytes, four_bytes, low_bytes}
 use Rattle.answer_entry.proofs.Laws.Fitting.{accepted_encoded}
@@ -27,18 +31,22 @@ use Rattle.old_layout.specs.Writing.{lengthened, PutsTable}
 use Rattle.old_layout.proofs.Laws.Entries.{entry_longer, rewritten_one, rewritten_some}
 
 -- `put_entry`
-pub entry_put : (s : List ℕ) (n : ℕ) → n ≡ number s → (u v : List ℕ) → u ≡ part s 2 5 → v ≡ part s 5 (2 + n) → (out : List ℕ) (at : ℕ)
-    → (o₁ : List ℕ) (n₁ : ℕ) (o₂ : List ℕ) (n₂ : ℕ) (o₃ : List ℕ) (n₃ : ℕ) (o₄ : List ℕ) (n₄ : ℕ)
-    → Wrote (low_bytes (n + 4)) out at o₁ n₁ → Wrote u o₁ n₁ o₂ n₂ → Wrote (four_bytes 0) o₂ n₂ o₃ n₃ → Wrote v o₃ n₃ o₄ n₄
-    → Wrote (lengthened s) out at o₄ n₄
+pub entry_put : (s : List ℕ) (n : ℕ) → n ≡ number s → (u v : List ℕ) → u ≡ part s 2 5 → v ≡ part s 5 (2 + n) → (a b c d e : Writer)
+    → Writes (low_bytes (n + 4)) a b → Writes u b c → Writes (four_bytes 0) c d → Writes v d e → Writes (lengthened s) a e
 unfolding lengthened
-entry_put s n e u v p q out at o₁ n₁ o₂ n₂ o₃ n₃ o₄ n₄ a b c d =
+entry_put s n e u v p q a b c d f wa wb wc wd =
     let x = low_bytes (n + 4) in
     let y = four_bytes 0 in
-    rw (← e, ← p)
-    (rw q at
-    (wrote_then out at (x ++ u ++ y) v o₃ o₄ n₃ n₄
-    (wrote_then out at (x ++ u) y o₂ o₃ n₂ n₃ (wrote_then out at x u o₁ o₂ n₁ n₂ a b) c) d))
+    let out = a.out.now in
+    record {
+      wrote =
+          rw (← e, ← p)
+          (rw q at
+          (wrote_then out a.at (x ++ u ++ y) v d.out.now f.out.now d.at f.at
+          (wrote_then out a.at (x ++ u) y c.out.now d.out.now c.at d.at
+          (wrote_then out a.at x u b.out.now c.out.now b.at c.at wa.wrote wb.wrote) wc.wrote) wd.wrote));
+      same = wd.same ∙ wc.same ∙ wb.same ∙ wa.same;
+    }
 
 -- what is written of an entry that is laid out is the new one
 laid_bytes : {l k : List ℕ} {m kind : ℕ} → Two l m → Two k kind → (status : ℕ) (b rest : List ℕ) → m ≡ 3 + length b
@@ -95,66 +103,63 @@ first_entry (more {k = k} {rest = rest} {new = new} status name i tl tk r) h l =
     (new, ap (λ (x : List ℕ). x ++ new) (sym e), rw (after_it status name i tl tk rest) r)
 
 -- `put_table`: what was written of a table, and what is left of it
-pub record Passed (old before : List ℕ) (i : ℕ) (out : List ℕ) (next : ℕ) (new : List ℕ) : Type 0 where
+pub record Passed (old : List ℕ) (i : ℕ) (before out : Writer) (new : List ℕ) : Type 0 where
   pub done : List ℕ
   pub left : List ℕ
   pub all : new ≡ done ++ left
-  pub wrote : Wrote done before 0 out next
+  pub wrote : Wrote done before.out.now before.at out.out.now out.at
   pub rest : Rewritten (drop i old) left
 
-pub record Passing (old before out : List ℕ) (next i : ℕ) : Type 0 where
-  pub kept : length out ≡ length before
-  pub by : (new : List ℕ) → Rewritten old new → length new ≤ most_bytes → Passed old before i out next new
+pub record Passing (old : List ℕ) (before out : Writer) (i : ℕ) : Type 0 where
+  pub same : out.out.ghost_name ≡ before.out.ghost_name
+  pub by : before.at ≡ 0 → (new : List ℕ) → Rewritten old new → length new ≤ most_bytes → Passed old i before out new
 
-module _ (old before : List ℕ) where
-  pub passing_start : length before < 2 ^ 64 → Passing old before before 0 0
+module _ (old : List ℕ) (before : Writer) where
+  pub passing_start : length before.out.now < 2 ^ 64 → Passing old before before 0
   passing_start h = record {
-    kept = refl;
-    by = λ new r l. record { done = []; left = new; all = refl; wrote = wrote_none before 0 (omega arith) (omega arith); rest = r };
+    same = refl;
+    by = λ z new r l. record { done = []; left = new; all = refl; wrote = wrote_none before.out.now before.at (omega arith) (omega arith); rest = r };
   }
 
-  module _ (out : List ℕ) (next i : ℕ) (p : Passing old before out next i) where
-    pub passing_length : length out ≡ length before
-    passing_length = p.kept
-
-    pub passing_end : length old ≤ i → PutsTable old before out next
+  module _ (out : Writer) (i : ℕ) (p : Passing old before out i) where
+    pub passing_end : length old ≤ i → PutsTable old before out
     passing_end h = record {
-      by = λ new r l.
-          let q = p.by new r l in
+      by = λ z new r l.
+          let q = p.by z new r l in
           let e : q.left ≡ [] = rewritten_one (rw (drop_of_length-le old {i = i} h) at q.rest) none in
-          rw (q.all, e, append-nil) q.wrote;
+          record { wrote = rw (q.all, e, append-nil) q.wrote; same = p.same };
+      same = p.same;
     }
 
-    pub passing_on : i < length old → (o : List ℕ) (n : ℕ) → Wrote (lengthened (take (length old - i) (drop i old))) out next o n
-        → (m : ℕ) → m ≡ number (take (length old - i) (drop i old)) → Passing old before o n (i + (2 + m))
-    passing_on h o n w m e = record {
-      kept = length_wrote out next _ o n w ∙ p.kept;
-      by = λ new r l.
-          let q = p.by new r l in
+    pub passing_on : i < length old → (o : Writer) → Writes (lengthened (take (length old - i) (drop i old))) out o
+        → (m : ℕ) → m ≡ number (take (length old - i) (drop i old)) → Passing old before o (i + (2 + m))
+    passing_on h o w m e = record {
+      same = w.same ∙ p.same;
+      by = λ z new r l.
+          let q = p.by z new r l in
           let a = first_entry q.rest (omega (arith, length-drop i old)) (omega (arith, ap length q.all, length-append q.done q.left)) in
           let f : m ≡ number (drop i old) = rw rest_part at e in
-          let v : Wrote (lengthened (drop i old)) out next o n = rw rest_part at w in
+          let v : Wrote (lengthened (drop i old)) out.out.now out.at o.out.now o.at = rw rest_part at w.wrote in
           record {
             done = q.done ++ lengthened (drop i old);
             left = a.0;
             all = q.all ∙ ap (λ (x : List ℕ). q.done ++ x) a.1 ∙ sym (append_assoc q.done (lengthened (drop i old)) a.0);
-            wrote = wrote_then before 0 q.done (lengthened (drop i old)) out o next n q.wrote v;
+            wrote = wrote_then before.out.now before.at q.done (lengthened (drop i old)) out.out.now o.out.now out.at o.at q.wrote v;
             rest = rw (f, ← (drop-drop (2 + number (drop i old)) i old)) a.2;
           };
     }
 
 -- `add_lifetimes`
-module _ (old buffer : List ℕ) (x : TableAnswer) (t : TableAnswersIn Old old (reported x)) where
-  pub old_too_long : x ≡ TableAnswer.TooLong → Rewrites old buffer (refused 24 nowhere) buffer
-  old_too_long e = no_table (rw e at t)
+module _ (old buffer : List ℕ) (x : Result ℕ TableError) (t : TableAnswersIn Old old (reported x)) where
+  pub old_refused : (e : TableError) → x ≡ Err e → Rewrites old buffer (outcome_of (Err e)) buffer
+  old_refused e q = by e (rw q at t)
+    where
+      by : (e : TableError) → TableAnswersIn Old old (reported (Err e)) → Rewrites old buffer (outcome_of (Err e)) buffer
+      by TooLong t = no_table t
+      by (Malformed p) t = no_table t
+      by (Repeated p) t = no_table t
 
-  pub old_malformed : (p : ℕ) → x ≡ TableAnswer.Malformed p → Rewrites old buffer (refused 25 (byte p)) buffer
-  old_malformed p e = no_table (rw e at t)
-
-  pub old_repeated : (p : ℕ) → x ≡ TableAnswer.Repeated p → Rewrites old buffer (refused 26 (byte p)) buffer
-  old_repeated p e = no_table (rw e at t)
-
-  module _ (count : ℕ) (e : x ≡ TableAnswer.Accepted count) where
+  module _ (count : ℕ) (e : x ≡ Ok count) where
     accepts : TableAnswersIn Old old (accepted count)
     accepts = rw e at t
 
@@ -174,11 +179,12 @@ module _ (old buffer : List ℕ) (x : TableAnswer) (t : TableAnswersIn Old old (
     pub no_room_left : length buffer < length old + 4 * count → Rewrites old buffer (refused 24 nowhere) buffer
     no_room_left h = let s = its_new in no_room accepts s.1 (inr (omega (arith, s.2)))
 
-    pub table_written : length old + 4 * count ≤ most_bytes → length old + 4 * count ≤ length buffer → (after : List ℕ) (n : ℕ)
-        → PutsTable old buffer after n → Rewrites old buffer (written n) after
-    table_written h k after n p =
+    pub table_written : length old + 4 * count ≤ most_bytes → length old + 4 * count ≤ length buffer → (before after : Writer)
+        → before.out.now ≡ buffer → before.at ≡ 0 → PutsTable old before after → (last : List ℕ) → last ≡ after.out.now
+        → Rewrites old buffer (written after.at) last
+    table_written h k before after b a p last q =
         let s = its_new in
         let l : length s.0 ≤ most_bytes = omega (arith, s.2) in
         let m : length s.0 ≤ length buffer = omega (arith, s.2) in
-        let w = p.by s.0 s.1 l in
-        rw (wrote_length s.0 buffer after n w (omega arith), wrote_front s.0 buffer after n w m) (fits accepts s.1 l m)
+        let w : Wrote s.0 buffer 0 after.out.now after.at = rw (b, a) at (p.by a s.0 s.1 l).wrote in
+        rw (q, wrote_length s.0 buffer after.out.now after.at w (omega arith), wrote_front s.0 buffer after.out.now after.at w m) (fits accepts s.1 l m)

@@ -6,7 +6,7 @@ use Rattle.old_layout.proofs.Laws.Rules.{Passing}
 use Rattle.old_layout.proofs.put_table.Given as goal
 
 abbrev pub invariant-loop-at : goal.invariant-loop-at
-invariant-loop-at l = Passing l.old l.initial.out l.out l.next l.at
+invariant-loop-at l = Passing l.old l.initial.out l.out l.at
 
 abbrev pub decreases-loop-at : goal.decreases-loop-at
 decreases-loop-at l = length l.old - l.at

@@ -14,7 +14,8 @@ use Rattle.records.specs.Readings.{Placed}
 use Rattle.records.specs.Grammar.{Record}
 use Rattle.records.specs.Answers.{most_bytes}
 use Rattle.records.proofs.Laws.Records.{one_reading}
-use Rattle.publishing.specs.declared.HouseAnswer.{HouseAnswer}
+use Rattle.publishing.specs.declared.HouseError.{HouseError}
+use Rattle.std.proofs.Common.{Result, Ok}
 use Rattle.publishing.specs.House.{Some, here, later, Among, Mechanism, Ptr, All, Redirect, RedirectOrExp, WithP, PlusAll, Short, missing, again, too_many_bytes, Breach}
 use Rattle.publishing.specs.Listing.{Entry, entry, Member, none, Listing, encoded, breach_bytes, most_name, HouseAnswers}
 use Rattle.publishing.specs.Desk.{OneEnd, by_all, by_redirect, Publishable, rule_at, place_at, Desk}
@@ -217,10 +218,10 @@ module _ (domain s before after : List ℕ) (n : ℕ) (ts : List Placed) (d : Re
     bytes : after ≡ encoded es ++ rest
     count : n ≡ length es
 
-  read : HouseAnswers domain s before after (HouseAnswer.Listed n) → Read
+  read : HouseAnswers domain s before after (Ok n) → Read
   read a = by a refl
     where
-      by : {r : HouseAnswer} → HouseAnswers domain s before after r → r ≡ HouseAnswer.Listed n → Read
+      by : {r : Result ℕ HouseError} → HouseAnswers domain s before after r → r ≡ Ok n → Read
       by (HouseAnswers.long_name h e) q = let z : ◌≡◌ {A = ℕ} 0 1 = cc in absurd (omega arith)
       by (HouseAnswers.unread h b e) q = let z : ◌≡◌ {A = ℕ} 0 1 = cc in absurd (omega arith)
       by (HouseAnswers.no_room h k c l m e) q = let z : ◌≡◌ {A = ℕ} 0 1 = cc in absurd (omega arith)
@@ -244,7 +245,7 @@ module _ (domain s before after : List ℕ) (n : ℕ) (ts : List Placed) (d : Re
       subst (λ (x : List ℕ). (rule_at x (length us) ≡ e.rule) × (place_at x (length us) ≡ e.place)) (sym r.bytes)
       (encoded_at r.es r.rest us e vs h (small r ((r.listing.lists e).0 (at_member e r.es us vs h))))
 
-  really_is : HouseAnswers domain s before after (HouseAnswer.Listed n) → (k : ℕ) → k < n → Breach ts (length s) (length domain) (rule_at after k) (place_at after k)
+  really_is : HouseAnswers domain s before after (Ok n) → (k : ℕ) → k < n → Breach ts (length s) (length domain) (rule_at after k) (place_at after k)
   really_is a k h =
       let r = read a in
       let no = entry 0 0 in
@@ -257,7 +258,7 @@ module _ (domain s before after : List ℕ) (n : ℕ) (ts : List Placed) (d : Re
       let place : place_at after k ≡ e.place = ap (place_at after) (sym l) ∙ o.1 in
       rw (rule, place) ((r.listing.lists e).0 (at_member e r.es (take k r.es) (drop (suc k) r.es) q))
 
-  every_is : HouseAnswers domain s before after (HouseAnswer.Listed n) → (rule place : ℕ) → Breach ts (length s) (length domain) rule place
+  every_is : HouseAnswers domain s before after (Ok n) → (rule place : ℕ) → Breach ts (length s) (length domain) rule place
       → (k : ℕ) × ((k < n) × ((rule_at after k ≡ rule) × (place_at after k ≡ place)))
   every_is a rule place b =
       let r = read a in
@@ -265,13 +266,13 @@ module _ (domain s before after : List ℕ) (n : ℕ) (ts : List Placed) (d : Re
       let o = listed_at r m.us (entry rule place) m.vs m.split in
       (length m.us, (omega (arith, m.inside, r.count), (o.0, o.1)))
 
-clean_is : {domain s before after : List ℕ} → HouseAnswers domain s before after (HouseAnswer.Listed 0) → (ts : List Placed) → Record s ts
+clean_is : {domain s before after : List ℕ} → HouseAnswers domain s before after (Ok 0) → (ts : List Placed) → Record s ts
     → Publishable ts (length s) (length domain)
 clean_is {domain} {s} {before} {after} a ts d =
     publishable ts (length s) (length domain) (λ rule place b. let k = every_is domain s before after 0 ts d a rule place b in omega (arith, k.1.0))
 
 none_listed_is : {domain s before : List ℕ} → length domain ≤ most_name → (ts : List Placed) → Record s ts
-    → Publishable ts (length s) (length domain) → HouseAnswers domain s before before (HouseAnswer.Listed 0)
+    → Publishable ts (length s) (length domain) → HouseAnswers domain s before before (Ok 0)
 unfolding encoded
 none_listed_is {domain} {s} {before} h ts d p =
     HouseAnswers.listed {es = []} h (omega (arith, p.fits)) d (listed_nothing ts (length s) (length domain) p) (omega arith) (omega arith) refl

@@ -1,5 +1,6 @@
 -- What a term is, by its case: the tests of what it says, and whether it has a p macro. One rule for each way out of `facts_of`, `short_network` and
 -- `has_p`. From the names of records' tokens.
+use Rattle.std.proofs.Common.{Some}
 use Prim.Native.Nat.{ℕ}
 use mathlib.Core.Path.{◌≡◌, refl, sym, ◌∙◌}
 use mathlib.Core.List.{List, []}
@@ -18,12 +19,11 @@ use Rattle.records.specs.Grammar.{sign_plus}
 use Rattle.records.specs.Numbers.{said_of}
 use Rattle.records.specs.Reader.{is_redirect, is_explanation, token_of}
 use Rattle.records.specs.declared.Term.{Term}
-use Rattle.records.specs.declared.Token.{Token}
 use Rattle.records.proofs.Laws.Tokens.{redirect_name, explanation_name}
 use Rattle.publishing.specs.House.{least_4, least_6}
 use Rattle.publishing.specs.Rows.{row_by, rows_of}
 use Rattle.publishing.specs.declared.offences.Facts.{Facts}
-use Rattle.publishing.specs.Finding.{is_present, is_below, is_exactly, is_mechanism, is_named, is_all, redirects, modifies, has_p, is_plus_all, is_short, short_network, mechanism_facts, modifier_facts, facts_of}
+use Rattle.publishing.specs.Finding.{is_present, is_below, is_exactly, is_mechanism, is_named, is_all, redirects, modifies, has_p, is_plus_all, is_short, short_network, modifier_facts, facts_of}
 
 or_no : (b : Bool) → (b || false) ≡ b
 or_no true = refl
@@ -70,55 +70,24 @@ right w p (Term.Unknown name to) d e = record { all = refl; plus = refl; ptr = r
     either : {a b : Bool} → a ≡ false → b ≡ false → (a || b) ≡ false
     either f g = simp (f, g)
 
-pub facts_right : (w : List ℕ) (p : ℕ) (t : Term) → token_of w ≡ Token.Is t → Right (record { place = p; said = said_of w t }) (facts_of t)
+pub facts_right : (w : List ℕ) (p : ℕ) (t : Term) → token_of w ≡ Some t → Right (record { place = p; said = said_of w t }) (facts_of t)
 facts_right w p t e = right w p t (redirect_name w t e) (explanation_name w t e)
 
--- `facts_of`
-module _ (t : Term) where
-  pub is_all_lem : (sign : ℕ) → t ≡ Term.All sign
-      → record { all = true; plus = eqb sign sign_plus; ptr = false; mechanism = true; redirect = false; modifier = false; short = false; network = false }
-      ≡ facts_of t
-  unfolding facts_of
-  is_all_lem sign e = rw e
-
-  module _ (f : Facts) where
-    pub is_include : (sign from to : ℕ) → t ≡ Term.Include sign from to → f ≡ mechanism_facts false false false → f ≡ facts_of t
-    unfolding facts_of
-    is_include sign from to e h = rw e h
-
-    pub is_a : (sign from to n m : ℕ) → t ≡ Term.A sign from to n m → (x : Bool) → x ≡ (ltb n least_4 || ltb m least_6) → f ≡ mechanism_facts false x false → f ≡ facts_of t
-    unfolding facts_of
-    is_a sign from to n m e x g h = rw (e, ← g) h
-
-    pub is_mx : (sign from to n m : ℕ) → t ≡ Term.Mx sign from to n m → (x : Bool) → x ≡ (ltb n least_4 || ltb m least_6) → f ≡ mechanism_facts false x false → f ≡ facts_of t
-    unfolding facts_of
-    is_mx sign from to n m e x g h = rw (e, ← g) h
-
-    pub is_ptr : (sign from to : ℕ) → t ≡ Term.Ptr sign from to → f ≡ mechanism_facts true false false → f ≡ facts_of t
-    unfolding facts_of
-    is_ptr sign from to e h = rw e h
-
-    pub is_network : (sign from to n : ℕ) (a : Address) → t ≡ Term.Network sign from to a n → (x : Bool) → x ≡ short_network a n → f ≡ mechanism_facts false x true → f ≡ facts_of t
-    unfolding facts_of
-    is_network sign from to n a e x g h = rw (e, ← g) h
-
-    pub is_exists : (sign from to : ℕ) → t ≡ Term.Exists sign from to → f ≡ mechanism_facts false false false → f ≡ facts_of t
-    unfolding facts_of
-    is_exists sign from to e h = rw e h
-
-    pub is_redirect_lem : (from to : ℕ) → t ≡ Term.Redirect from to → f ≡ modifier_facts true true → f ≡ facts_of t
-    unfolding facts_of
-    is_redirect_lem from to e h = rw e h
-
-    pub is_explanation_lem : (from to : ℕ) → t ≡ Term.Explanation from to → f ≡ modifier_facts false true → f ≡ facts_of t
-    unfolding facts_of
-    is_explanation_lem from to e h = rw e h
-
-    pub is_unknown : (name to : ℕ) → t ≡ Term.Unknown name to → f ≡ modifier_facts false false → f ≡ facts_of t
-    unfolding facts_of
-    is_unknown name to e h = rw e h
-
-pub ruleset kinds = (is_all_lem, is_include, is_a, is_mx, is_ptr, is_network, is_exists, is_redirect_lem, is_explanation_lem, is_unknown)
+-- `Facts::of`: the facts that hold of no term
+pub plain : (f : Facts)
+    → (f.all ≡ false) × ((f.plus ≡ false) × ((f.ptr ≡ false) × ((f.mechanism ≡ false) × ((f.redirect ≡ false) × ((f.modifier ≡ false) × ((f.short ≡ false) × (f.network ≡ false)))))))
+    → f ≡ modifier_facts false false
+plain f h =
+    λ t. record {
+      all = h.0 t;
+      plus = h.1.0 t;
+      ptr = h.1.1.0 t;
+      mechanism = h.1.1.1.0 t;
+      redirect = h.1.1.1.1.0 t;
+      modifier = h.1.1.1.1.1.0 t;
+      short = h.1.1.1.1.1.1.0 t;
+      network = h.1.1.1.1.1.1.1 t;
+    }
 
 -- `short_network`
 module _ (a : Address) (n : ℕ) where
@@ -145,5 +114,5 @@ module _ (w : List ℕ) (t : Term) (x : List ℕ) (a : x ≡ argument_bytes (sai
   pub p_here : m ≡ true → (u : Bool) → u ≡ uses_p ModifierValue x → u ≡ has_p (said_of w t).argument
   p_here h u f = sym (p_of (said_of w t).argument ∙ rw (← a, ← e, h, ← f))
 
-  pub p_none : m ≡ false → false ≡ has_p (said_of w t).argument
-  p_none h = sym (p_of (said_of w t).argument ∙ rw (← a, ← e, h))
+  pub p_none : m ≡ false → m ≡ has_p (said_of w t).argument
+  p_none h = h ∙ sym (p_of (said_of w t).argument ∙ rw (← a, ← e, h))

@@ -1,5 +1,6 @@
 -- The networks of a record, of terms that were read: a term has a row exactly if it is a network (`term_rows`), a network's text has six bytes or more
 -- (`network_size`), and a network fits its family (`term_fits`). From the productions of `records` and `networks`.
+use Rattle.std.proofs.Common.{Some}
 use Prim.Native.Nat.{ℕ, ◌+◌, ◌*◌, ◌≤◌, ◌<◌}
 use mathlib.Core.Path.{◌≡◌, refl, ap, ◌∙◌}
 use mathlib.Core.List.{List, [], ◌∷◌}
@@ -21,10 +22,9 @@ use Rattle.records.specs.Grammar.{Mechanism, Directive, Modifier, TermText}
 use Rattle.records.specs.Numbers.{said_of}
 use Rattle.records.specs.Reader.{token_of}
 use Rattle.records.specs.declared.Term.{Term}
-use Rattle.records.specs.declared.Token.{Token}
 use Rattle.records.proofs.Laws.Names.{literal_length}
 use Rattle.records.proofs.Laws.Tokens.{token_sound}
-use Rattle.duplicates.specs.Rows.{Row}
+use Rattle.duplicates.specs.declared.Row.{Row}
 use Rattle.publishing.specs.Rows.{row_of, row_by, rows_of, term_rows}
 
 -- the row of a term is that of the reading
@@ -137,7 +137,7 @@ unfolding row_by
 other_rows t e = rw e
 
 -- a network's term has six bytes or more
-pub network_size : (w : List ℕ) (t : Term) → token_of w ≡ Token.Is t → 6 * length (term_rows t) ≤ length w
+pub network_size : (w : List ℕ) (t : Term) → token_of w ≡ Some t → 6 * length (term_rows t) ≤ length w
 network_size w t e = by (made (token_sound w t e))
   where
     by : Made w (said_of w t) → 6 * length (term_rows t) ≤ length w
@@ -145,7 +145,7 @@ network_size w t e = by (made (token_sound w t e))
     by (Made.other f) = rw (← term_rows_lem w 0 t, other_rows (record { place = 0; said = said_of w t }) f) (omega arith)
 
 -- a term that was read fits
-pub term_fits : (w : List ℕ) (p : ℕ) (t : Term) → token_of w ≡ Token.Is t → Fits (record { place = p; said = said_of w t })
+pub term_fits : (w : List ℕ) (p : ℕ) (t : Term) → token_of w ≡ Some t → Fits (record { place = p; said = said_of w t })
 term_fits w p t e = by (made (token_sound w t e))
   where
     by : Made w (said_of w t) → FitsSaid (said_of w t)

@@ -14,7 +14,7 @@ use Rattle.address.specs.Clearing.{cleared}
 use Rattle.address.proofs.Laws.AddressOctets.{length_four, length_sixteen}
 use Rattle.address.proofs.Laws.Clearing.{clearing_rule}
 use Rattle.records.specs.Readings.{absent, present, Said, Placed}
-use Rattle.duplicates.specs.Rows.{Row}
+use Rattle.duplicates.specs.declared.Row.{Row}
 use Rattle.publishing.specs.House.{Some, here, later, SameNetwork}
 use Rattle.publishing.specs.Rows.{words_of, row_of, rows_of, network_rows}
 use Rattle.publishing.proofs.Laws.Listings.{some_first, nobody}

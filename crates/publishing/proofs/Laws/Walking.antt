@@ -1,6 +1,7 @@
 -- A record read term after term: what has stood, how many networks, and the breaches that were written. One rule for each way out of `count_after`,
 -- `seen_after`, `survey`, `breaks`, `put_term` and `put_offences`. From the terms that are left (records' Remaining), what terms are (Kinds), the rows of
 -- networks (Networks, Tables) and text's laws of writing.
+use Rattle.std.proofs.Common.{None, Ok, Err}
 use Prim.Native.Nat.{ℕ, zero, suc, ◌+◌, ◌-◌, ◌*◌, ◌≤◌, ◌<◌, ◌^◌}
 use mathlib.Core.Path.{◌≡◌, refl, sym, ap, subst, ◌∙◌}
 use mathlib.Core.List.{List, [], ◌∷◌, ◌++◌, append_assoc, append-nil}
@@ -9,44 +10,46 @@ use native.Mathlib.Omega.{arith}
 use native.Mathlib.Numerals.{add-one}
 use lib.Dec.{ltb, eqb}
 use lib.ListN.{length, length-append}
-use borrow.Author.Tests.{lt-ltb, ltb-true, ne_eqb, eqb-true, eq-eqb}
+use borrow.Author.Tests.{lt-ltb, le-ltb, ltb-true, ne_eqb, eqb-true, eq-eqb}
 use Rattle.text.specs.Bytes.{at, part}
-use Rattle.text.specs.Writing.{Wrote}
-use Rattle.text.proofs.Laws.Writing.{wrote_none, length_wrote}
+use Rattle.text.specs.Writing.{Writes}
+use Rattle.text.specs.declared.writing.Writer.{Writer}
+use Rattle.text.proofs.Laws.Writing.{wrote_none}
 use Rattle.text.proofs.Laws.Tests.{and_right, same_tests}
 use Rattle.records.specs.Readings.{Placed, absent}
-use Rattle.records.specs.Numbers.{said_of}
+use Rattle.records.specs.Numbers.{said_of, TermAnswer, term_at}
 use Rattle.records.specs.Reader.{read_term, Reads}
+use Rattle.records.specs.declared.Refusal.{Refusal}
 use Rattle.records.specs.declared.Term.{Term}
-use Rattle.records.specs.declared.TermAnswer.{TermAnswer}
 use Rattle.records.proofs.Laws.Arguments.{stands}
-use Rattle.records.proofs.Laws.Checking.{next_less}
-use Rattle.records.proofs.Laws.Remaining.{placed, reads_next, reads_out, reads_end}
-use Rattle.duplicates.specs.Rows.{Row, most_rows}
+use Rattle.records.proofs.Laws.Remaining.{placed, reads_next, reads_out}
+use Rattle.duplicates.specs.declared.Row.{Row}
+use Rattle.duplicates.specs.Rows.{most_rows}
 use Rattle.publishing.specs.declared.offences.Facts.{Facts}
 use Rattle.publishing.specs.declared.offences.Seen.{Seen}
 use Rattle.publishing.specs.House.{Among}
 use Rattle.publishing.specs.Listing.{Entry, encoded}
 use Rattle.publishing.specs.Rows.{rows_of, network_rows, term_rows, Holds, PutsRow, Marked}
-use Rattle.publishing.specs.Finding.{any, is_all, redirects, modifies, has_p, same_by, same_network, offends, entry_if, offences_from, offences, offences_of, none_seen, seen_of, seen_after, count_after, facts_of, breaks_by, Surveys, PutsOffences}
+use Rattle.publishing.specs.Finding.{any, is_all, redirects, modifies, has_p, same_by, same_network, offends, entry_if, offences_from, offences, offences_of, none_seen, seen_of, seen_after, count_after, facts_of, breaks_by, WroteEntries, Surveys, PutsOffences}
 use Rattle.publishing.proofs.Laws.Tests.{same_test}
-use Rattle.publishing.proofs.Laws.Ordering.{wrote_more}
+use Rattle.publishing.proofs.Laws.Ordering.{entries_more}
 use Rattle.publishing.proofs.Laws.Kinds.{Right, facts_right}
 use Rattle.publishing.proofs.Laws.Networks.{term_rows_lem, network_size}
 use Rattle.publishing.proofs.Laws.Tables.{network_rows_lem}
 
 -- `count_after`
-module _ (n : ℕ) (network b : Bool) (e : b ≡ (network && ltb n most_rows)) where
-  pub count_fits : b ≡ true → n + 1 < 2 ^ 64
-  count_fits h = let k : n < most_rows = ltb-true n most_rows (and_right network (ltb n most_rows) (sym e ∙ h)) in omega arith
-
-  pub count_more : b ≡ true → n + 1 ≡ count_after n network
+module _ (n : ℕ) (network : Bool) where
+  pub count_more : network ≡ true → n < most_rows → n + 1 ≡ count_after n network
   unfolding count_after
-  count_more h = rw (← e, h)
+  count_more h k = rw (h, lt-ltb n most_rows k)
 
-  pub count_same : b ≡ false → n ≡ count_after n network
+  pub count_other : network ≡ false → n ≡ count_after n network
   unfolding count_after
-  count_same h = rw (← e, h)
+  count_other h = rw h
+
+  pub count_full : network ≡ true → most_rows ≤ n → n ≡ count_after n network
+  unfolding count_after
+  count_full h k = rw (h, le-ltb n most_rows k)
 
 count_few : (n : ℕ) (network : Bool) → n ≤ most_rows → count_after n network ≤ most_rows
 unfolding count_after
@@ -56,7 +59,14 @@ count_few n network h = by (network && ltb n most_rows) refl
     by true e = let k : n < most_rows = ltb-true n most_rows (and_right network (ltb n most_rows) e) in omega arith
     by false e = h
 
--- `seen_after`
+-- "or" of two that the code has tested one after the other
+pub or_holds : (a b r : Bool) → a ≡ true → r ≡ a → r ≡ (a || b)
+or_holds a b r h e = e ∙ h ∙ sym (ap (λ (t : Bool). t || b) h)
+
+pub or_rest : (a b r : Bool) → a ≡ false → r ≡ b → r ≡ (a || b)
+or_rest a b r h e = e ∙ sym (ap (λ (t : Bool). t || b) h)
+
+-- `Seen::after`
 pub after_is : (x : Seen) (f : Facts) (a b c : Bool) (n : ℕ) → a ≡ (x.all || f.all) → b ≡ (x.redirect || f.redirect) → c ≡ (x.modifier || f.modifier)
     → n ≡ count_after x.networks f.network → record { all = a; redirect = b; modifier = c; networks = n } ≡ seen_after x f
 unfolding seen_after
@@ -113,7 +123,7 @@ way_start : (s : List ℕ) (first : ℕ) (ts : List Placed) → Reads s first ts
 unfolding seen_of any network_rows
 way_start s first ts r = record { before = []; rest = ts; split = refl; reads = r; seen_is = refl; bytes = omega arith; count = omega arith }
 
-module _ (s : List ℕ) (i : ℕ) (seen : Seen) (b e : ℕ) (t : Term) (q : read_term s i ≡ TermAnswer.Is b e t) where
+module _ (s : List ℕ) (i : ℕ) (seen : Seen) (b e : ℕ) (t : Term) (q : read_term s i ≡ term_at b e t) where
   here_right : (f : Facts) → f ≡ facts_of t → Right (placed s b e t) f
   here_right f g = subst (Right (placed s b e t)) (sym g) (facts_right (part s b e) b t (stands s i b e t q).token)
 
@@ -147,21 +157,31 @@ way_end : {s : List ℕ} {ts : List Placed} {i : ℕ} {seen : Seen} (w : Way s t
 way_end w e = w.split ∙ ap (λ (x : List Placed). w.before ++ x) e ∙ append-nil w.before
 
 -- a turn leaves less of the record
-pub turn_less : (s : List ℕ) (i : ℕ) (r : TermAnswer) → r ≡ read_term s i → i < length s → (b e : ℕ) (t : Term) → r ≡ TermAnswer.Is b e t
-    → length s - e < length s - i
-turn_less s i r p here b e t q = next_less s i r p b e t q (length s - i) (omega arith) refl
+pub turn_less : (s : List ℕ) (i : ℕ) (r : TermAnswer) → r ≡ read_term s i → (b e : ℕ) (t : Term) → r ≡ term_at b e t → length s - e < length s - i
+turn_less s i r p b e t q = let k = stands s i b e t (sym p ∙ q) in omega (arith, k.after, k.some, k.inside)
+
+-- where there is no term
+pub at_end : (r : TermAnswer) → r ≡ Ok None → (b e : ℕ) (t : Term) → r ≡ term_at b e t → ⊥
+at_end r q b e t h = let z : ◌≡◌ {A = ℕ} 0 1 = cc in omega arith
+
+pub at_refusal : (r : TermAnswer) (x : Refusal) → r ≡ Err x → (b e : ℕ) (t : Term) → r ≡ term_at b e t → ⊥
+at_refusal r x q b e t h = let z : ◌≡◌ {A = ℕ} 0 1 = cc in omega arith
+
+-- what has been seen at first
+pub nothing_seen : (x : Seen) → (x.all ≡ false) × ((x.redirect ≡ false) × ((x.modifier ≡ false) × (x.networks ≡ 0))) → x ≡ none_seen
+nothing_seen x h = λ t. record { all = h.0 t; redirect = h.1.0 t; modifier = h.1.1.0 t; networks = h.1.1.1 t }
 
 -- `survey`
-record Surveying (s : List ℕ) (ts : List Placed) (i : ℕ) (seen : Seen) (table : List ℕ) : Type 0 where
+record Surveying (s : List ℕ) (ts : List Placed) (i : ℕ) (seen : Seen) (table : List Row) : Type 0 where
   way : Way s ts i seen
   holds : Holds table (network_rows way.before)
 
-pub record Surveyed (s : List ℕ) (first : ℕ) (before : List ℕ) (i : ℕ) (seen : Seen) (table : List ℕ) : Type 0 where
+pub record Surveyed (s : List ℕ) (first : ℕ) (before : List Row) (i : ℕ) (seen : Seen) (table : List Row) : Type 0 where
   pub kept : length table ≡ length before
   pub few : seen.networks ≤ most_rows
   by : (ts : List Placed) → Reads s first ts → Surveying s ts i seen table
 
-pub survey_start : (s : List ℕ) (first : ℕ) (table : List ℕ) (seen : Seen) → seen ≡ none_seen → Surveyed s first table first seen table
+pub survey_start : (s : List ℕ) (first : ℕ) (table : List Row) (seen : Seen) → seen ≡ none_seen → Surveyed s first table first seen table
 unfolding way_start network_rows
 survey_start s first table seen e =
     rw e (record {
@@ -170,7 +190,7 @@ survey_start s first table seen e =
       by = λ ts r. record { way = way_start s first ts r; holds = record { each = λ i h. absurd (omega arith) } };
     })
 
-module _ (s : List ℕ) (first : ℕ) (table₀ : List ℕ) (i : ℕ) (seen : Seen) (table : List ℕ) (w : Surveyed s first table₀ i seen table) where
+module _ (s : List ℕ) (first : ℕ) (table₀ : List Row) (i : ℕ) (seen : Seen) (table : List Row) (w : Surveyed s first table₀ i seen table) where
   survey_all : ((rest : List Placed) → Reads s i rest → rest ≡ []) → Surveys s first table₀ table seen
   survey_all h =
       record {
@@ -187,20 +207,11 @@ module _ (s : List ℕ) (first : ℕ) (table₀ : List ℕ) (i : ℕ) (seen : Se
             );
       }
 
-  pub survey_end : length s ≤ i → Surveys s first table₀ table seen
-  survey_end h = survey_all (λ rest d. reads_end d h)
-
-  pub survey_length : length table ≡ length table₀
-  survey_length = w.kept
-
-  pub survey_size : length table₀ ≡ 3 * most_rows → length table ≡ 3 * most_rows
-  survey_size h = w.kept ∙ h
-
   module _ (r : TermAnswer) (p : r ≡ read_term s i) where
-    pub survey_out : ((b e : ℕ) (t : Term) → r ≡ TermAnswer.Is b e t → ⊥) → Surveys s first table₀ table seen
+    pub survey_out : ((b e : ℕ) (t : Term) → r ≡ term_at b e t → ⊥) → Surveys s first table₀ table seen
     survey_out h = survey_all (λ rest d. reads_out d r p h)
 
-    pub survey_next : (b e : ℕ) (t : Term) → r ≡ TermAnswer.Is b e t → (table' : List ℕ) → PutsRow t seen.networks table table'
+    pub survey_next : (b e : ℕ) (t : Term) → r ≡ term_at b e t → (table' : List Row) → PutsRow t seen.networks table table'
         → (f : Facts) → f ≡ facts_of t → (seen' : Seen) → seen' ≡ seen_after seen f → Surveyed s first table₀ e seen' table'
     unfolding way_next seen_of seen_after
     survey_next b e t q table' u f g seen' h =
@@ -235,21 +246,37 @@ module _ (whole : Bool) (seen : Seen) (f : Facts) (p marked : Bool) (rule : ℕ)
   unfolding breaks_by
   breaks_2 h = rw h
 
-  pub breaks_3 : rule ≡ 3 → (r : Bool) → r ≡ (seen.all && f.all) → Says r
+  pub breaks_3 : rule ≡ 3 → seen.all ≡ true → Says f.all
   unfolding breaks_by
-  breaks_3 h r e = rw h e
+  breaks_3 h e = rw (h, e)
 
-  pub breaks_4 : rule ≡ 4 → (r : Bool) → r ≡ (whole && f.redirect) → Says r
+  pub keeps_3 : rule ≡ 3 → seen.all ≡ false → Says seen.all
   unfolding breaks_by
-  breaks_4 h r e = rw h e
+  keeps_3 h e = rw (h, e)
 
-  pub breaks_5 : rule ≡ 5 → (r : Bool) → r ≡ (seen.all && f.mechanism) → Says r
+  pub breaks_4 : rule ≡ 4 → whole ≡ true → Says f.redirect
   unfolding breaks_by
-  breaks_5 h r e = rw h e
+  breaks_4 h e = rw (h, e)
 
-  pub breaks_6 : rule ≡ 6 → (r : Bool) → r ≡ (seen.modifier && not f.modifier) → Says r
+  pub keeps_4 : rule ≡ 4 → whole ≡ false → Says whole
   unfolding breaks_by
-  breaks_6 h r e = rw h e
+  keeps_4 h e = rw (h, e)
+
+  pub breaks_5 : rule ≡ 5 → seen.all ≡ true → Says f.mechanism
+  unfolding breaks_by
+  breaks_5 h e = rw (h, e)
+
+  pub keeps_5 : rule ≡ 5 → seen.all ≡ false → Says seen.all
+  unfolding breaks_by
+  keeps_5 h e = rw (h, e)
+
+  pub breaks_6 : rule ≡ 6 → seen.modifier ≡ true → Says (not f.modifier)
+  unfolding breaks_by
+  breaks_6 h e = rw (h, e)
+
+  pub keeps_6 : rule ≡ 6 → seen.modifier ≡ false → Says seen.modifier
+  unfolding breaks_by
+  keeps_6 h e = rw (h, e)
 
   pub breaks_7 : rule ≡ 7 → Says f.plus
   unfolding breaks_by
@@ -259,9 +286,13 @@ module _ (whole : Bool) (seen : Seen) (f : Facts) (p marked : Bool) (rule : ℕ)
   unfolding breaks_by
   breaks_8 h = rw h
 
-  pub breaks_9 : rule ≡ 9 → (r : Bool) → r ≡ (f.network && marked) → Says r
+  pub breaks_9 : rule ≡ 9 → f.network ≡ true → Says marked
   unfolding breaks_by
-  breaks_9 h r e = rw h e
+  breaks_9 h e = rw (h, e)
+
+  pub keeps_9 : rule ≡ 9 → f.network ≡ false → Says f.network
+  unfolding breaks_by
+  keeps_9 h e = rw (h, e)
 
   pub breaks_other : (rule ≡ 1 → ⊥) → (rule ≡ 2 → ⊥) → (rule ≡ 3 → ⊥) → (rule ≡ 4 → ⊥) → (rule ≡ 5 → ⊥) → (rule ≡ 6 → ⊥) → (rule ≡ 7 → ⊥) → (rule ≡ 8 → ⊥)
       → (rule ≡ 9 → ⊥) → Says false
@@ -269,50 +300,48 @@ module _ (whole : Bool) (seen : Seen) (f : Facts) (p marked : Bool) (rule : ℕ)
   breaks_other a b c d e g h i j =
       rw (ne_eqb rule 1 a, ne_eqb rule 2 b, ne_eqb rule 3 c, ne_eqb rule 4 d, ne_eqb rule 5 e, ne_eqb rule 6 g, ne_eqb rule 7 h, ne_eqb rule 8 i, ne_eqb rule 9 j)
 
-pub ruleset broken = (breaks_1, breaks_2, breaks_3, breaks_4, breaks_5, breaks_6, breaks_7, breaks_8, breaks_9, breaks_other)
+pub ruleset broken = (breaks_1, breaks_2, breaks_3, keeps_3, breaks_4, keeps_4, breaks_5, keeps_5, breaks_6, keeps_6, breaks_7, breaks_8, breaks_9, keeps_9, breaks_other)
 
--- `put_term`
-pub record Ruling (test : ℕ → Bool) (place : ℕ) (out : List ℕ) (at : ℕ) (o : List ℕ) (n rule : ℕ) : Type 0 where
-  pub kept : length o ≡ length out
+-- `Tested::put`
+pub record Ruling (test : ℕ → Bool) (place : ℕ) (before now : Writer) (rule : ℕ) : Type 0 where
+  pub same : now.out.ghost_name ≡ before.out.ghost_name
   done : List Entry
   left : ℕ
   turns : rule + left ≡ 10
   all : done ++ offences_from left rule test place ≡ offences test place
-  wrote : Wrote (encoded done) out at o n
+  wrote : WroteEntries done before now
 
-pub ruling_start : (test : ℕ → Bool) (place : ℕ) (out : List ℕ) (at : ℕ) → at < 2 ^ 64 → length out < 2 ^ 64 → Ruling test place out at out at 1
+pub ruling_start : (test : ℕ → Bool) (place : ℕ) (out : Writer) → out.at < 2 ^ 64 → length out.out.now < 2 ^ 64 → Ruling test place out out 1
 unfolding encoded offences
-ruling_start test place out at h k = record { kept = refl; done = []; left = 9; turns = refl; all = refl; wrote = wrote_none out at (omega arith) (omega arith) }
+ruling_start test place out h k =
+    record { same = refl; done = []; left = 9; turns = refl; all = refl; wrote = wrote_none out.out.now out.at (omega arith) (omega arith) }
 
-module _ (test : ℕ → Bool) (place : ℕ) (out : List ℕ) (at : ℕ) (o : List ℕ) (n rule : ℕ) (w : Ruling test place out at o n rule) where
-  pub ruling_end : 9 < rule → Wrote (encoded (offences test place)) out at o n
+module _ (test : ℕ → Bool) (place : ℕ) (before now : Writer) (rule : ℕ) (w : Ruling test place before now rule) where
+  pub ruling_end : 10 ≤ rule → Writes (encoded (offences test place)) before now
   unfolding offences_from
   ruling_end h =
       let z : w.left ≡ 0 = omega (arith, w.turns) in
       let e : w.done ≡ offences test place = sym (append-nil w.done) ∙ ap (λ (k : ℕ). w.done ++ offences_from k rule test place) (sym z) ∙ w.all in
-      subst (λ (x : List Entry). Wrote (encoded x) out at o n) e w.wrote
+      record { wrote = subst (λ (x : List Entry). WroteEntries x before now) e w.wrote; same = w.same }
 
-  pub ruling_length : length o ≡ length out
-  ruling_length = w.kept
-
-  ruling_turn : rule ≤ 9 → (o' : List ℕ) (n' : ℕ) → Wrote (encoded (entry_if (test rule) rule place)) o n o' n'
-      → (left : ℕ) → rule + left ≡ 10 → w.done ++ offences_from left rule test place ≡ offences test place → Ruling test place out at o' n' (rule + 1)
+  ruling_turn : rule < 10 → (after : Writer) → Writes (encoded (entry_if (test rule) rule place)) now after
+      → (left : ℕ) → rule + left ≡ 10 → w.done ++ offences_from left rule test place ≡ offences test place → Ruling test place before after (rule + 1)
   unfolding offences_from
-  ruling_turn h o' n' u zero t a = absurd (omega arith)
-  ruling_turn h o' n' u (suc left) t a =
+  ruling_turn h after u zero t a = absurd (omega arith)
+  ruling_turn h after u (suc left) t a =
       record {
-        kept = length_wrote o n (encoded (entry_if (test rule) rule place)) o' n' u ∙ w.kept;
+        same = u.same ∙ w.same;
         done = w.done ++ entry_if (test rule) rule place;
         left = left;
         turns = omega arith;
         all = rw add-one (append_assoc w.done (entry_if (test rule) rule place) (offences_from left (suc rule) test place) ∙ a);
-        wrote = wrote_more out at w.done (entry_if (test rule) rule place) o o' n n' w.wrote u;
+        wrote = entries_more w.done (entry_if (test rule) rule place) before now after w.wrote u.wrote;
       }
 
-  pub ruling_next : rule ≤ 9 → (found : Bool) → found ≡ test rule → (o' : List ℕ) (n' : ℕ) → Wrote (encoded (entry_if found rule place)) o n o' n'
-      → Ruling test place out at o' n' (rule + 1)
-  ruling_next h found e o' n' u =
-      ruling_turn h o' n' (subst (λ (x : Bool). Wrote (encoded (entry_if x rule place)) o n o' n') e u) w.left w.turns w.all
+  pub ruling_next : rule < 10 → (found : Bool) → found ≡ test rule → (after : Writer) → Writes (encoded (entry_if found rule place)) now after
+      → Ruling test place before after (rule + 1)
+  ruling_next h found e after u =
+      ruling_turn h after (subst (λ (x : Bool). Writes (encoded (entry_if x rule place)) now after) e u) w.left w.turns w.all
 
 -- the tests of a term's facts are those of the term
 no_first : (t u : Placed) → t.said.address ≡ absent → same_network t u ≡ false
@@ -351,74 +380,65 @@ same_offences test other place h zero rule = refl
 same_offences test other place h (suc n) rule = rw (h rule, same_offences test other place h n (suc rule))
 
 -- `put_offences`
-record Offending (s : List ℕ) (out₀ : List ℕ) (ts : List Placed) (i n : ℕ) (seen : Seen) (out : List ℕ) : Type 0 where
+record Offending (s : List ℕ) (before : Writer) (ts : List Placed) (i : ℕ) (seen : Seen) (now : Writer) : Type 0 where
   way : Way s ts i seen
   done : List Entry
   all : done ++ offences_of ts way.before way.rest ≡ offences_of ts [] ts
-  wrote : Wrote (encoded done) out₀ 0 out n
+  wrote : WroteEntries done before now
 
-pub record Offended (s : List ℕ) (first : ℕ) (whole : Bool) (marks out₀ : List ℕ) (i n : ℕ) (seen : Seen) (out : List ℕ) : Type 0 where
-  pub kept : length out ≡ length out₀
-  by : (ts : List Placed) → Reads s first ts → whole ≡ any is_all ts → Marked s first marks → Offending s out₀ ts i n seen out
+pub record Offended (s : List ℕ) (first : ℕ) (whole : Bool) (marks : List ℕ) (before : Writer) (i : ℕ) (seen : Seen) (now : Writer) : Type 0 where
+  pub same : now.out.ghost_name ≡ before.out.ghost_name
+  by : (ts : List Placed) → Reads s first ts → whole ≡ any is_all ts → Marked s first marks → Offending s before ts i seen now
 
-pub offences_start : (s : List ℕ) (first : ℕ) (whole : Bool) (marks out : List ℕ) (seen : Seen) → seen ≡ none_seen → length out < 2 ^ 64
-    → Offended s first whole marks out first 0 seen out
+pub offences_start : (s : List ℕ) (first : ℕ) (whole : Bool) (marks : List ℕ) (out : Writer) (seen : Seen) → seen ≡ none_seen → out.at < 2 ^ 64
+    → length out.out.now < 2 ^ 64 → Offended s first whole marks out first seen out
 unfolding way_start encoded
-offences_start s first whole marks out seen e h =
+offences_start s first whole marks out seen e l h =
     rw e (record {
-      kept = refl;
-      by = λ ts d a m. record { way = way_start s first ts d; done = []; all = refl; wrote = wrote_none out 0 (omega arith) (omega arith) };
+      same = refl;
+      by = λ ts d a m.
+          record { way = way_start s first ts d; done = []; all = refl; wrote = wrote_none out.out.now out.at (omega arith) (omega arith) };
     })
 
-module _ (s : List ℕ) (first : ℕ) (whole : Bool) (marks out₀ : List ℕ) (i n : ℕ) (seen : Seen) (out : List ℕ)
-    (w : Offended s first whole marks out₀ i n seen out) where
-  offences_all : ((rest : List Placed) → Reads s i rest → rest ≡ []) → PutsOffences s first whole marks out₀ out n
+module _ (s : List ℕ) (first : ℕ) (whole : Bool) (marks : List ℕ) (before : Writer) (i : ℕ) (seen : Seen) (now : Writer)
+    (w : Offended s first whole marks before i seen now) (r : TermAnswer) (p : r ≡ read_term s i) where
+  pub offences_out : ((b e : ℕ) (t : Term) → r ≡ term_at b e t → ⊥) → PutsOffences s first whole marks before now
   unfolding offences_of
-  offences_all h =
+  offences_out h =
       record {
-        kept = w.kept;
+        same = w.same;
         by = λ ts d a m.
             let v = w.by ts d a m in
-            let e : offences_of ts v.way.before v.way.rest ≡ [] = ap (offences_of ts v.way.before) (h v.way.rest v.way.reads) in
+            let e : offences_of ts v.way.before v.way.rest ≡ [] = ap (offences_of ts v.way.before) (reads_out v.way.reads r p h) in
             let f : v.done ≡ offences_of ts [] ts = sym (append-nil v.done) ∙ ap (λ (l : List Entry). v.done ++ l) (sym e) ∙ v.all in
-            subst (λ (l : List Entry). Wrote (encoded l) out₀ 0 out n) f v.wrote;
+            subst (λ (l : List Entry). WroteEntries l before now) f v.wrote;
       }
 
-  pub offences_end : length s ≤ i → PutsOffences s first whole marks out₀ out n
-  offences_end h = offences_all (λ rest d. reads_end d h)
-
-  pub offences_length : length out ≡ length out₀
-  offences_length = w.kept
-
-  module _ (r : TermAnswer) (p : r ≡ read_term s i) where
-    pub offences_out : ((b e : ℕ) (t : Term) → r ≡ TermAnswer.Is b e t → ⊥) → PutsOffences s first whole marks out₀ out n
-    offences_out h = offences_all (λ rest d. reads_out d r p h)
-
-    pub offences_next : (b e : ℕ) (t : Term) → r ≡ TermAnswer.Is b e t → (f : Facts) → f ≡ facts_of t
-        → (x : Bool) → x ≡ has_p (said_of (part s b e) t).argument → (byte : ℕ) → byte ≡ at marks seen.networks
-        → (o : List ℕ) (k : ℕ) → Wrote (encoded (offences (breaks_by whole seen f x (eqb byte 1)) b)) out n o k
-        → (seen' : Seen) → seen' ≡ seen_after seen f → Offended s first whole marks out₀ e k seen' o
-    unfolding offences_of offences way_next seen_of
-    offences_next b e t q f g x y byte z o k u seen' h =
-        record {
-          kept = length_wrote out n (encoded (offences (breaks_by whole seen f x (eqb byte 1)) b)) o k u ∙ w.kept;
-          by = λ ts d a m.
-              let v = w.by ts d a m in
-              let here = placed s b e t in
-              let l = reads_next v.way.reads b e t (sym p ∙ q) in
-              let among : Among ts v.way.before here =
-              record { after = l.more; split = v.way.split ∙ ap (λ (us : List Placed). v.way.before ++ us) l.whole } in
-              let c : byte ≡ at marks (length (network_rows v.way.before)) = z ∙ ap (λ (j : Seen). at marks j.networks) v.way.seen_is in
-              let tests = term_tests s first marks m ts d v.way.before here among f (here_right s i seen b e t (sym p ∙ q) f g)
-              (eqb byte 1) (ap (λ (j : ℕ). eqb j 1) c) whole a seen v.way.seen_is x y in
-              let same : offences_from 9 1 (breaks_by whole seen f x (eqb byte 1)) b ≡ offences_from 9 1 (λ rule. offends rule ts v.way.before here) b =
-              same_offences (breaks_by whole seen f x (eqb byte 1)) (λ rule. offends rule ts v.way.before here) b tests 9 1 in
-              let new = offences_from 9 1 (λ rule. offends rule ts v.way.before here) b in
-              record {
-                way = way_next s i seen b e t (sym p ∙ q) f g seen' h ts v.way;
-                done = v.done ++ new;
-                all = append_assoc v.done new (offences_of ts (v.way.before ++ (here ∷ [])) l.more)
-                    ∙ ap (λ (us : List Placed). v.done ++ offences_of ts v.way.before us) (sym l.whole) ∙ v.all;
-                wrote = wrote_more out₀ 0 v.done new out o n k v.wrote (subst (λ (es : List Entry). Wrote (encoded es) out n o k) same u);
-              };
-        }
+  pub offences_next : (b e : ℕ) (t : Term) → r ≡ term_at b e t → (f : Facts) → f ≡ facts_of t
+      → (x : Bool) → x ≡ has_p (said_of (part s b e) t).argument → (byte : ℕ) → byte ≡ at marks seen.networks
+      → (after : Writer) → Writes (encoded (offences (breaks_by whole seen f x (eqb byte 1)) b)) now after
+      → (seen' : Seen) → seen' ≡ seen_after seen f → Offended s first whole marks before e seen' after
+  unfolding offences_of offences way_next seen_of
+  offences_next b e t q f g x y byte z after u seen' h =
+      record {
+        same = u.same ∙ w.same;
+        by = λ ts d a m.
+            let v = w.by ts d a m in
+            let here = placed s b e t in
+            let l = reads_next v.way.reads b e t (sym p ∙ q) in
+            let among : Among ts v.way.before here =
+            record { after = l.more; split = v.way.split ∙ ap (λ (us : List Placed). v.way.before ++ us) l.whole } in
+            let c : byte ≡ at marks (length (network_rows v.way.before)) = z ∙ ap (λ (j : Seen). at marks j.networks) v.way.seen_is in
+            let tests = term_tests s first marks m ts d v.way.before here among f (here_right s i seen b e t (sym p ∙ q) f g)
+            (eqb byte 1) (ap (λ (j : ℕ). eqb j 1) c) whole a seen v.way.seen_is x y in
+            let same : offences_from 9 1 (breaks_by whole seen f x (eqb byte 1)) b ≡ offences_from 9 1 (λ rule. offends rule ts v.way.before here) b =
+            same_offences (breaks_by whole seen f x (eqb byte 1)) (λ rule. offends rule ts v.way.before here) b tests 9 1 in
+            let new = offences_from 9 1 (λ rule. offends rule ts v.way.before here) b in
+            record {
+              way = way_next s i seen b e t (sym p ∙ q) f g seen' h ts v.way;
+              done = v.done ++ new;
+              all = append_assoc v.done new (offences_of ts (v.way.before ++ (here ∷ [])) l.more)
+                  ∙ ap (λ (us : List Placed). v.done ++ offences_of ts v.way.before us) (sym l.whole) ∙ v.all;
+              wrote = entries_more v.done new before now after v.wrote (subst (λ (es : List Entry). WroteEntries es now after) same u.wrote);
+            };
+      }

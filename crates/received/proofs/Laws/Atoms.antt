@@ -2,32 +2,21 @@
 use Prim.Native.Nat.{ℕ, ◌≤◌}
 use mathlib.Core.Path.{◌≡◌, refl, sym, ap, subst, ◌∙◌}
 use mathlib.Core.List.{List, [], ◌∷◌, ◌++◌, append_assoc, append-nil}
-use mathlib.Core.Bool.{Bool, true, false, cond}
+use mathlib.Core.Bool.{Bool, true, false}
 use native.Mathlib.Omega.{arith}
 use lib.ListN.{length, drop, length-append}
 use lib.Dec.{eqb}
-use borrow.Author.Tests.{eq-eqb, ne_eqb, eqb-true}
+use borrow.Author.Tests.{eqb-true}
 use Rattle.text.specs.Bytes.{within, is_upper, is_alpha, is_digit, is_alphanumeric}
 use Rattle.text.specs.Lists.{all, contains}
-use Rattle.text.specs.Texts.{bytes}
-use Rattle.text.specs.Runs.{is_in}
-use Rattle.text.specs.declared.bytes.Class.TheVariants.{Alphanumeric}
-use Rattle.text.proofs.Laws.Tests.{or_left, or_right}
+use Rattle.text.proofs.Laws.Tests.{or_left, or_right, test_fails}
 use Rattle.text.proofs.Laws.Classes.{apart}
 use Rattle.text.proofs.Laws.Parts.{all_none, all_join, all_join_by, all_cons, all_first, all_rest, all_inside}
 use Rattle.received.specs.Atoms.{is_atext, Atom, DotAtomText, last, dotted}
-use Rattle.received.specs.States.{fold, atom_step, is_dot_atom_text, is_plain}
+use Rattle.received.specs.States.{fold, atom_step, is_within, is_dot_atom_text, is_plain}
+use Rattle.received.specs.declared.quoting.Atoms.{Atoms}
+use Rattle.received.specs.declared.quoting.Atoms.TheVariants.{Before, Within, Failed}
 use Rattle.received.proofs.Laws.Folding.{fold_append, fold_end}
-
--- `is_atext`
-module _ (b : ℕ) (r : Bool) (p : r ≡ is_in Alphanumeric b) where
-  pub atom_alphanumeric : r ≡ true → true ≡ is_atext b
-  unfolding is_atext is_in
-  atom_alphanumeric k = rw (← p, k)
-
-  pub atom_other : r ≡ false → (u : Bool) → u ≡ contains (bytes "!#$%&'*+-/=?^_`{|}~") b → u ≡ is_atext b
-  unfolding is_atext is_in
-  atom_other k u e = rw (← p, k) e
 
 -- no dot, quote, backslash, semicolon or control byte is an atom's
 pub no_dot : is_atext 46 ≡ false
@@ -35,67 +24,72 @@ unfolding is_atext is_alphanumeric is_alpha is_upper is_digit within contains
 no_dot = refl
 
 -- steps
-step_failed : (s : List ℕ) → fold atom_step 0 s ≡ 0
+step_failed : (s : List ℕ) → fold atom_step Failed s ≡ Failed
 unfolding fold atom_step
 step_failed [] = refl
 step_failed (b ∷ s) = step_failed s
 
-module _ (k b : ℕ) (n : k ≡ 0 → ⊥) where
-  step_byte : is_atext b ≡ true → atom_step k b ≡ 2
-  unfolding atom_step
-  step_byte h = rw (ne_eqb k 0 n, apart is_atext b 46 h no_dot, h)
+step_before : (b : ℕ) → is_atext b ≡ true → atom_step Before b ≡ Within
+unfolding atom_step
+step_before b h = rw h
 
-dot_within : (w : List ℕ) → fold atom_step 2 (46 ∷ w) ≡ fold atom_step 1 w
+step_within : (b : ℕ) → is_atext b ≡ true → atom_step Within b ≡ Within
+unfolding atom_step
+step_within b h = rw (apart is_atext b 46 h no_dot, h)
+
+dot_within : (w : List ℕ) → fold atom_step Within (46 ∷ w) ≡ fold atom_step Before w
 unfolding fold atom_step
 dot_within w = refl
 
-dot_first : (b : ℕ) → eqb b 46 ≡ true → atom_step 1 b ≡ 0
+dot_first : (b : ℕ) → is_atext b ≡ false → atom_step Before b ≡ Failed
 unfolding atom_step
 dot_first b h = rw h
 
-dot_second : (b : ℕ) → eqb b 46 ≡ true → atom_step 2 b ≡ 1
+dot_second : (b : ℕ) → eqb b 46 ≡ true → atom_step Within b ≡ Before
 unfolding atom_step
 dot_second b h = rw h
 
-step_none : (k b : ℕ) → eqb b 46 ≡ false → is_atext b ≡ false → atom_step k b ≡ 0
+step_none : (b : ℕ) → eqb b 46 ≡ false → is_atext b ≡ false → atom_step Within b ≡ Failed
 unfolding atom_step
-step_none k b e f = rw (e, f) (by (eqb k 0))
-  where
-    by : (t : Bool) → ◌≡◌ {A = ℕ} (cond t 0 0) 0
-    by true = refl
-    by false = refl
+step_none b e f = rw (e, f)
 
-within_atom : (u : List ℕ) → all is_atext u ≡ true → fold atom_step 2 u ≡ 2
+within_atom : (u : List ℕ) → all is_atext u ≡ true → fold atom_step Within u ≡ Within
 unfolding fold
 within_atom [] h = refl
-within_atom (b ∷ u) h = ap (λ (k : ℕ). fold atom_step k u) (step_byte 2 b (λ e. omega arith) (all_first is_atext b u h)) ∙ within_atom u (all_rest is_atext b u h)
+within_atom (b ∷ u) h = ap (λ (k : Atoms). fold atom_step k u) (step_within b (all_first is_atext b u h)) ∙ within_atom u (all_rest is_atext b u h)
 
-whole_atom : (u : List ℕ) → Atom u → fold atom_step 1 u ≡ 2
+whole_atom : (u : List ℕ) → Atom u → fold atom_step Before u ≡ Within
 unfolding fold
 whole_atom [] a = absurd (omega (arith, a.some))
 whole_atom (b ∷ u) a =
-    ap (λ (k : ℕ). fold atom_step k u) (step_byte 1 b (λ e. omega arith) (all_first is_atext b u a.bytes_of)) ∙ within_atom u (all_rest is_atext b u a.bytes_of)
+    ap (λ (k : Atoms). fold atom_step k u) (step_before b (all_first is_atext b u a.bytes_of)) ∙ within_atom u (all_rest is_atext b u a.bytes_of)
 
-state_complete : {s : List ℕ} → DotAtomText s → fold atom_step 1 s ≡ 2
+state_complete : {s : List ℕ} → DotAtomText s → fold atom_step Before s ≡ Within
 state_complete {s} (last a) = whole_atom s a
-state_complete (dotted {u} {w} a d) = fold_append atom_step 1 u (46 ∷ w) ∙ ap (λ (k : ℕ). fold atom_step k (46 ∷ w)) (whole_atom u a) ∙ go (state_complete d)
+state_complete (dotted {u} {w} a d) = fold_append atom_step Before u (46 ∷ w) ∙ ap (λ (k : Atoms). fold atom_step k (46 ∷ w)) (whole_atom u a) ∙ go (state_complete d)
   where
-    go : fold atom_step 1 w ≡ 2 → fold atom_step 2 (46 ∷ w) ≡ 2
+    go : fold atom_step Before w ≡ Within → fold atom_step Within (46 ∷ w) ≡ Within
     go h = dot_within w ∙ h
 
 pub dot_complete : {s : List ℕ} → DotAtomText s → is_dot_atom_text s ≡ true
-unfolding is_dot_atom_text
-dot_complete {s} d = eq-eqb (fold atom_step 1 s) 2 (state_complete d)
+unfolding is_dot_atom_text is_within
+dot_complete {s} d = ap is_within (state_complete d)
+
+is_within_true : (k : Atoms) → is_within k ≡ true → k ≡ Within
+unfolding is_within
+is_within_true Within h = refl
+is_within_true Before h = cc
+is_within_true Failed h = cc
 
 -- back from the states
 pub record Both (s : List ℕ) : Type 0 where
-  pub before : fold atom_step 1 s ≡ 2 → DotAtomText s
-  pub inside : (u : List ℕ) → Atom u → fold atom_step 2 s ≡ 2 → DotAtomText (u ++ s)
+  pub before : fold atom_step Before s ≡ Within → DotAtomText s
+  pub inside : (u : List ℕ) → Atom u → fold atom_step Within s ≡ Within → DotAtomText (u ++ s)
 
 state_sound : (s : List ℕ) → Both s
 unfolding fold
 state_sound [] = record {
-  before = λ h. absurd (omega arith);
+  before = λ h. absurd (let e : Before ≡ Within = h in cc);
   inside = λ u a h. subst (λ (t : List ℕ). DotAtomText t) (sym (append-nil u)) (last a);
 }
 state_sound (b ∷ s) = by (eqb b 46) refl (is_atext b) refl (state_sound s)
@@ -106,32 +100,40 @@ state_sound (b ∷ s) = by (eqb b 46) refl (is_atext b) refl (state_sound s)
     more : (u : List ℕ) → Atom u → is_atext b ≡ true → Atom (u ++ (b ∷ []))
     more u a h = record { some = omega (arith, length-append u (b ∷ []), a.some); bytes_of = all_join is_atext u (b ∷ []) a.bytes_of (one h).bytes_of }
 
-    never : (k : ℕ) → atom_step k b ≡ 0 → fold atom_step (atom_step k b) s ≡ 2 → ⊥
-    never k e h = let z = ap (λ (j : ℕ). fold atom_step j s) e ∙ step_failed s in omega arith
+    never : (k : Atoms) → atom_step k b ≡ Failed → fold atom_step (atom_step k b) s ≡ Within → ⊥
+    never k e h = let z = ap (λ (j : Atoms). fold atom_step j s) e ∙ step_failed s in let f : Failed ≡ Within = sym z ∙ h in cc
 
     by : (t : Bool) → eqb b 46 ≡ t → (q : Bool) → is_atext b ≡ q → Both s → Both (b ∷ s)
     by true e q f ih = record {
-      before = λ h. absurd (never 1 (dot_first b e) h);
-      inside = λ u a h. subst (λ (x : ℕ). DotAtomText (u ++ (x ∷ s))) (sym (eqb-true b 46 e)) (dotted a (ih.before (ap (λ (k : ℕ). fold atom_step k s) (sym (dot_second b e)) ∙ h)));
+      before = λ h. absurd (never Before (dot_first b (ap is_atext (eqb-true b 46 e) ∙ no_dot)) h);
+      inside = λ u a h. subst (λ (x : ℕ). DotAtomText (u ++ (x ∷ s))) (sym (eqb-true b 46 e)) (dotted a (ih.before (ap (λ (k : Atoms). fold atom_step k s) (sym (dot_second b e)) ∙ h)));
     }
     by false e true f ih = record {
-      before = λ h. ih.inside (b ∷ []) (one f) (ap (λ (k : ℕ). fold atom_step k s) (sym (step_byte 1 b (λ z. omega arith) f)) ∙ h);
+      before = λ h. ih.inside (b ∷ []) (one f) (ap (λ (k : Atoms). fold atom_step k s) (sym (step_before b f)) ∙ h);
       inside = λ u a h. subst (λ (t : List ℕ). DotAtomText t) (append_assoc u (b ∷ []) s)
-          (ih.inside (u ++ (b ∷ [])) (more u a f) (ap (λ (k : ℕ). fold atom_step k s) (sym (step_byte 2 b (λ z. omega arith) f)) ∙ h));
+          (ih.inside (u ++ (b ∷ [])) (more u a f) (ap (λ (k : Atoms). fold atom_step k s) (sym (step_within b f)) ∙ h));
     }
     by false e false f ih = record {
-      before = λ h. absurd (never 1 (step_none 1 b e f) h);
-      inside = λ u a h. absurd (never 2 (step_none 2 b e f) h);
+      before = λ h. absurd (never Before (dot_first b f) h);
+      inside = λ u a h. absurd (never Within (step_none b e f) h);
     }
 
 pub dot_sound : (s : List ℕ) → is_dot_atom_text s ≡ true → DotAtomText s
 unfolding is_dot_atom_text
-dot_sound s h = (state_sound s).before (eqb-true (fold atom_step 1 s) 2 h)
+dot_sound s h = (state_sound s).before (is_within_true (fold atom_step Before s) h)
 
 -- `is_dot_atom_text`
-pub dot_end : (s : List ℕ) (i state : ℕ) → fold atom_step state (drop i s) ≡ fold atom_step 1 s → length s ≤ i → eqb state 2 ≡ is_dot_atom_text s
-unfolding is_dot_atom_text
-dot_end s i state inv h = ap (λ (k : ℕ). eqb k 2) (fold_end atom_step s i state (fold atom_step 1 s) inv h)
+module _ (s : List ℕ) (i : ℕ) (state : Atoms) (inv : fold atom_step state (drop i s) ≡ fold atom_step Before s) (h : length s ≤ i) where
+  ended : is_within state ≡ is_dot_atom_text s
+  unfolding is_dot_atom_text
+  ended = ap is_within (fold_end atom_step s i state (fold atom_step Before s) inv h)
+
+  pub dot_yes : state ≡ Within → true ≡ is_dot_atom_text s
+  unfolding is_within
+  dot_yes e = sym (ap is_within e) ∙ ended
+
+  pub dot_no : (state ≡ Within → ⊥) → false ≡ is_dot_atom_text s
+  dot_no n = sym (test_fails (is_within state) (λ t. n (is_within_true state t))) ∙ ended
 
 pub dot_plain : {s : List ℕ} → DotAtomText s → all is_plain s ≡ true
 unfolding is_plain

@@ -1,4 +1,5 @@
 -- What each of the three calls is lent determines its answer and the buffer afterwards. From the laws of quoting, lines and inverse.
+use Rattle.std.proofs.Common.{Result, Ok, Err}
 use Prim.Native.Nat.{ℕ, ◌≤◌, ◌<◌}
 use mathlib.Core.Path.{◌≡◌, refl, sym, ap, ◌∙◌}
 use mathlib.Core.Logic.{⊎_elim}
@@ -8,22 +9,22 @@ use native.Mathlib.Omega.{arith}
 use lib.ListN.{length}
 use borrow.Author.Tests.{lt-ltb, le-ltb, le-leb, lt-leb}
 use lib.Dec.{leb}
-use Rattle.received.specs.Numbers.{Outcome, refused, written, answer_of, buffer_of, Says}
+use Rattle.received.specs.Numbers.{Outcome, answer_of, buffer_of, Says}
 use Rattle.received.specs.Answers.{Given, most_line, Writes, no_sender, no_host, no_result, no_room, fits, WritesLine, ReadsLine, reads, no_line, PartOf, Unquotes, no_part, no_room as no_buffer, value, UnquotesPart}
 use Rattle.received.specs.Texts.{fitted, text_of, outcome}
-use Rattle.received.specs.declared.Written.{Written}
-use Rattle.received.specs.declared.LineAnswer.{LineAnswer}
-use Rattle.received.specs.declared.LineAnswer.TheVariants as answers
+use Rattle.received.specs.declared.Parts.{Parts}
+use Rattle.received.specs.declared.LineError.{LineError}
+use Rattle.received.specs.declared.LineError.TheVariants.{NoRoom}
 use Rattle.received.proofs.Laws.Quoting.{part_value}
 use Rattle.received.proofs.Laws.Lines.{line_one}
 use Rattle.received.proofs.Laws.Inverse.{line_stands}
 
 -- two answers, and two buffers, for one outcome
-pub record Same (r q : Written) (after after' : List ℕ) : Type 0 where
+pub record Same (r q : Result ℕ LineError) (after after' : List ℕ) : Type 0 where
   pub answer : r ≡ q
   pub buffer : after ≡ after'
 
-says_one : (o p : Outcome) → o ≡ p → (r q : Written) (before after after' : List ℕ) → Says o r before after → Says p q before after' → Same r q after after'
+says_one : (o p : Outcome) → o ≡ p → (r q : Result ℕ LineError) (before after after' : List ℕ) → Says o r before after → Says p q before after' → Same r q after after'
 says_one o p e r q before after after' x y = record {
   answer = x.answer ∙ ap answer_of e ∙ sym y.answer;
   buffer = x.buffer ∙ ap (λ (z : Outcome). buffer_of z before) e ∙ sym y.buffer;
@@ -42,21 +43,21 @@ writes_is {g} {room} (no_room {xs} f l o) =
     (λ (h : room < length xs). over (leb (length (text_of g)) most_line) (lt-leb (length (text_of g)) room (omega arith))) o)
   where
     over : (t : Bool) → leb (length (text_of g)) room ≡ false
-        → refused 50 ≡ cond t (cond (leb (length (text_of g)) room) (written (text_of g)) (refused 50)) (refused 50)
+        → Err NoRoom ≡ cond t (cond (leb (length (text_of g)) room) (Ok (text_of g)) (Err NoRoom)) (Err NoRoom)
     over true h = rw h
     over false h = refl
 writes_is {g} {room} (fits {xs} f l m n) =
     let e = (line_one l).text in
     let k = ap length e in
-    rw (f.sender, f.hosts, lt-ltb g.result 7 f.result, le-leb (length (text_of g)) most_line (omega arith), le-leb (length (text_of g)) room (omega arith)) (ap written e)
+    rw (f.sender, f.hosts, lt-ltb g.result 7 f.result, le-leb (length (text_of g)) most_line (omega arith), le-leb (length (text_of g)) room (omega arith)) (ap (λ (t : List ℕ). Ok t) e)
 
-pub writes_one : (g : Given) (r q : Written) (before after after' : List ℕ) → WritesLine g r before after → WritesLine g q before after' → Same r q after after'
+pub writes_one : (g : Given) (r q : Result ℕ LineError) (before after after' : List ℕ) → WritesLine g r before after → WritesLine g q before after' → Same r q after after'
 writes_one g r q before after after' x y =
     says_one x.outcome y.outcome (writes_is x.writes ∙ sym (writes_is y.writes)) r q before after after' x.says y.says
 
 -- `read_line`: the parts of a line stand where the reader finds them, whatever it was written from
-pub reads_one : (s : List ℕ) (r q : LineAnswer) → ReadsLine s r → ReadsLine s q → r ≡ q
-reads_one s r q (reads x) (reads y) = ap answers.Read ((line_stands x).place ∙ sym (line_stands y).place)
+pub reads_one : (s : List ℕ) (r q : Result Parts LineError) → ReadsLine s r → ReadsLine s q → r ≡ q
+reads_one s r q (reads x) (reads y) = ap (λ (f : Parts). Ok f) ((line_stands x).place ∙ sym (line_stands y).place)
 reads_one s r q (reads {g} {f} x) (no_line n) = absurd (n g f x)
 reads_one s r q (no_line n) (reads {g} {f} x) = absurd (n g f x)
 reads_one s r q (no_line n) (no_line m) = refl
@@ -74,11 +75,11 @@ unquotes_same (no_buffer x h) (no_buffer y k) = refl
 unquotes_same {s} (no_buffer {v = u} x h) (value {v} y k) = absurd (omega (arith, ap length (part_one u v s x y)))
 unquotes_same (value {v} x h) (no_part n) = absurd (n v x)
 unquotes_same {s} (value {v = u} x h) (no_buffer {v} y k) = absurd (omega (arith, ap length (part_one u v s x y)))
-unquotes_same {s} (value {v = u} x h) (value {v} y k) = ap written (part_one u v s x y)
+unquotes_same {s} (value {v = u} x h) (value {v} y k) = ap Ok (part_one u v s x y)
 
-pub unquotes_one : (s : List ℕ) (r q : Written) (before after after' : List ℕ) → UnquotesPart s r before after → UnquotesPart s q before after' → Same r q after after'
+pub unquotes_one : (s : List ℕ) (r q : Result ℕ LineError) (before after after' : List ℕ) → UnquotesPart s r before after → UnquotesPart s q before after' → Same r q after after'
 unquotes_one s r q before after after' x y = says_one x.outcome y.outcome (unquotes_same x.unquotes y.unquotes) r q before after after' x.says y.says
 
 -- what the second call gives of a part that has a value
-pub value_is : (s : List ℕ) (room : ℕ) (v : List ℕ) → PartOf v s → length v ≤ room → (o : Outcome) → Unquotes s room o → o ≡ written v
+pub value_is : (s : List ℕ) (room : ℕ) (v : List ℕ) → PartOf v s → length v ≤ room → (o : Outcome) → Unquotes s room o → o ≡ Ok v
 value_is s room v x h o u = unquotes_same u (value x h)

@@ -1,4 +1,5 @@
 -- What the reader accepts is what writing gives. From the laws of lines, parsing and clients.
+use Rattle.std.proofs.Common.{Result, Ok, Err}
 use Prim.Native.Nat.{ℕ, ◌/◌, ◌%◌, ◌≤◌, ◌<◌}
 use mathlib.Core.Path.{◌≡◌, refl, sym, ap, subst, ◌∙◌}
 use mathlib.Core.List.{List}
@@ -21,16 +22,15 @@ use Rattle.macros.specs.Expansion.{is_sender, is_host}
 use Rattle.macros.proofs.Laws.Senders.{sender_bound}
 use Rattle.received.specs.Quoting.{is_marked, escaped_byte, escaped, unescaped}
 use Rattle.received.specs.Line.{Values, Line}
-use Rattle.received.specs.Numbers.{Outcome, refused, written}
+use Rattle.received.specs.Numbers.{Outcome}
 use Rattle.received.specs.Answers.{Given, given, identity_text, values_of, most_line, most_value, Fit, Writes, fits, LineFor, ReadsLine, reads, no_line}
 use Rattle.received.specs.Texts.{line_text, line_parts, fitted, text_of, parts_in, outcome}
 use Rattle.received.specs.Reader.{most_host, most_client, address_of, identity_of, parts_of, bytes_of, value_of, is_written, is_line_of, is_line, line_answer}
 use Rattle.received.specs.declared.Identity.{Identity}
 use Rattle.received.specs.declared.Identity.TheVariants.{MailFrom, Helo}
-use Rattle.received.specs.declared.Part.{Part}
+use Rattle.text.specs.declared.spans.Span.{Span as Part}
 use Rattle.received.specs.declared.Parts.{Parts}
-use Rattle.received.specs.declared.LineAnswer.{LineAnswer}
-use Rattle.received.specs.declared.LineAnswer.TheVariants as answers
+use Rattle.received.specs.declared.LineError.{LineError}
 use Rattle.received.proofs.Laws.Quoting.{unescaped_escaped}
 use Rattle.received.proofs.Laws.Clients.{address_back, address_range}
 use Rattle.received.proofs.Laws.Lines.{line_one, line_result, writes}
@@ -84,8 +84,8 @@ read_from s f = given f.result (address_of (value_of most_client s f.client)) (v
 -- what was written again is a line for these arguments
 written_for : (s : List ℕ) (g : Given) → InRange g.client → (o : Outcome) → Writes g most_line o → is_written o s ≡ true → LineFor g s (parts_in g)
 unfolding is_written
-written_for s g range (refused n) w h = absurd (true_false false h refl)
-written_for s g range (written xs) (fits {f = f} fit made l m) h =
+written_for s g range (Err n) w h = absurd (true_false false h refl)
+written_for s g range (Ok xs) (fits {f = f} fit made l m) h =
     let e : xs ≡ s = same_true xs s h in
     record {
       client = range;
@@ -118,7 +118,7 @@ client_again (IPv6 high low) = by (eqb high 0 && eqb (low / 4294967296) 65535) r
     by true e = refl
     by false e = rw e
 
-outcome_fits : (g : Given) → Fit g → length (text_of g) ≤ most_line → outcome g most_line ≡ written (text_of g)
+outcome_fits : (g : Given) → Fit g → length (text_of g) ≤ most_line → outcome g most_line ≡ Ok (text_of g)
 unfolding outcome fitted
 outcome_fits g f l = rw (f.sender, f.hosts, lt-ltb g.result 7 f.result, le-leb (length (text_of g)) most_line l)
 
@@ -129,7 +129,7 @@ pub host_short : (v : List ℕ) → is_host v ≡ true → length v ≤ most_hos
 unfolding is_host
 host_short v h = leb-true (length v) most_host (and_left (leb (length v) most_host) (all is_visible v) h)
 
-written_true : (xs s : List ℕ) → xs ≡ s → is_written (written xs) s ≡ true
+written_true : (xs s : List ℕ) → xs ≡ s → is_written (Ok xs) s ≡ true
 unfolding is_written
 written_true xs s e = true_same xs s e
 
@@ -167,10 +167,10 @@ reads_right s = cond-elim (ReadsLine s) (leb (length s) most_line)
     (λ e. no_line (λ g f w. true_false (is_line s (parts_of s)) (line_complete s g f w) e)))
     (λ l. no_line (λ g f w. omega (arith, leb-false (length s) most_line l, w.short)))
   where
-    accepted : is_line s (parts_of s) ≡ true → ReadsLine s (answers.Read (parts_of s))
+    accepted : is_line s (parts_of s) ≡ true → ReadsLine s (Ok (parts_of s))
     accepted e =
         let w = line_sound s (parts_of s) e in
-        subst (λ (f : Parts). ReadsLine s (answers.Read f)) (line_stands w).place (reads w)
+        subst (λ (f : Parts). ReadsLine s (Ok f)) (line_stands w).place (reads w)
 
-pub read_right : (s : List ℕ) (r : LineAnswer) → r ≡ line_answer s → ReadsLine s r
+pub read_right : (s : List ℕ) (r : Result Parts LineError) → r ≡ line_answer s → ReadsLine s r
 read_right s r e = subst (ReadsLine s) (sym e) (reads_right s)

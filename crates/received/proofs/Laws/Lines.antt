@@ -1,113 +1,77 @@
 -- The line piece by piece as the code writes it, against its production; and the answers of writing. From the definitions of Line, Texts and Answers.
-use Prim.Native.Nat.{ℕ, zero, suc, ◌+◌, ◌≤◌, ◌<◌}
-use mathlib.Core.Path.{◌≡◌, refl, sym, ap, subst}
+use Rattle.std.proofs.Common.{Result, Ok, Err}
+use Prim.Native.Nat.{ℕ, zero, suc, ◌+◌, ◌≤◌, ◌<◌, min}
+use mathlib.Core.Path.{◌≡◌, refl, sym, ap, subst, ◌∙◌}
 use mathlib.Core.Logic.{inl, inr}
-use mathlib.Core.List.{List, ◌++◌, append_assoc}
+use mathlib.Core.List.{List, ◌++◌}
 use mathlib.Core.Bool.{Bool, true, false, cond, ◌&&◌}
 use native.Mathlib.Omega.{arith}
-use lib.ListN.{length, take}
+use lib.ListN.{length}
 use lib.Dec.{leb, ltb}
-use borrow.Author.Tests.{le-leb, lt-leb, lt-ltb, le-ltb, leb-true, leb-false, ltb-true, ltb-false}
+use borrow.Author.Tests.{ne_eqb, le-leb, lt-leb, lt-ltb, le-ltb, leb-true, leb-false, ltb-true, ltb-false}
+use Rattle.text.specs.Bytes.{part}
 use Rattle.text.specs.Texts.{bytes}
 use Rattle.text.specs.Writing.{Wrote}
-use Rattle.text.proofs.Laws.Writing.{wrote_then, wrote_front, value_taken, value_inside, value_whole}
+use Rattle.text.proofs.Laws.Writing.{wrote_then, wrote_front}
 use Rattle.text.proofs.Laws.Tests.{true_false, test_fails, cond-elim}
 use Rattle.address.specs.declared.Address.{Address}
 use Rattle.address.specs.Octets.{as_client}
 use Rattle.address_text.specs.Forms.{readable}
 use Rattle.macros.specs.Expansion.{is_sender, is_host}
-use Rattle.macros.proofs.Laws.Expanding.{readable_fits}
+use Rattle.address_text.proofs.Laws.Lengths.{length_readable}
 use Rattle.received.specs.Quoting.{quoted, escaped}
 use Rattle.received.specs.Line.{Word, none, neutral, pass, fail, softfail, temperror, permerror, crlf, part_from, Pair, as_it_stands, in_quotes, Values, Line, line}
-use Rattle.received.specs.Numbers.{Outcome, refused, written, Says}
-use Rattle.received.specs.Answers.{Given, given, identity_text, values_of, most_line, Writes, no_sender, no_host, no_result, no_room, fits, WritesLine}
+use Rattle.received.specs.Numbers.{Outcome, Says}
+use Rattle.received.specs.Answers.{Given, identity_text, values_of, most_line, Writes, no_sender, no_host, no_result, no_room, fits, WritesLine}
 use Rattle.received.specs.States.{is_dot_atom_text}
-use Rattle.received.specs.Texts.{word_of, formed, shown, head_text, middle_text, tail_text, line_text, place₀, place₁, place₂, place₃, place₄, line_parts, fitted, text_of, outcome}
-use Rattle.received.specs.declared.Written.{Written}
-use Rattle.received.specs.declared.Written.TheVariants.{Length, Refused}
-use Rattle.received.specs.declared.Part.{Part}
+use Rattle.received.specs.Texts.{word_of, formed, shown, line_text, place₀, place₁, place₂, place₃, place₄, line_parts, fitted, text_of, outcome}
+use Rattle.text.specs.declared.spans.Span.{Span as Part}
 use Rattle.received.specs.declared.Parts.{Parts}
-use Rattle.received.specs.declared.Identity.{Identity}
-use Rattle.received.specs.declared.Identity.TheVariants.{MailFrom, Helo}
+use Rattle.received.specs.declared.LineError.{LineError}
+use Rattle.received.specs.declared.LineError.TheVariants.{Sender, Host, NoRoom, NoResult}
 use Rattle.received.proofs.Laws.Atoms.{dot_sound, dot_complete}
+use Rattle.received.proofs.Laws.Quoting.{read_back}
 
--- the same text
-pub wrote_as : (x y out : List ℕ) (at : ℕ) (o : List ℕ) (n : ℕ) → Wrote x out at o n → x ≡ y → Wrote y out at o n
-wrote_as x y out at o n w e = rw (← e) w
+-- `word_of`: none of the numbers tested for
+pub other_word : (n : ℕ) → (n ≡ 0 → ⊥) → (n ≡ 1 → ⊥) → (n ≡ 2 → ⊥) → (n ≡ 3 → ⊥) → (n ≡ 4 → ⊥) → (n ≡ 5 → ⊥) → bytes "permerror" ≡ word_of n
+unfolding word_of
+other_word n h₀ h₁ h₂ h₃ h₄ h₅ = simp (ne_eqb n 0 h₀, ne_eqb n 1 h₁, ne_eqb n 2 h₂, ne_eqb n 3 h₃, ne_eqb n 4 h₄, ne_eqb n 5 h₅)
 
--- `put_identity`
-module _ (identity : Identity) (out : List ℕ) (at : ℕ) (o : List ℕ) (n : ℕ) where
-  pub identity_sender : identity ≡ MailFrom → Wrote (bytes "; identity=" ++ formed (bytes "mailfrom")) out at o n → Wrote (bytes "; identity=" ++ formed (identity_text identity)) out at o n
-  identity_sender e w = rw e w
-
-  pub identity_helo : identity ≡ Helo → Wrote (bytes "; identity=" ++ formed (bytes "helo")) out at o n → Wrote (bytes "; identity=" ++ formed (identity_text identity)) out at o n
-  identity_helo e w = rw e w
-
--- two and three texts in a row
-module _ (out : List ℕ) (at : ℕ) (x y : List ℕ) (o₁ o₂ : List ℕ) (n₁ n₂ : ℕ) (u : Wrote x out at o₁ n₁) (w : Wrote y o₁ n₁ o₂ n₂) where
-  pub in_two : Wrote (x ++ y) out at o₂ n₂
-  in_two = wrote_then out at x y o₁ o₂ n₁ n₂ u w
-
-  pub in_three : (z o₃ : List ℕ) (n₃ : ℕ) → Wrote z o₂ n₂ o₃ n₃ → Wrote (x ++ (y ++ z)) out at o₃ n₃
-  in_three z o₃ n₃ v = rw append_assoc at (wrote_then out at (x ++ y) z o₂ o₃ n₂ n₃ in_two v)
-
-module _ (out : List ℕ) (at : ℕ) (o₁ o₂ : List ℕ) (n₁ n₂ : ℕ) where
-  pub middle_row : (client sender : List ℕ) → Wrote (bytes "; client-ip=" ++ formed client) out at o₁ n₁ → Wrote (bytes "; envelope-from=" ++ formed sender) o₁ n₁ o₂ n₂
-      → Wrote (middle_text client sender) out at o₂ n₂
-  unfolding middle_text
-  middle_row client sender u w = in_two out at (bytes "; client-ip=" ++ formed client) (bytes "; envelope-from=" ++ formed sender) o₁ o₂ n₁ n₂ u w
-
-  module _ (o₃ : List ℕ) (n₃ : ℕ) where
-    pub head_row : (result : ℕ) (receiver : List ℕ) → Wrote (bytes "Received-SPF: ") out at o₁ n₁ → Wrote (word_of result) o₁ n₁ o₂ n₂
-        → Wrote (bytes " receiver=" ++ formed receiver) o₂ n₂ o₃ n₃ → Wrote (head_text result receiver) out at o₃ n₃
-    unfolding head_text
-    head_row result receiver u w v = in_three out at (bytes "Received-SPF: ") (word_of result) o₁ o₂ n₁ n₂ u w (bytes " receiver=" ++ formed receiver) o₃ n₃ v
-
-    pub tail_row : (helo identity : List ℕ) → Wrote (bytes "; helo=" ++ formed helo) out at o₁ n₁ → Wrote (bytes "; identity=" ++ formed identity) o₁ n₁ o₂ n₂
-        → Wrote crlf o₂ n₂ o₃ n₃ → Wrote (tail_text helo identity) out at o₃ n₃
-    unfolding tail_text
-    tail_row helo identity u w v = in_three out at (bytes "; helo=" ++ formed helo) (bytes "; identity=" ++ formed identity) o₁ o₂ n₁ n₂ u w crlf o₃ n₃ v
-
-    pub line_row : (result : ℕ) (receiver client sender helo identity : List ℕ) → Wrote (head_text result receiver) out at o₁ n₁ → Wrote (middle_text client sender) o₁ n₁ o₂ n₂
-        → Wrote (tail_text helo identity) o₂ n₂ o₃ n₃ → Wrote (line_text result receiver client sender helo identity) out at o₃ n₃
-    unfolding line_text
-    line_row result receiver client sender helo identity u w v =
-        in_three out at (head_text result receiver) (middle_text client sender) o₁ o₂ n₁ n₂ u w (tail_text helo identity) o₃ n₃ v
+-- `put_line`
+module _ (out : List ℕ) (at : ℕ) (o₁ o₂ o₃ o₄ o₅ o₆ o₇ o₈ : List ℕ) (n₁ n₂ n₃ n₄ n₅ n₆ n₇ n₈ : ℕ) (result : ℕ) (receiver client sender helo identity : List ℕ) where
+  pub line_row : Wrote (bytes "Received-SPF: ") out at o₁ n₁ → Wrote (word_of result) o₁ n₁ o₂ n₂ → Wrote (bytes " receiver=" ++ formed receiver) o₂ n₂ o₃ n₃
+      → Wrote (bytes "; client-ip=" ++ formed client) o₃ n₃ o₄ n₄ → Wrote (bytes "; envelope-from=" ++ formed sender) o₄ n₄ o₅ n₅
+      → Wrote (bytes "; helo=" ++ formed helo) o₅ n₅ o₆ n₆ → Wrote (bytes "; identity=" ++ formed identity) o₆ n₆ o₇ n₇ → Wrote crlf o₇ n₇ o₈ n₈
+      → Wrote (line_text result receiver client sender helo identity) out at o₈ n₈
+  unfolding line_text
+  line_row a b c d e f g h =
+      wrote_then out at (bytes "Received-SPF: ") _ o₁ o₈ n₁ n₈ a (wrote_then o₁ n₁ (word_of result) _ o₂ o₈ n₂ n₈ b
+      (wrote_then o₂ n₂ (bytes " receiver=" ++ formed receiver) _ o₃ o₈ n₃ n₈ c (wrote_then o₃ n₃ (bytes "; client-ip=" ++ formed client) _ o₄ o₈ n₄ n₈ d
+      (wrote_then o₄ n₄ (bytes "; envelope-from=" ++ formed sender) _ o₅ o₈ n₅ n₈ e (wrote_then o₅ n₅ (bytes "; helo=" ++ formed helo) _ o₆ o₈ n₆ n₈ f
+      (wrote_then o₆ n₆ (bytes "; identity=" ++ formed identity) crlf o₇ o₈ n₇ n₈ g h))))))
 
 -- `write_fitting`: measured in an array of no use, and written where it fits
-module _ (xs z o : List ℕ) (n : ℕ) (w : Wrote xs z 0 o n) (out : List ℕ) where
-  -- over what the code tests, k, which is the limit or more
-  pub line_long : (k : ℕ) → k < n → most_line ≤ k → Says (fitted xs (length out)) (Refused 50) out out
+module _ (xs z o : List ℕ) (k n : ℕ) (ek : k ≡ 0) (w : Wrote xs z k o n) (out : List ℕ) where
+  pub line_over : (r : ℕ) → r ≡ min most_line (length out) → r < n → Says (fitted xs (length out)) (Err NoRoom) out out
   unfolding fitted
-  line_long k h l = rw (lt-leb (length xs) most_line (omega (arith, w.next_place))) (record { answer = refl; buffer = refl })
-
-  pub line_over : length out < n → Says (fitted xs (length out)) (Refused 50) out out
-  unfolding fitted
-  line_over h = cond-elim (λ (x : Outcome). Says x (Refused 50) out out) (leb (length xs) most_line)
-      (λ _. rw (lt-leb (length xs) (length out) (omega (arith, w.next_place))) (record { answer = refl; buffer = refl }))
+  line_over r er h = cond-elim (λ (x : Outcome). Says x (Err NoRoom) out out) (leb (length xs) most_line)
+      (λ q. let l = leb-true (length xs) most_line q in rw (lt-leb (length xs) (length out) (omega (arith, w.next_place))) (record { answer = refl; buffer = refl }))
       (λ _. record { answer = refl; buffer = refl })
 
-  pub line_fits : n ≤ most_line → n ≤ length out → (after : List ℕ) (m : ℕ) → Wrote xs out 0 after m → Says (fitted xs (length out)) (Length n) out after
+  pub line_fits : (r : ℕ) → r ≡ min most_line (length out) → n ≤ r → (b c after : List ℕ) → b ≡ out → after ≡ c → (j m : ℕ) → j ≡ 0 → Wrote xs b j c m → Says (fitted xs (length out)) (Ok m) out after
   unfolding fitted
-  line_fits s h after m v =
-      let e : n ≡ length xs = omega (arith, w.next_place) in
-      let f : length xs ≤ length out = omega arith in
-      rw (le-leb (length xs) most_line (omega arith), le-leb (length xs) (length out) f) (record { answer = ap Length e; buffer = wrote_front xs out after m v f })
+  line_fits r er h b c after eb ec j m ej v =
+      let e : m ≡ length xs = omega (arith, w.next_place, v.next_place) in
+      let f : length xs ≤ length out = omega (arith, w.next_place) in
+      rw (le-leb (length xs) most_line (omega arith), le-leb (length xs) (length out) f) (record { answer = ap (λ (k : ℕ). Ok k) e; buffer = ec ∙ wrote_front xs out c m (rw (eb, ej) at v) f })
 
--- `write_with_client`
-module _ (client a : Address) (f : a ≡ as_client client) (z v : List ℕ) (n : ℕ) (w : Wrote (readable a) z 0 v n) (size : length z ≡ 39) where
-  pub client_inside : n ≤ length v
-  client_inside = value_inside (readable a) z v n w (readable_fits a z size)
-
-  pub client_whole : n ≡ length (take n v)
-  client_whole = value_whole (readable a) z v n w (readable_fits a z size)
-
-  pub client_text : (result : ℕ) (receiver sender helo identity : List ℕ) (room : ℕ) (r : Written) (before after : List ℕ)
-      → Says (fitted (line_text result receiver (take n v) sender helo identity) room) r before after
-      → Says (fitted (line_text result receiver (readable (as_client client)) sender helo identity) room) r before after
-  client_text result receiver sender helo identity room r before after x =
-      let c = value_taken (readable a) z v n w (readable_fits a z size) in
-      rw (← f, ← c) x
+-- `write_tested`
+pub client_text : (g : Given) (a : Address) → a ≡ as_client g.client → (z o y t : List ℕ) (k n : ℕ) → k ≡ 0 → Wrote (readable a) z k o n → y ≡ o → length z ≡ 39 → t ≡ part y 0 n
+    → (room : ℕ) (r : Result ℕ LineError) (before after : List ℕ) → Says (fitted (line_text g.result g.receiver t g.sender g.helo (identity_text g.identity)) room) r before after
+    → Says (fitted (text_of g) room) r before after
+client_text g a f z o y t k n ek w ey size et room r before after x =
+    let e : t ≡ readable (as_client g.client) = read_back (readable a) z o y t k n ek w ey (let l = length_readable a in omega arith) et ∙ ap readable f in
+    rw e at x
 
 -- the line as its production has it
 pub word_of_lem : (n : ℕ) → n < 7 → Word n (word_of n)
@@ -142,16 +106,11 @@ pair_one {v = v} (in_quotes n) =
     let e = test_fails (is_dot_atom_text v) (λ h. n (dot_sound v h)) in
     record { text = rw e; place = rw e }
 
-flat : (h w a b c d e t : List ℕ) → (h ++ (w ++ a)) ++ ((b ++ c) ++ (d ++ (e ++ t))) ≡ h ++ (w ++ (a ++ (b ++ (c ++ (d ++ (e ++ t))))))
-flat h w a b c d e t = simp append_assoc
-
 pub line_flat : (result : ℕ) (receiver client sender helo identity : List ℕ) → line_text result receiver client sender helo identity
     ≡ bytes "Received-SPF: " ++ (word_of result ++ ((bytes " receiver=" ++ formed receiver) ++ ((bytes "; client-ip=" ++ formed client)
     ++ ((bytes "; envelope-from=" ++ formed sender) ++ ((bytes "; helo=" ++ formed helo) ++ ((bytes "; identity=" ++ formed identity) ++ crlf))))))
-unfolding line_text head_text middle_text tail_text
-line_flat result receiver client sender helo identity =
-    flat (bytes "Received-SPF: ") (word_of result) (bytes " receiver=" ++ formed receiver) (bytes "; client-ip=" ++ formed client)
-    (bytes "; envelope-from=" ++ formed sender) (bytes "; helo=" ++ formed helo) (bytes "; identity=" ++ formed identity) crlf
+unfolding line_text
+line_flat result receiver client sender helo identity = refl
 
 pub line_is : (n : ℕ) (v : Values) → n < 7
     → Line n v (line_text n v.receiver v.client v.sender v.helo v.identity) (line_parts n v.receiver v.client v.sender v.helo v.identity)
@@ -215,7 +174,7 @@ writes g room = by (is_sender g.sender) refl (is_host g.helo && is_host g.receiv
   where
     by : (a : Bool) → is_sender g.sender ≡ a → (b : Bool) → (is_host g.helo && is_host g.receiver) ≡ b → (c : Bool) → ltb g.result 7 ≡ c
         → (d : Bool) → leb (length (text_of g)) most_line ≡ d → (e : Bool) → leb (length (text_of g)) room ≡ e
-        → Writes g room (cond a (cond b (cond c (cond d (cond e (written (text_of g)) (refused 50)) (refused 50)) (refused 52)) (refused 21)) (refused 20))
+        → Writes g room (cond a (cond b (cond c (cond d (cond e (Ok (text_of g)) (Err NoRoom)) (Err NoRoom)) (Err NoResult)) (Err Host)) (Err Sender))
     by false ea b eb c ec d ed e ee = no_sender ea
     by true ea false eb c ec d ed e ee = no_host ea eb
     by true ea true eb false ec d ed e ee = no_result ea eb (ltb-false g.result 7 ec)
@@ -223,27 +182,26 @@ writes g room = by (is_sender g.sender) refl (is_host g.helo && is_host g.receiv
     by true ea true eb true ec true ed false ee = no_room (record { sender = ea; hosts = eb; result = ltb-true g.result 7 ec }) (line_is g.result (values_of g) (ltb-true g.result 7 ec)) (inr (leb-false (length (text_of g)) room ee))
     by true ea true eb true ec true ed true ee = fits (record { sender = ea; hosts = eb; result = ltb-true g.result 7 ec }) (line_is g.result (values_of g) (ltb-true g.result 7 ec)) (leb-true (length (text_of g)) most_line ed) (leb-true (length (text_of g)) room ee)
 
-pub answered : (g : Given) (r : Written) (before after : List ℕ) → Says (outcome g (length before)) r before after → WritesLine g r before after
+pub answered : (g : Given) (r : Result ℕ LineError) (before after : List ℕ) → Says (outcome g (length before)) r before after → WritesLine g r before after
 answered g r before after x = record { outcome = outcome g (length before); writes = writes g (length before); says = x }
 
-module _ (result : ℕ) (client : Address) (sender helo receiver : List ℕ) (identity : Identity) (out : List ℕ) (a : Bool) (ea : a ≡ is_sender sender) where
-  pub refused_20 : a ≡ false → Says (outcome (given result client sender helo receiver identity) (length out)) (Refused 20) out out
+module _ (g : Given) (out : List ℕ) (a : Bool) (ea : a ≡ is_sender g.sender) where
+  pub refused_sender : a ≡ false → Says (outcome g (length out)) (Err Sender) out out
   unfolding outcome
-  refused_20 h = rw (← ea, h) (record { answer = refl; buffer = refl })
+  refused_sender h = rw (← ea, h) (record { answer = refl; buffer = refl })
 
-  module _ (ha : a ≡ true) (b : Bool) (eb : b ≡ (is_host helo && is_host receiver)) where
-    pub refused_21 : b ≡ false → Says (outcome (given result client sender helo receiver identity) (length out)) (Refused 21) out out
+  module _ (ha : a ≡ true) (b : Bool) (eb : b ≡ (is_host g.helo && is_host g.receiver)) where
+    pub refused_host : b ≡ false → Says (outcome g (length out)) (Err Host) out out
     unfolding outcome
-    refused_21 h = rw (← ea, ha, ← eb, h) (record { answer = refl; buffer = refl })
+    refused_host h = rw (← ea, ha, ← eb, h) (record { answer = refl; buffer = refl })
 
     module _ (hb : b ≡ true) where
-      pub refused_52 : 7 ≤ result → Says (outcome (given result client sender helo receiver identity) (length out)) (Refused 52) out out
+      pub refused_result : 7 ≤ g.result → Says (outcome g (length out)) (Err NoResult) out out
       unfolding outcome
-      refused_52 h = rw (← ea, ha, ← eb, hb, le-ltb result 7 h) (record { answer = refl; buffer = refl })
+      refused_result h = rw (← ea, ha, ← eb, hb, le-ltb g.result 7 h) (record { answer = refl; buffer = refl })
 
-      pub tests_passed : result < 7 → (r : Written) (after : List ℕ) → Says (fitted (line_text result receiver (readable (as_client client)) sender helo (identity_text identity)) (length out)) r out after
-          → Says (outcome (given result client sender helo receiver identity) (length out)) r out after
+      pub tests_passed : g.result < 7 → (r : Result ℕ LineError) (after : List ℕ) → Says (fitted (text_of g) (length out)) r out after → Says (outcome g (length out)) r out after
       unfolding outcome
-      tests_passed h r after w = rw (← ea, ha, ← eb, hb, lt-ltb result 7 h) w
+      tests_passed h r after w = rw (← ea, ha, ← eb, hb, lt-ltb g.result 7 h) w
 
-pub ruleset writing = (refused_20, refused_21, refused_52, tests_passed)
+pub ruleset writing = (refused_sender, refused_host, refused_result, tests_passed)

@@ -24,8 +24,8 @@ use Rattle.received.specs.Quoting.{quote, is_marked, escaped_byte, escaped, quot
 use Rattle.received.specs.Line.{Word, none, neutral, pass, fail, softfail, temperror, permerror, crlf}
 use Rattle.received.specs.States.{is_dot_atom_text, is_plain, skip, closing}
 use Rattle.received.specs.Texts.{word_of, formed, shown, line_text, place₀, place₁, place₂, place₃, place₄, line_parts}
-use Rattle.received.specs.Reader.{later_number, number_of, plus, closing_at, after, part_at, part_after, word_end, receiver_part, client_part, sender_part, helo_part, identity_part, parts_of, bytes_of}
-use Rattle.received.specs.declared.Part.{Part}
+use Rattle.received.specs.Reader.{number_of, plus, closing_at, after, part_at, part_after, word_end, receiver_part, client_part, sender_part, helo_part, identity_part, parts_of, bytes_of}
+use Rattle.text.specs.declared.spans.Span.{Span as Part}
 use Rattle.received.proofs.Laws.Atoms.{dot_sound, dot_plain}
 use Rattle.received.proofs.Laws.Quoting.{at_drop, byte_marked, byte_plain, plain_part}
 use Rattle.received.proofs.Laws.Reading.{closing_step}
@@ -167,7 +167,7 @@ unfolding word_of all is_in is_not_space
 word_whole n h = below 7 (λ n. all (is_in NotSpace) (word_of n)) refl n h
 
 pub word_number : (n : ℕ) → n < 7 → number_of (word_of n) ≡ n
-unfolding word_of number_of later_number same
+unfolding word_of number_of same
 word_number n h = eqb-true (number_of (word_of n)) n (below 7 (λ n. eqb (number_of (word_of n)) n) refl n h)
 
 -- the number of a word below 7 is the word's
@@ -175,7 +175,7 @@ word_same : (w : List ℕ) {n : ℕ} {word : List ℕ} → Word n word → same 
 word_same w {n} {word} x t h = subst (Word n) (sym (same_true w word t)) x
 
 pub number_word : (w : List ℕ) → number_of w < 7 → Word (number_of w) w
-unfolding number_of later_number
+unfolding number_of
 number_word w =
     cond-elim Is (same w (bytes "none")) (word_same w none)
     (λ _. cond-elim Is (same w (bytes "neutral")) (word_same w neutral)

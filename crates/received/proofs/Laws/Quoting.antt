@@ -1,5 +1,6 @@
 -- Values with their backslashes and back, as the code writes and strips them; and the answers of `unquote`. From the definitions of Quoting, States and
 -- Answers.
+use Rattle.std.proofs.Common.{Result, Ok, Err}
 use Prim.Native.Nat.{ℕ, suc, ◌+◌, ◌*◌, ◌≤◌, ◌<◌, ◌^◌}
 use mathlib.Core.Path.{◌≡◌, refl, sym, ap, subst, ◌∙◌}
 use mathlib.Core.List.{List, [], ◌∷◌, ◌++◌, append_assoc, append-nil}
@@ -11,26 +12,27 @@ use lib.ListN.{length, get_or, take, drop, length-append, length-drop, drop_of_l
 use lib.Seq.{take-suc, take_all, drop-drop, get_or-drop}
 use lib.Dec.{eqb, leb, ltb}
 use borrow.Author.Tests.{eq-eqb, ne_eqb, lt-ltb, le-ltb, ltb-true, le-leb, lt-leb, leb-true, leb-false}
-use Rattle.text.specs.Bytes.{at, within, is_upper, is_alpha, is_digit, is_alphanumeric, is_printable}
+use Rattle.text.specs.Bytes.{at, part, within, is_upper, is_alpha, is_digit, is_alphanumeric, is_printable}
 use Rattle.text.specs.Lists.{all, contains, same}
 use Rattle.text.specs.Writing.{Wrote}
 use Rattle.text.proofs.Laws.Tests.{or_false_right, or_false_both, true_false}
 use Rattle.text.proofs.Laws.Classes.{apart}
 use Rattle.text.proofs.Laws.Parts.{all_first, all_rest}
 use Rattle.text.proofs.Laws.Words.{same_true, true_same}
-use Rattle.text.proofs.Laws.Writing.{wrote_none, wrote_then, length_wrote, wrote_front}
+use Rattle.text.proofs.Laws.Writing.{wrote_none, wrote_then, wrote_front}
 use Rattle.text.proofs.Laws.Classes.{class_tests}
 use Rattle.text.specs.Runs.{is_in}
 use Rattle.text.specs.declared.bytes.Class.TheVariants.{Printable}
-use Rattle.text.proofs.Laws.Writing.{value_taken, value_inside, value_whole}
-use Rattle.received.specs.declared.Written.{Written}
-use Rattle.received.specs.declared.Written.TheVariants.{Length, Refused}
+use Rattle.text.proofs.Laws.Writing.{value_taken}
+use Rattle.text.proofs.Laws.Spans.{front_part}
 use Rattle.received.specs.Atoms.{is_atext}
 use Rattle.received.specs.Quoting.{is_marked, escaped_byte, escaped, unescaped}
-use Rattle.received.specs.Numbers.{refused, written, Says}
+use Rattle.received.specs.Numbers.{Says}
 use Rattle.received.specs.Answers.{PartOf, Unquotes, no_part, no_room, value, UnquotesPart}
 use Rattle.received.specs.States.{is_dot_atom_text, is_plain, skip, place, Placed, valued}
 use Rattle.received.specs.Texts.{formed}
+use Rattle.received.specs.declared.LineError.{LineError}
+use Rattle.received.specs.declared.LineError.TheVariants.{NoRoom, NoLine}
 
 -- a byte
 pub byte_marked : (b : ℕ) → is_marked b ≡ true → escaped_byte b ≡ 92 ∷ b ∷ []
@@ -78,9 +80,6 @@ module _ (s out : List ℕ) (at : ℕ) where
 
     pub escaping_end : length s ≤ i → Wrote (escaped s) out at o n
     escaping_end h = rw (sym (take_all i s h)) p.wrote
-
-    pub escaping_length : length o ≡ length out
-    escaping_length = length_wrote out at (escaped (take i s)) o n p.wrote
 
 -- `put_form`
 module _ (v out : List ℕ) (at : ℕ) (r : Bool) (e : r ≡ is_dot_atom_text v) where
@@ -223,9 +222,6 @@ module _ (s out : List ℕ) (at : ℕ) where
     pub stripped_end : length s ≤ i → Wrote (unescaped s) out at o n
     stripped_end h = rw (p.all_of, drop_of_length-le s h, unescaped_none, append-nil) p.wrote
 
-    pub stripped_length : length o ≡ length out
-    stripped_length = length_wrote out at p.done o n p.wrote
-
 -- lengths
 byte_length : (b : ℕ) → length (escaped_byte b) ≤ 2
 unfolding escaped_byte
@@ -240,41 +236,41 @@ unfolding escaped
 escaped_length [] = omega arith
 escaped_length (b ∷ v) = let h = escaped_length v in rw (length-append (escaped_byte b) (escaped v)) (let k = byte_length b in omega arith)
 
+-- a text that was written into an array with room for it, as it is read back
+pub read_back : (xs z o y t : List ℕ) (k n : ℕ) → k ≡ 0 → Wrote xs z k o n → y ≡ o → length xs ≤ length z → t ≡ part y 0 n → t ≡ xs
+read_back xs z o y t k n ek w ey l et = et ∙ front_part y n ∙ ap (take n) ey ∙ value_taken xs z o n (rw ek at w) l
+
 -- `is_part_of`: the part written again
-module _ (v z o : List ℕ) (n : ℕ) (w : Wrote (escaped v) z 0 o n) (size : length z ≡ 640) (h : length v ≤ 320) where
-  again_fits : length (escaped v) ≤ length z
-  again_fits = let k = escaped_length v in omega arith
-
-  pub again_inside : n ≤ length o
-  again_inside = value_inside (escaped v) z o n w again_fits
-
-  pub again_whole : n ≡ length (take n o)
-  again_whole = value_whole (escaped v) z o n w again_fits
-
-  pub again_same : (s : List ℕ) (r : Bool) → r ≡ same (take n o) s → r ≡ same (escaped v) s
-  again_same s r e = e ∙ ap (λ (x : List ℕ). same x s) (value_taken (escaped v) z o n w again_fits)
+pub again_same : (v z o y t : List ℕ) (k n : ℕ) → k ≡ 0 → Wrote (escaped v) z k o n → y ≡ o → length z ≡ 640 → length v ≤ 320 → t ≡ part y 0 n
+    → (s : List ℕ) (r : Bool) → r ≡ same t s → r ≡ same (escaped v) s
+again_same v z o y t k n ek w ey size h et s r e =
+    e ∙ ap (λ (x : List ℕ). same x s) (read_back (escaped v) z o y t k n ek w ey (let l = escaped_length v in omega arith) et)
 
 -- `write_value`
 module _ (v s out : List ℕ) (a : Bool) (ea : a ≡ all (is_in Printable) v) where
   printable : all (is_in Printable) v ≡ all is_printable v
   printable = class_tests Printable v
 
-  pub value_unprintable : a ≡ false → Says (valued v s (length out)) (Refused 51) out out
+  pub value_unprintable : a ≡ false → Says (valued v s (length out)) (Err NoLine) out out
   unfolding valued
   value_unprintable h = rw (← printable, ← ea, h) (record { answer = refl; buffer = refl })
 
   module _ (ha : a ≡ true) (b : Bool) (eb : b ≡ same (escaped v) s) where
-    pub value_other : b ≡ false → Says (valued v s (length out)) (Refused 51) out out
+    pub value_other : b ≡ false → Says (valued v s (length out)) (Err NoLine) out out
     unfolding valued
     value_other h = rw (← printable, ← ea, ha, ← eb, h) (record { answer = refl; buffer = refl })
 
-    pub value_over : b ≡ true → length out < length v → Says (valued v s (length out)) (Refused 50) out out
-    unfolding valued
-    value_over h l = rw (← printable, ← ea, ha, ← eb, h, lt-leb (length v) (length out) l) (record { answer = refl; buffer = refl })
+    module _ (h : b ≡ true) where
+      pub value_over : length out < length v → Says (valued v s (length out)) (Err NoRoom) out out
+      unfolding valued
+      value_over l = rw (← printable, ← ea, ha, ← eb, h, lt-leb (length v) (length out) l) (record { answer = refl; buffer = refl })
 
-    pub value_written : b ≡ true → length v ≤ length out → (after : List ℕ) (n : ℕ) → Wrote v out 0 after n → Says (valued v s (length out)) (Length (length v)) out after
-    unfolding valued
-    value_written h l after n w = rw (← printable, ← ea, ha, ← eb, h, le-leb (length v) (length out) l) (record { answer = refl; buffer = wrote_front v out after n w l })
+      pub value_written : length v ≤ length out → (u c after : List ℕ) → u ≡ out → after ≡ c → (k n : ℕ) → k ≡ 0 → Wrote v u k c n
+          → Says (valued v s (length out)) (Ok (length v)) out after
+      unfolding valued
+      value_written l u c after eu ec k n ek w =
+          rw (← printable, ← ea, ha, ← eb, h, le-leb (length v) (length out) l)
+          (record { answer = refl; buffer = ec ∙ wrote_front v out c n (rw (eu, ek) at w) l })
 
 -- `unquote`
 pub part_value : (v s : List ℕ) → PartOf v s → unescaped s ≡ v
@@ -285,36 +281,33 @@ unfolding valued
 unquotes s room h = by (all is_printable (unescaped s)) refl (same (escaped (unescaped s)) s) refl (leb (length (unescaped s)) room) refl
   where
     by : (p : Bool) → all is_printable (unescaped s) ≡ p → (q : Bool) → same (escaped (unescaped s)) s ≡ q → (l : Bool) → leb (length (unescaped s)) room ≡ l
-        → Unquotes s room (cond (p && q) (cond l (written (unescaped s)) (refused 50)) (refused 51))
+        → Unquotes s room (cond (p && q) (cond l (Ok (unescaped s)) (Err NoRoom)) (Err NoLine))
     by true e true f true g = value (record { text = sym (same_true (escaped (unescaped s)) s f); printable = e; size = h }) (leb-true (length (unescaped s)) room g)
     by true e true f false g = no_room (record { text = sym (same_true (escaped (unescaped s)) s f); printable = e; size = h }) (leb-false (length (unescaped s)) room g)
     by true e false f l g = no_part (λ v p. true_false (same (escaped (unescaped s)) s) (true_same (escaped (unescaped s)) s (ap escaped (part_value v s p) ∙ sym p.text)) f)
     by false e q f l g = no_part (λ v p. true_false (all is_printable (unescaped s)) (ap (all is_printable) (part_value v s p) ∙ p.printable) e)
 
-module _ (s z o : List ℕ) (n : ℕ) (w : Wrote (unescaped s) z 0 o n) (size : length z ≡ 320) (out : List ℕ) where
-  pub unquote_long : 320 < n → UnquotesPart s (Refused 51) out out
+module _ (s z o y : List ℕ) (k n : ℕ) (ek : k ≡ 0) (w : Wrote (unescaped s) z k o n) (size : length z ≡ 320) (out : List ℕ) where
+  pub unquote_long : 320 < n → UnquotesPart s (Err NoLine) out out
   unquote_long h = record {
-    outcome = refused 51;
+    outcome = Err NoLine;
     unquotes = no_part (λ v p. omega (arith, w.next_place, p.size, ap length (part_value v s p)));
     says = record { answer = refl; buffer = refl };
   }
 
-  module _ (h : n ≤ 320) where
+  module _ (h : n ≤ 320) (ey : y ≡ o) (t : List ℕ) (et : t ≡ part y 0 n) where
     strip_fits : length (unescaped s) ≤ length z
     strip_fits = omega (arith, w.next_place)
 
-    pub strip_inside : n ≤ length o
-    strip_inside = value_inside (unescaped s) z o n w strip_fits
+    stripped_is : t ≡ unescaped s
+    stripped_is = read_back (unescaped s) z o y t k n ek w ey strip_fits et
 
-    pub strip_whole : n ≡ length (take n o)
-    strip_whole = value_whole (unescaped s) z o n w strip_fits
+    pub strip_short : length t ≤ 320
+    strip_short = omega (arith, strip_fits, ap length stripped_is)
 
-    pub strip_short : length (take n o) ≤ 320
-    strip_short = let e = strip_whole in omega arith
-
-    pub unquote_short : (r : Written) (after : List ℕ) → Says (valued (take n o) s (length out)) r out after → UnquotesPart s r out after
+    pub unquote_short : (r : Result ℕ LineError) (after : List ℕ) → Says (valued t s (length out)) r out after → UnquotesPart s r out after
     unquote_short r after x = record {
       outcome = valued (unescaped s) s (length out);
       unquotes = unquotes s (length out) (omega (arith, strip_fits));
-      says = subst (λ (v : List ℕ). Says (valued v s (length out)) r out after) (value_taken (unescaped s) z o n w strip_fits) x;
+      says = subst (λ (v : List ℕ). Says (valued v s (length out)) r out after) stripped_is x;
     }

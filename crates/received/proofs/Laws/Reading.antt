@@ -1,12 +1,14 @@
 -- The reader's ways out. From the definitions of States and Reader.
-use Prim.Native.Nat.{ℕ, suc, ◌+◌, ◌-◌, ◌*◌, ◌%◌, ◌≤◌, ◌<◌, ◌^◌}
+use Rattle.std.proofs.Common.{Result, Ok, Err}
+use Prim.Native.Nat.{ℕ, zero, suc, ◌+◌, ◌-◌, ◌*◌, ◌%◌, ◌≤◌, ◌<◌, ◌^◌, min}
 use mathlib.Core.Path.{◌≡◌, refl, sym, ap, ◌∙◌}
-use mathlib.Core.List.{List, [], ◌∷◌}
+use mathlib.Core.Logic.{◌⊎◌, inl, inr, ⊎_elim}
+use mathlib.Core.List.{List, [], ◌∷◌, ◌++◌}
 use mathlib.Core.Bool.{Bool, true, false, cond, ◌&&◌}
 use native.Mathlib.Omega.{arith}
 use native.Mathlib.Nat.{mul-le-mul_right}
-use lib.ListN.{length, take, drop, length-drop, drop_of_length-le}
-use lib.Seq.{take_all, take_at, drop-drop, length-take-le}
+use lib.ListN.{length, take, drop, length-take, length-drop, drop_of_length-le}
+use lib.Seq.{take_at, drop-drop}
 use lib.Dec.{eqb, ltb}
 use borrow.Author.Tests.{eq-eqb, ne_eqb, lt-ltb, le-ltb, lt-leb, le-leb}
 use Rattle.text.specs.Bytes.{at, part}
@@ -15,53 +17,34 @@ use Rattle.text.specs.Runs.{run_end, is_in}
 use Rattle.text.specs.Writing.{Wrote, overwritten}
 use Rattle.text.specs.declared.bytes.Class.TheVariants.{NotSpace}
 use Rattle.text.proofs.Laws.Spans.{front_part}
-use Rattle.text.proofs.Laws.Writing.{wrote_over, wrote_front, length_wrote}
+use Rattle.text.proofs.Laws.Orders.{le_or_lt}
+use Rattle.text.proofs.Laws.Writing.{wrote_over, length_wrote}
 use Rattle.address.specs.declared.Address.{Address}
 use Rattle.address.specs.declared.Address.TheVariants.{IPv4, IPv6}
-use Rattle.received.specs.Atoms.{is_atext}
 use Rattle.received.specs.Quoting.{unescaped}
-use Rattle.received.specs.Numbers.{Outcome, refused, written, answer_of, buffer_of, Says}
+use Rattle.received.specs.Numbers.{Outcome, answer_of, buffer_of, Says}
 use Rattle.received.specs.States.{fold, is_plain, skip, place, Placed, closing}
 use Rattle.received.specs.Answers.{Given, given, most_line}
-use Rattle.received.specs.Texts.{outcome}
+use Rattle.received.specs.Texts.{word_of, outcome}
 use Rattle.received.specs.Reader.{digit_value, Digit, octet_on, high_on, low_on, push_byte, nothing, total, address_of, number_of, identity_of, plus, closing_at, after, part_at, part_after, word_end, receiver_part, client_part, sender_part, helo_part, identity_part, parts_of, bytes_of, value_of, is_written, is_line_of, is_line, line_answer, Held}
 use Rattle.received.specs.declared.clients.Sum.{Sum}
-use Rattle.received.specs.declared.Written.{Written}
-use Rattle.received.specs.declared.Written.TheVariants.{Length, Refused}
 use Rattle.received.specs.declared.Identity.{Identity}
-use Rattle.received.specs.declared.Part.{Part}
+use Rattle.text.specs.declared.spans.Span.{Span as Part}
 use Rattle.received.specs.declared.Parts.{Parts}
-use Rattle.received.specs.declared.LineAnswer.TheVariants as answers
+use Rattle.received.specs.declared.LineError.{LineError}
+use Rattle.received.specs.declared.LineError.TheVariants.{NoLine}
 use Rattle.received.proofs.Laws.Folding.{fold_end}
 use Rattle.received.proofs.Laws.Quoting.{at_drop}
 
--- `is_plain`
-module _ (b : ℕ) (r : Bool) (p : r ≡ is_atext b) where
-  pub plain_atom : r ≡ true → true ≡ is_plain b
-  unfolding is_plain
-  plain_atom k = rw (← p, k)
-
-  pub plain_other : r ≡ false → eqb b 46 ≡ is_plain b
-  unfolding is_plain
-  plain_other k = rw (← p, k)
-
 -- `digit_value`
 module _ (b : ℕ) where
-  pub digit_low : b < 58 → b < 48 → Digit b 0
+  pub digit_low : b < 58 → b < 256 → (x : ℕ) → x ≡ b - 48 → Digit b x
   unfolding digit_value
-  digit_low h k = record { value = rw (lt-ltb b 58 h) (omega arith); small = omega arith }
+  digit_low h l x e = record { value = rw (lt-ltb b 58 h) e; small = omega arith }
 
-  pub digit_decimal : b < 58 → (x : ℕ) → (x ≡ b - 48) × (x < 256) → Digit b x
+  pub digit_high : 58 ≤ b → b < 256 → (x : ℕ) → x ≡ b - 87 → Digit b x
   unfolding digit_value
-  digit_decimal h x e = record { value = rw (lt-ltb b 58 h) e.0; small = e.1 }
-
-  pub digit_between : 58 ≤ b → b < 87 → Digit b 0
-  unfolding digit_value
-  digit_between h k = record { value = rw (le-ltb b 58 h) (omega arith); small = omega arith }
-
-  pub digit_hex : 58 ≤ b → (x : ℕ) → (x ≡ b - 87) × (x < 256) → Digit b x
-  unfolding digit_value
-  digit_hex h x e = record { value = rw (le-ltb b 58 h) e.0; small = e.1 }
+  digit_high h l x e = record { value = rw (le-ltb b 58 h) e; small = omega arith }
 
 pub octet_is : (x : Sum) → ((x.low % 16777216) * 256 + x.group % 256 ≡ octet_on x) × ((x.low % 16777216) * 256 + x.group % 256 < 4294967296)
 unfolding octet_on
@@ -105,6 +88,31 @@ module _ (s : List ℕ) (r : Bool) (e : r ≡ contains s 58) where
   pub address_four : r ≡ false → (x : Sum) → x ≡ total 10 s → (n : ℕ) → (n ≡ octet_on x) × (n < 4294967296) → IPv4 n ≡ address_of s
   unfolding address_of
   address_four h x p n q = rw (← e, h, ← p, ← q.0)
+
+-- `number_of`
+pub number_is : (w : List ℕ) (n : ℕ) → ((k : ℕ) → k < n → same w (word_of k) ≡ false) → n < 7 → same w (word_of n) ≡ true → n ≡ number_of w
+unfolding number_of word_of
+number_is w zero h l e = rw e
+number_is w (suc zero) h l e = rw (h 0 (omega arith), e)
+number_is w (suc (suc zero)) h l e = rw (h 0 (omega arith), h 1 (omega arith), e)
+number_is w (suc (suc (suc zero))) h l e = rw (h 0 (omega arith), h 1 (omega arith), h 2 (omega arith), e)
+number_is w (suc (suc (suc (suc zero)))) h l e = rw (h 0 (omega arith), h 1 (omega arith), h 2 (omega arith), h 3 (omega arith), e)
+number_is w (suc (suc (suc (suc (suc zero))))) h l e = rw (h 0 (omega arith), h 1 (omega arith), h 2 (omega arith), h 3 (omega arith), h 4 (omega arith), e)
+number_is w (suc (suc (suc (suc (suc (suc zero)))))) h l e =
+    rw (h 0 (omega arith), h 1 (omega arith), h 2 (omega arith), h 3 (omega arith), h 4 (omega arith), h 5 (omega arith), e)
+number_is w (suc (suc (suc (suc (suc (suc (suc n))))))) h l e = absurd (omega arith)
+
+pub number_none : (w : List ℕ) → ((k : ℕ) → k < 7 → same w (word_of k) ≡ false) → 7 ≡ number_of w
+unfolding number_of word_of
+number_none w h = rw (h 0 (omega arith), h 1 (omega arith), h 2 (omega arith), h 3 (omega arith), h 4 (omega arith), h 5 (omega arith), h 6 (omega arith))
+
+-- a word more that differs
+pub differs : (w : List ℕ) (n : ℕ) → ((k : ℕ) → k < n → same w (word_of k) ≡ false) → (t : Bool) → t ≡ same w (word_of n) → t ≡ false
+    → (k : ℕ) → k < n + 1 → same w (word_of k) ≡ false
+differs w n h t e f k l = ⊎_elim (λ (p : k < n). h k p) (λ (q : k ≡ n). rw q (sym e ∙ f)) (last l)
+  where
+    last : k < n + 1 → (k < n) ⊎ (k ≡ n)
+    last l = ⊎_elim (λ (p : n ≤ k). inr (omega arith)) (λ (q : k < n). inl q) (le_or_lt n k)
 
 -- `closing_at`
 pub closing_step : (t : List ℕ) → 0 < length t → eqb (at t 0) 34 ≡ false → closing t ≡ suc (skip t) + closing (drop (suc (skip t)) t)
@@ -151,16 +159,6 @@ module _ (s : List ℕ) (i q : ℕ) (inv : closing_at s q ≡ closing_at s i) wh
       moved : (j : ℕ) → Placed s q j → q + suc (skip (drop q s)) ≡ j + 1
       moved j p = omega (arith, p.is_place)
 
--- `after`
-module _ (s : List ℕ) (to b : ℕ) (e : b ≡ at s to) where
-  pub after_quote : b ≡ 34 → (r : ℕ) → r ≡ plus to 1 → r ≡ after s to
-  unfolding after
-  after_quote h r p = rw (eq-eqb (at s to) 34 (sym e ∙ h)) p
-
-  pub after_none : (b ≡ 34 → ⊥) → to ≡ after s to
-  unfolding after
-  after_none h = rw (ne_eqb (at s to) 34 (λ x. h (e ∙ x)))
-
 -- `part_at`
 module _ (s : List ℕ) (p b : ℕ) (e : b ≡ at s p) where
   pub part_quoted : b ≡ 34 → (m n : ℕ) → m ≡ plus p 1 → n ≡ closing_at s m → record { from = m; to = n } ≡ part_at s p
@@ -185,60 +183,48 @@ module _ (s : List ℕ) (end : ℕ) (ee : end ≡ run_end (is_in NotSpace) s 14)
   parts_are = rw (← ee, ← ew, ← en, ← er, ← ec, ← es, ← eh, ← ei)
 
 -- `value_of`
-module _ (x before o : List ℕ) (n : ℕ) (w : Wrote x before 0 o n) where
-  same_size : length o ≡ length before
-  same_size = length_wrote before 0 x o n w
-
-  held_whole : n ≤ length o → length before * 1 < 2 ^ 63 → Held x before o n
-  held_whole h l =
-      let z = same_size in
-      let k : n ≡ length x = omega (arith, w.next_place) in
-      record {
-        taken = ap (take n) (wrote_front x before o n w (omega arith)) ∙ take_at x (drop (length x) before) n (sym k) ∙ sym (take_all (length before) x (omega arith));
-        size = z;
-      }
-
-  held_front : length o < n → Held x before o (length o)
-  unfolding overwritten
-  held_front h =
-      let z = same_size in
-      let k : length before ≤ length x = omega (arith, w.next_place) in
-      record {
-        taken = rw z (ap (take (length before)) (wrote_over x before o n w) ∙ take_at (take (length before) x) (drop (length x) before) (length before) (length-take-le (length before) x k));
-        size = z;
-      }
-
-module _ (s : List ℕ) (p : Part) (t : List ℕ) (e : t ≡ bytes_of s p) (before o : List ℕ) (n : ℕ) (w : Wrote (unescaped t) before 0 o n) where
-  pub held_all : n ≤ length o → length before * 1 < 2 ^ 63 → Held (unescaped (bytes_of s p)) before o n
-  held_all h l = rw e at (held_whole (unescaped t) before o n w h l)
-
-  pub held_part : length o < n → Held (unescaped (bytes_of s p)) before o (length o)
-  held_part h = rw e at (held_front (unescaped t) before o n w h)
+pub value_held : (s : List ℕ) (p : Part) (t : List ℕ) → t ≡ bytes_of s p → (before u o : List ℕ) (k n : ℕ) → u ≡ before → k ≡ 0 → Wrote (unescaped t) u k o n
+    → (y : List ℕ) → y ≡ o → (r : ℕ) → r ≡ min n (length before) → length before * 1 < 2 ^ 63 → Held (unescaped (bytes_of s p)) before y r
+unfolding overwritten
+value_held s p t et before u o k n eu ek w y ea r er small =
+    let v = rw (eu, ek, et) at w in
+    let x = unescaped (bytes_of s p) in
+    let z : length o ≡ length before = length_wrote before 0 x o n v in
+    let m : r ≡ min (length x) (length before) = omega (arith, v.next_place) in
+    record {
+      taken = rw (ea, m) (ap (take (min (length x) (length before))) (wrote_over x before o n v) ∙ taken x before);
+      size = ap length ea ∙ z;
+    }
+  where
+    taken : (x before : List ℕ) → take (min (length x) (length before)) (take (length before) x ++ drop (length x) before) ≡ take (length before) x
+    taken x before =
+        let l : length (take (length before) x) ≡ min (length x) (length before) = simp length-take (omega arith) in
+        take_at (take (length before) x) (drop (length x) before) (min (length x) (length before)) l
 
 -- `is_written`
-written_refused : (m : ℕ) (s : List ℕ) → false ≡ is_written (refused m) s
+written_refused : (m : LineError) (s : List ℕ) → false ≡ is_written (Err m) s
 unfolding is_written
 written_refused m s = refl
 
-written_is : (xs s : List ℕ) → same xs s ≡ is_written (written xs) s
+written_is : (xs s : List ℕ) → same xs s ≡ is_written (Ok xs) s
 unfolding is_written
 written_is xs s = refl
 
-none_of : (o : Outcome) (n : ℕ) (s : List ℕ) → Refused n ≡ answer_of o → false ≡ is_written o s
-none_of (refused m) n s e = written_refused m s
-none_of (written xs) n s e = absurd (let q : ◌≡◌ {A = ℕ} 0 1 = cc in omega arith)
+none_of : (o : Outcome) (e : LineError) (s : List ℕ) → Err e ≡ answer_of o → false ≡ is_written o s
+none_of (Err m) e s q = written_refused m s
+none_of (Ok xs) e s q = cc
 
-same_of : (o : Outcome) (n : ℕ) (z after s : List ℕ) → Length n ≡ answer_of o → after ≡ buffer_of o z → same (take n after) s ≡ is_written o s
-same_of (refused m) n z after s e b = absurd (let q : ◌≡◌ {A = ℕ} 0 1 = cc in omega arith)
-same_of (written xs) n z after s e b =
+same_of : (o : Outcome) (n : ℕ) (z after s : List ℕ) → Ok n ≡ answer_of o → after ≡ buffer_of o z → same (take n after) s ≡ is_written o s
+same_of (Err m) n z after s e b = cc
+same_of (Ok xs) n z after s e b =
     let k : n ≡ length xs = cc in
     ap (λ (u : List ℕ). same u s) (ap (take n) b ∙ take_at xs (drop (length xs) z) n (sym k)) ∙ written_is xs s
 
-module _ (g : Given) (z after s : List ℕ) (size : length z ≡ 1500) (w : Written) (x : Says (outcome g (length z)) w z after) where
-  pub written_none : (n : ℕ) → w ≡ Refused n → false ≡ is_written (outcome g 1500) s
-  written_none n e = none_of (outcome g 1500) n s (sym e ∙ x.answer ∙ ap (λ (k : ℕ). answer_of (outcome g k)) size)
+module _ (g : Given) (z after s : List ℕ) (size : length z ≡ 1500) (w : Result ℕ LineError) (x : Says (outcome g (length z)) w z after) where
+  pub written_none : (e : LineError) → w ≡ Err e → false ≡ is_written (outcome g 1500) s
+  written_none e q = none_of (outcome g 1500) e s (sym q ∙ x.answer ∙ ap (λ (k : ℕ). answer_of (outcome g k)) size)
 
-  pub written_same : (n : ℕ) → w ≡ Length n → (t : List ℕ) → t ≡ part after 0 n → (r : Bool) → r ≡ same t s → r ≡ is_written (outcome g 1500) s
+  pub written_same : (n : ℕ) → w ≡ Ok n → (t : List ℕ) → t ≡ part after 0 n → (r : Bool) → r ≡ same t s → r ≡ is_written (outcome g 1500) s
   written_same n e t et r er = er ∙ ap (λ (u : List ℕ). same u s) (et ∙ front_part after n)
       ∙ same_of (outcome g 1500) n z after s (sym e ∙ x.answer ∙ ap (λ (k : ℕ). answer_of (outcome g k)) size) (x.buffer ∙ ap (λ (k : ℕ). buffer_of (outcome g k) z) size)
 
@@ -246,38 +232,37 @@ module _ (g : Given) (z after s : List ℕ) (size : length z ≡ 1500) (w : Writ
 held_value : (k : ℕ) (s : List ℕ) (p : Part) (z v : List ℕ) (n : ℕ) → Held (unescaped (bytes_of s p)) z v n → length z ≡ k → (x : List ℕ) → x ≡ part v 0 n → x ≡ value_of k s p
 held_value k s p z v n h size x e = e ∙ front_part v n ∙ h.taken ∙ ap (λ (k : ℕ). take k (unescaped (bytes_of s p))) size
 
--- `with_values`
-pub line_of : (s : List ℕ) (f : Parts) (sender helo receiver : List ℕ) (z v : List ℕ) (n : ℕ) → Held (unescaped (bytes_of s f.client)) z v n → length z ≡ 39 → (t : List ℕ) → t ≡ part v 0 n
-    → (a : Address) → a ≡ address_of t → (u : List ℕ) → u ≡ bytes_of s f.identity
-    → (i : Identity) → i ≡ identity_of u → (r : Bool) → r ≡ is_written (outcome (given f.result a sender helo receiver i) 1500) s → r ≡ is_line_of s f sender helo receiver
-unfolding is_line_of
-line_of s f sender helo receiver z v n h size t p a ea u eu i ei r e = rw (← held_value 39 s f.client z v n h size t p, ← ea, ← eu, ← ei) e
-
--- `with_sender`
-module _ (s : List ℕ) (f : Parts) (sender : List ℕ)
-    (z₁ v₁ : List ℕ) (n₁ : ℕ) (h₁ : Held (unescaped (bytes_of s f.helo)) z₁ v₁ n₁) (size₁ : length z₁ ≡ 255)
-    (z₂ v₂ : List ℕ) (n₂ : ℕ) (h₂ : Held (unescaped (bytes_of s f.receiver)) z₂ v₂ n₂) (size₂ : length z₂ ≡ 255)
-    (x₁ x₂ : List ℕ) (p₁ : x₁ ≡ part v₁ 0 n₁) (p₂ : x₂ ≡ part v₂ 0 n₂) where
-  pub with_hosts_lem : (r : Bool) → r ≡ is_line_of s f sender x₁ x₂ → r ≡ is_line_of s f sender (value_of 255 s f.helo) (value_of 255 s f.receiver)
-  with_hosts_lem r e = e ∙ ap (λ (x : List ℕ). is_line_of s f sender x x₂) (held_value 255 s f.helo z₁ v₁ n₁ h₁ size₁ x₁ p₁)
-      ∙ ap (λ (x : List ℕ). is_line_of s f sender (value_of 255 s f.helo) x) (held_value 255 s f.receiver z₂ v₂ n₂ h₂ size₂ x₂ p₂)
-
 -- `is_line`
-pub line_or_not : (s : List ℕ) (f : Parts) (z v : List ℕ) (n : ℕ) → Held (unescaped (bytes_of s f.sender)) z v n → length z ≡ 320 → (x : List ℕ) → x ≡ part v 0 n
-    → (r : Bool) → r ≡ is_line_of s f x (value_of 255 s f.helo) (value_of 255 s f.receiver) → r ≡ is_line s f
-unfolding is_line
-line_or_not s f z v n h size x p r e = e ∙ ap (λ (y : List ℕ). is_line_of s f y (value_of 255 s f.helo) (value_of 255 s f.receiver)) (held_value 320 s f.sender z v n h size x p)
+module _ (s : List ℕ) (f : Parts)
+    (z₁ v₁ : List ℕ) (n₁ : ℕ) (h₁ : Held (unescaped (bytes_of s f.client)) z₁ v₁ n₁) (size₁ : length z₁ ≡ 39)
+    (z₂ v₂ : List ℕ) (n₂ : ℕ) (h₂ : Held (unescaped (bytes_of s f.sender)) z₂ v₂ n₂) (size₂ : length z₂ ≡ 320)
+    (z₃ v₃ : List ℕ) (n₃ : ℕ) (h₃ : Held (unescaped (bytes_of s f.helo)) z₃ v₃ n₃) (size₃ : length z₃ ≡ 255)
+    (z₄ v₄ : List ℕ) (n₄ : ℕ) (h₄ : Held (unescaped (bytes_of s f.receiver)) z₄ v₄ n₄) (size₄ : length z₄ ≡ 255) where
+  pub line_or_not : (t : List ℕ) → t ≡ part v₁ 0 n₁ → (a : Address) → a ≡ address_of t → (x₂ x₃ x₄ : List ℕ) → x₂ ≡ part v₂ 0 n₂ → x₃ ≡ part v₃ 0 n₃ → x₄ ≡ part v₄ 0 n₄
+      → (u : List ℕ) → u ≡ bytes_of s f.identity → (i : Identity) → i ≡ identity_of u
+      → (r : Bool) → r ≡ is_written (outcome (given f.result a x₂ x₃ x₄ i) 1500) s → r ≡ is_line s f
+  unfolding is_line is_line_of
+  line_or_not t p₁ a ea x₂ x₃ x₄ p₂ p₃ p₄ u eu i ei r e =
+      rw (
+        ← held_value 39 s f.client z₁ v₁ n₁ h₁ size₁ t p₁,
+        ← held_value 320 s f.sender z₂ v₂ n₂ h₂ size₂ x₂ p₂,
+        ← held_value 255 s f.helo z₃ v₃ n₃ h₃ size₃ x₃ p₃,
+        ← held_value 255 s f.receiver z₄ v₄ n₄ h₄ size₄ x₄ p₄,
+        ← ea,
+        ← eu,
+        ← ei,
+      ) e
 
 -- `read_line`
-pub too_long : (s : List ℕ) → most_line < length s → answers.Refused 51 ≡ line_answer s
+pub too_long : (s : List ℕ) → most_line < length s → Err NoLine ≡ line_answer s
 unfolding line_answer
 too_long s h = rw (lt-leb (length s) most_line h)
 
 module _ (s : List ℕ) (short : length s ≤ most_line) (f : Parts) (e : f ≡ parts_of s) (r : Bool) (q : r ≡ is_line s f) where
-  pub line_read : r ≡ true → answers.Read f ≡ line_answer s
+  pub line_read : r ≡ true → Ok f ≡ line_answer s
   unfolding line_answer
   line_read h = rw (le-leb (length s) most_line short, ← e, ← q, h)
 
-  pub line_refused : r ≡ false → answers.Refused 51 ≡ line_answer s
+  pub line_refused : r ≡ false → Err NoLine ≡ line_answer s
   unfolding line_answer
   line_refused h = rw (le-leb (length s) most_line short, ← e, ← q, h)

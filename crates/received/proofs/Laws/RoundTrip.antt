@@ -1,5 +1,6 @@
 -- The three calls together: what is written is read back to the same result and values, and what is read was written. From the laws of deciding and
 -- inverse.
+use Rattle.std.proofs.Common.{Result, Ok, Err}
 use Prim.Native.Nat.{ℕ, ◌+◌, ◌*◌, ◌≤◌}
 use mathlib.Core.Path.{◌≡◌, refl, sym, ap, subst, ◌∙◌}
 use mathlib.Core.List.{List, [], ◌∷◌, ◌++◌}
@@ -22,18 +23,15 @@ use Rattle.address_text.proofs.Laws.Lengths.{length_readable}
 use Rattle.macros.specs.Expansion.{is_sender, is_host}
 use Rattle.received.specs.Quoting.{quote, escaped}
 use Rattle.received.specs.Line.{Values, Line}
-use Rattle.received.specs.Numbers.{Outcome, refused, written, answer_of, buffer_of, Says}
+use Rattle.received.specs.Numbers.{Outcome, answer_of, buffer_of, Says}
 use Rattle.received.specs.Answers.{Given, given, identity_text, values_of, most_line, Writes, fits, WritesLine, LineFor, ReadsLine, reads, PartOf}
 use Rattle.received.specs.RoundTrip.{Gives, bytes_at, UnquotedTo, ReadBack, WrittenFrom, PartIn, receiver, client, sender, helo, identity, GivenPart, RoundTrip}
 use Rattle.received.specs.States.{is_dot_atom_text}
 use Rattle.received.specs.Texts.{word_of, formed, text_of, parts_in}
 use Rattle.received.specs.declared.Identity.{Identity}
 use Rattle.received.specs.declared.Identity.TheVariants.{MailFrom, Helo}
-use Rattle.received.specs.declared.Written.{Written}
-use Rattle.received.specs.declared.Written.TheVariants.{Length}
 use Rattle.received.specs.declared.Parts.{Parts}
-use Rattle.received.specs.declared.LineAnswer.{LineAnswer}
-use Rattle.received.specs.declared.LineAnswer.TheVariants as answers
+use Rattle.received.specs.declared.LineError.{LineError}
 use Rattle.received.proofs.Laws.Quoting.{escaped_one, escaped_length}
 use Rattle.received.proofs.Laws.Lines.{line_is, line_one, line_flat}
 use Rattle.received.proofs.Laws.Clients.{readable_printable}
@@ -41,7 +39,7 @@ use Rattle.received.proofs.Laws.Inverse.{PartBytes, parts_stand, line_stands, se
 use Rattle.received.proofs.Laws.Deciding.{writes_is, reads_one, value_is}
 
 -- what a call gives, from its outcome
-gives : (xs : List ℕ) (o : Outcome) → o ≡ written xs → (r : Written) (before after : List ℕ) → Says o r before after → Gives xs r before after
+gives : (xs : List ℕ) (o : Outcome) → o ≡ Ok xs → (r : Result ℕ LineError) (before after : List ℕ) → Says o r before after → Gives xs r before after
 gives xs o e r before after x = record {
   answer = x.answer ∙ ap answer_of e;
   buffer = x.buffer ∙ ap (λ (z : Outcome). buffer_of z before) e;
@@ -98,12 +96,12 @@ all_parts {g} {s} {f} w =
     }
 
 -- what is written is read back
-read_back : (g : Given) (s : List ℕ) (f : Parts) → LineFor g s f → (r : LineAnswer) → ReadsLine s r → ReadBack g s r
+read_back : (g : Given) (s : List ℕ) (f : Parts) → LineFor g s f → (r : Result Parts LineError) → ReadsLine s r → ReadBack g s r
 read_back g s f w r x =
     let p = all_parts w in
     record {
       parts = f;
-      answer = reads_one s r (answers.Read f) x (reads w);
+      answer = reads_one s r (Ok f) x (reads w);
       result = (line_stands w).result;
       values = record {
         receiver = unquoted_to _ _ p.receiver;
@@ -117,13 +115,13 @@ read_back g s f w r x =
 front_line : (xs before : List ℕ) → take (length xs) (xs ++ drop (length xs) before) ≡ xs
 front_line xs before = take_at xs (drop (length xs) before) (length xs) refl
 
-written_read : (g : Given) → InRange g.client → (n : ℕ) (before after : List ℕ) → WritesLine g (Length n) before after
-    → (r : LineAnswer) → ReadsLine (take n after) r → ReadBack g (take n after) r
+written_read : (g : Given) → InRange g.client → (n : ℕ) (before after : List ℕ) → WritesLine g (Ok n) before after
+    → (r : Result Parts LineError) → ReadsLine (take n after) r → ReadBack g (take n after) r
 written_read g range n before after w r x = by w.outcome w.writes w.says.answer w.says.buffer
   where
-    by : (o : Outcome) → Writes g (length before) o → Length n ≡ answer_of o → after ≡ buffer_of o before → ReadBack g (take n after) r
-    by (refused m) u e b = absurd (let q : ◌≡◌ {A = ℕ} 0 1 = cc in omega arith)
-    by (written xs) (fits {f = f} fit l short room) e b =
+    by : (o : Outcome) → Writes g (length before) o → Ok n ≡ answer_of o → after ≡ buffer_of o before → ReadBack g (take n after) r
+    by (Err m) u e b = absurd (let q : ◌≡◌ {A = ℕ} 0 1 = cc in omega arith)
+    by (Ok xs) (fits {f = f} fit l short room) e b =
         let k : n ≡ length xs = cc in
         let t : take n after ≡ xs = ap (take n) b ∙ ap (λ (m : ℕ). take m (xs ++ drop (length xs) before)) k ∙ front_line xs before in
         let lf : LineFor g xs f = record { client = range; fit = fit; line = l; short = short } in
@@ -136,7 +134,7 @@ line_writes g s f w = record {
   writes = λ r before after h x. gives s x.outcome (writes_is x.writes ∙ sym (writes_is (fits w.fit w.line w.short h))) r before after x.says;
 }
 
-read_written : (s : List ℕ) (f : Parts) → ReadsLine s (answers.Read f) → (g : Given) × WrittenFrom s g
+read_written : (s : List ℕ) (f : Parts) → ReadsLine s (Ok f) → (g : Given) × WrittenFrom s g
 read_written s f (reads {g} w) = (g, line_writes g s f w)
 
 -- one line, one reading

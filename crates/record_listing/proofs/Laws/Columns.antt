@@ -1,154 +1,142 @@
 -- A term's line, written piece after piece: one rule for each way out of the functions that write it. From the definitions of Lines and the laws on
 -- writing of `text`.
+use Rattle.std.proofs.Common.{None, Option, Some, Bor, unwrap_or}
 use Prim.Native.Nat.{ℕ}
-use mathlib.Core.Path.{◌≡◌, refl, ◌∙◌}
+use mathlib.Core.Path.{◌≡◌, ◌∙◌}
 use mathlib.Core.List.{List, [], ◌∷◌, ◌++◌, map}
-use mathlib.Core.Bool.{Bool, true, false, cond}
+use mathlib.Core.Bool.{Bool, true, false, cond, not}
 use lib.Dec.{eqb}
 use Rattle.text.specs.Bytes.{part, lower}
 use Rattle.text.specs.Texts.{bytes}
-use Rattle.text.specs.Writing.{Wrote}
+use Rattle.text.specs.Writing.{Writes}
+use Rattle.text.specs.declared.writing.Writer.{Writer}
+use Rattle.std.specs.Bool.{then_some}
+use Rattle.record_listing.specs.declared.Columns.{Columns}
 use Rattle.text.proofs.Laws.Writing.{wrote_then}
 use Rattle.address_text.specs.Digits.{in_decimal}
 use Rattle.address.specs.declared.Address.{Address}
 use Rattle.address.specs.declared.Address.TheVariants.{IPv4, IPv6}
-use Rattle.records.specs.Readings.{Optional, absent, present, bytes_or}
-use Rattle.records.specs.Numbers.{network_said, said_of}
+use Rattle.records.specs.Readings.{absent, present, bytes_or}
+use Rattle.records.specs.Numbers.{said_of, sign_of}
 use Rattle.records.specs.Answers.{ReadsArgument}
 use Rattle.records.specs.declared.Term.{Term}
-use Rattle.records.proofs.Laws.Checking.{network_bytes}
-use Rattle.record_listing.specs.Lines.{sign_text, length_text, lead, argument_text, columns, said_line, column_of, given}
-use Rattle.record_listing.specs.declared.Column.{Column}
-use Rattle.record_listing.specs.declared.Column.TheVariants.{Of, Absent}
+use Rattle.record_listing.specs.Lines.{sign_text, length_text, lead, argument_text, columns, said_line, column_of, argument_of, columns_of}
 
-module _ (out : List ℕ) (at : ℕ) (o₁ : List ℕ) (n₁ : ℕ) (o₂ : List ℕ) (n₂ : ℕ) where
-  -- `put_sign` and `put_length`
-  module _ (c : Column) (u : Wrote (32 ∷ []) out at o₁ n₁) where
-    pub sign_written : (b : ℕ) → c ≡ Of b → Wrote (b ∷ []) o₁ n₁ o₂ n₂ → Wrote (bytes " " ++ sign_text (column_of c)) out at o₂ n₂
-    unfolding sign_text
-    sign_written b e v = rw e (wrote_then out at (32 ∷ []) (b ∷ []) o₁ o₂ n₁ n₂ u v)
+-- one piece after another
+pub writes_then : (xs ys : List ℕ) (a b c : Writer) → Writes xs a b → Writes ys b c → Writes (xs ++ ys) a c
+writes_then xs ys a b c v w =
+    record { wrote = wrote_then a.out.now a.at xs ys b.out.now c.out.now b.at c.at v.wrote w.wrote; same = w.same ∙ v.same }
 
-    pub no_sign_written : c ≡ Absent → Wrote (46 ∷ []) o₁ n₁ o₂ n₂ → Wrote (bytes " " ++ sign_text (column_of c)) out at o₂ n₂
-    unfolding sign_text
-    no_sign_written e v = rw e (wrote_then out at (32 ∷ []) (46 ∷ []) o₁ o₂ n₁ n₂ u v)
+module _ (a b c : Writer) (u : Writes (32 ∷ []) a b) where
+  -- `put_sign`
+  pub sign_written : (sign : Option ℕ) (x : ℕ) → x ≡ unwrap_or sign 46 → Writes (x ∷ []) b c → Writes (bytes " " ++ sign_text (column_of sign)) a c
+  unfolding sign_text
+  sign_written (Some n) x e v = writes_then (32 ∷ []) (n ∷ []) a b c u (rw e at v)
+  sign_written None x e v = writes_then (32 ∷ []) (46 ∷ []) a b c u (rw e at v)
 
-    pub length_written : (n : ℕ) → c ≡ Of n → Wrote (in_decimal n) o₁ n₁ o₂ n₂ → Wrote (bytes " " ++ length_text (column_of c)) out at o₂ n₂
+  -- `put_length`
+  module _ (l : Option ℕ) where
+    pub length_written : (n : ℕ) → l ≡ Some n → Writes (in_decimal n) b c → Writes (bytes " " ++ length_text (column_of l)) a c
     unfolding length_text
-    length_written n e v = rw e (wrote_then out at (32 ∷ []) (in_decimal n) o₁ o₂ n₁ n₂ u v)
+    length_written n e v = rw e (writes_then (32 ∷ []) (in_decimal n) a b c u v)
 
-    pub no_length_written : c ≡ Absent → Wrote (46 ∷ []) o₁ n₁ o₂ n₂ → Wrote (bytes " " ++ length_text (column_of c)) out at o₂ n₂
+    pub no_length_written : l ≡ None → Writes (46 ∷ []) b c → Writes (bytes " " ++ length_text (column_of l)) a c
     unfolding length_text
-    no_length_written e v = rw e (wrote_then out at (32 ∷ []) (46 ∷ []) o₁ o₂ n₁ n₂ u v)
+    no_length_written e v = rw e (writes_then (32 ∷ []) (46 ∷ []) a b c u v)
 
-    -- `put_argument`
-    module _ (lacks : Bool) (argument : List ℕ) where
-      pub no_argument_written : lacks ≡ true → Wrote (46 ∷ []) o₁ n₁ o₂ n₂
-          → Wrote (bytes " " ++ argument_text (column_of c) (given lacks argument)) out at o₂ n₂
-      unfolding argument_text
-      no_argument_written e v = rw e (wrote_then out at (32 ∷ []) (46 ∷ []) o₁ o₂ n₁ n₂ u v)
+  -- `put_argument`
+  module _ (sign : Option ℕ) (argument : Option (Bor (List ℕ))) where
+    pub no_argument_written : argument ≡ None → Writes (46 ∷ []) b c → Writes (bytes " " ++ argument_text (column_of sign) (argument_of argument)) a c
+    unfolding argument_text
+    no_argument_written e v = rw e (writes_then (32 ∷ []) (46 ∷ []) a b c u v)
 
-      pub argument_written : lacks ≡ false → (l : ℕ) → l ≡ lead (column_of c) → Wrote (l ∷ []) o₁ n₁ o₂ n₂ → (o₃ : List ℕ) (n₃ : ℕ)
-          → Wrote argument o₂ n₂ o₃ n₃
-          → Wrote (bytes " " ++ argument_text (column_of c) (given lacks argument)) out at o₃ n₃
-      unfolding argument_text
-      argument_written e l p v o₃ n₃ w =
-          rw (e, ← p) (wrote_then out at (32 ∷ []) (l ∷ argument) o₁ o₃ n₁ n₃ u (wrote_then o₁ n₁ (l ∷ []) argument o₂ o₃ n₂ n₃ v w))
+    pub argument_written : (x : Bor (List ℕ)) → argument ≡ Some x → (l : ℕ) → l ≡ lead (column_of sign) → Writes (l ∷ []) b c → (d : Writer) → Writes x.now c d
+        → Writes (bytes " " ++ argument_text (column_of sign) (argument_of argument)) a d
+    unfolding argument_text
+    argument_written x e l p v d w = rw (e, ← p) (writes_then (32 ∷ []) (l ∷ x.now) a b d u (writes_then (l ∷ []) x.now b c d v w))
 
 -- `lead_of`
-module _ (c : Column) where
-  pub mechanism_lead : (b : ℕ) → c ≡ Of b → 58 ≡ lead (column_of c)
+module _ (c : Option ℕ) where
+  pub mechanism_lead : (b : ℕ) → c ≡ Some b → 58 ≡ lead (column_of c)
   unfolding lead
   mechanism_lead b e = rw e
 
-  pub modifier_lead : c ≡ Absent → 61 ≡ lead (column_of c)
+  pub modifier_lead : c ≡ None → 61 ≡ lead (column_of c)
   unfolding lead
   modifier_lead e = rw e
 
 -- `put_columns`
-module _ (out : List ℕ) (at : ℕ) (name : List ℕ) (sign : Optional ℕ) (argument : Optional (List ℕ)) (four six : Optional ℕ) where
-  pub columns_written : (o₁ : List ℕ) (n₁ : ℕ) (o₂ : List ℕ) (n₂ : ℕ) (o₃ : List ℕ) (n₃ : ℕ) (o₄ : List ℕ) (n₄ : ℕ) (o₅ : List ℕ) (n₅ : ℕ) (o₆ : List ℕ) (n₆ : ℕ)
-      → Wrote (map lower name) out at o₁ n₁ → Wrote (bytes " " ++ sign_text sign) o₁ n₁ o₂ n₂
-      → Wrote (bytes " " ++ argument_text sign argument) o₂ n₂ o₃ n₃
-      → Wrote (bytes " " ++ length_text four) o₃ n₃ o₄ n₄ → Wrote (bytes " " ++ length_text six) o₄ n₄ o₅ n₅ → Wrote (10 ∷ []) o₅ n₅ o₆ n₆
-      → Wrote (columns name sign argument four six) out at o₆ n₆
+module _ (x : Columns) where
+  pub columns_written : (a b c d e f g : Writer) → Writes (map lower x.name.now) a b → Writes (bytes " " ++ sign_text (column_of x.sign)) b c
+      → Writes (bytes " " ++ argument_text (column_of x.sign) (argument_of x.argument)) c d → Writes (bytes " " ++ length_text (column_of x.four)) d e
+      → Writes (bytes " " ++ length_text (column_of x.six)) e f → Writes (10 ∷ []) f g → Writes (columns_of x) a g
   unfolding columns
-  columns_written o₁ n₁ o₂ n₂ o₃ n₃ o₄ n₄ o₅ n₅ o₆ n₆ u v w x y z =
-      wrote_then out at _ _ o₅ o₆ n₅ n₆
-      (wrote_then out at _ _ o₄ o₅ n₄ n₅
-      (wrote_then out at _ _ o₃ o₄ n₃ n₄ (wrote_then out at _ _ o₂ o₃ n₂ n₃ (wrote_then out at _ _ o₁ o₂ n₁ n₂ u v) w) x) y) z
+  columns_written a b c d e f g p q r s t u =
+      writes_then _ _ a f g (writes_then _ _ a e f (writes_then _ _ a d e (writes_then _ _ a c d (writes_then _ _ a b c p q) r) s) t) u
 
--- `put_network`
-module _ (sign : ℕ) (argument : List ℕ) (address : Address) (n : ℕ) (out : List ℕ) (at : ℕ) (o : List ℕ) (r : ℕ) where
-  pub four_said : (v : ℕ) → address ≡ IPv4 v → Wrote (columns (bytes "ip4") (present sign) (present argument) (present n) absent) out at o r
-      → Wrote (said_line (network_said sign argument address n)) out at o r
-  unfolding said_line
-  four_said v e w = rw e w
+-- an argument that may be absent, as the code tells it
+given_is : (t : Bool) (x : Bor (List ℕ)) (y : List ℕ) → x.now ≡ bytes_or (cond t absent (present y)) → (arg : Option (Bor (List ℕ)))
+    → arg ≡ then_some (not t) x → argument_of arg ≡ cond t absent (present y)
+given_is true x y e arg h = rw h
+given_is false x y e arg h = rw (h, e)
 
-  pub six_said : (high low : ℕ) → address ≡ IPv6 high low
-      → Wrote (columns (bytes "ip6") (present sign) (present argument) absent (present n)) out at o r
-      → Wrote (said_line (network_said sign argument address n)) out at o r
-  unfolding said_line
-  six_said high low e w = rw e w
-
--- an argument that may be absent is given by its bytes and the test
-given_is : (t : Bool) (x : List ℕ) → given t (bytes_or (cond t absent (present x))) ≡ cond t absent (present x)
-given_is true x = refl
-given_is false x = refl
-
--- `put_said`
-module _ (s : List ℕ) (place next : ℕ) (t : Term) (argument : List ℕ) (said : ReadsArgument s place next t argument) (out : List ℕ) (at : ℕ) (o : List ℕ) (r : ℕ) where
-  pub all_said : (sign : ℕ) → t ≡ Term.All sign → Wrote (columns (bytes "all") (present sign) absent absent absent) out at o r
-      → Wrote (said_line (said_of (part s place next) t)) out at o r
+-- `said_columns`
+module _ (s : List ℕ) (at next : ℕ) (t : Term) (argument : Bor (List ℕ)) (said : ReadsArgument s at next t argument.now) (sign : Option ℕ) (signed : sign ≡ sign_of t) where
+  pub all_said : (g : ℕ) → t ≡ Term.All g → (name : Bor (List ℕ)) → name.now ≡ bytes "all"
+      → columns_of (record { name = name; sign = sign; argument = None; four = None; six = None }) ≡ said_line (said_of (part s at next) t)
   unfolding said_line said_of
-  all_said sign e v = rw e v
+  all_said g e name n = rw (signed, e, n)
 
-  pub include_said : (sign from to : ℕ) → t ≡ Term.Include sign from to
-      → Wrote (columns (bytes "include") (present sign) (present argument) absent absent) out at o r
-      → Wrote (said_line (said_of (part s place next) t)) out at o r
+  pub include_said : (g from to : ℕ) → t ≡ Term.Include g from to → (name : Bor (List ℕ)) → name.now ≡ bytes "include"
+      → columns_of (record { name = name; sign = sign; argument = Some argument; four = None; six = None }) ≡ said_line (said_of (part s at next) t)
   unfolding said_line said_of
-  include_said sign from to e v = let b = rw e at said in rw (e, ← b) v
+  include_said g from to e name n = let b = rw e at said in rw (signed, e, n, b)
 
-  pub exists_said : (sign from to : ℕ) → t ≡ Term.Exists sign from to
-      → Wrote (columns (bytes "exists") (present sign) (present argument) absent absent) out at o r
-      → Wrote (said_line (said_of (part s place next) t)) out at o r
+  pub exists_said : (g from to : ℕ) → t ≡ Term.Exists g from to → (name : Bor (List ℕ)) → name.now ≡ bytes "exists"
+      → columns_of (record { name = name; sign = sign; argument = Some argument; four = None; six = None }) ≡ said_line (said_of (part s at next) t)
   unfolding said_line said_of
-  exists_said sign from to e v = let b = rw e at said in rw (e, ← b) v
+  exists_said g from to e name n = let b = rw e at said in rw (signed, e, n, b)
 
-  pub redirect_said : (from to : ℕ) → t ≡ Term.Redirect from to → Wrote (columns (bytes "redirect") absent (present argument) absent absent) out at o r
-      → Wrote (said_line (said_of (part s place next) t)) out at o r
+  pub redirect_said : (from to : ℕ) → t ≡ Term.Redirect from to → (name : Bor (List ℕ)) → name.now ≡ bytes "redirect"
+      → columns_of (record { name = name; sign = sign; argument = Some argument; four = None; six = None }) ≡ said_line (said_of (part s at next) t)
   unfolding said_line said_of
-  redirect_said from to e v = let b = rw e at said in rw (e, ← b) v
+  redirect_said from to e name n = let b = rw e at said in rw (signed, e, n, b)
 
-  pub explanation_said : (from to : ℕ) → t ≡ Term.Explanation from to → Wrote (columns (bytes "exp") absent (present argument) absent absent) out at o r
-      → Wrote (said_line (said_of (part s place next) t)) out at o r
+  pub exp_said : (from to : ℕ) → t ≡ Term.Explanation from to → (name : Bor (List ℕ)) → name.now ≡ bytes "exp"
+      → columns_of (record { name = name; sign = sign; argument = Some argument; four = None; six = None }) ≡ said_line (said_of (part s at next) t)
   unfolding said_line said_of
-  explanation_said from to e v = let b = rw e at said in rw (e, ← b) v
+  exp_said from to e name n = let b = rw e at said in rw (signed, e, n, b)
 
-  pub unknown_said : (name to : ℕ) → t ≡ Term.Unknown name to → (u x : List ℕ) → u ≡ part s place next → x ≡ part u 0 name
-      → Wrote (columns x absent (present argument) absent absent) out at o r → Wrote (said_line (said_of (part s place next) t)) out at o r
+  pub a_said : (g from to four six : ℕ) → t ≡ Term.A g from to four six → (arg : Option (Bor (List ℕ))) → arg ≡ then_some (not (eqb from to)) argument → (name : Bor (List ℕ)) → name.now ≡ bytes "a"
+      → columns_of (record { name = name; sign = sign; argument = arg; four = Some four; six = Some six }) ≡ said_line (said_of (part s at next) t)
   unfolding said_line said_of
-  unknown_said name to e u x p q v = let b = rw e at said in rw (e, ← b, ← p, ← q) v
+  a_said g from to four six e arg p name n =
+      let b = rw e at said in rw (signed, e, n, given_is (eqb from to) argument (part (part s at next) from to) b arg p)
 
-  pub network_said_lem : (sign from to : ℕ) (x : Address) (n : ℕ) → t ≡ Term.Network sign from to x n
-      → Wrote (said_line (network_said sign argument x n)) out at o r
-      → Wrote (said_line (said_of (part s place next) t)) out at o r
-  unfolding said_of
-  network_said_lem sign from to x n e v = let b = rw e at said in rw e (rw (b ∙ network_bytes sign (part (part s place next) from to) x n) at v)
+  pub mx_said : (g from to four six : ℕ) → t ≡ Term.Mx g from to four six → (arg : Option (Bor (List ℕ))) → arg ≡ then_some (not (eqb from to)) argument → (name : Bor (List ℕ)) → name.now ≡ bytes "mx"
+      → columns_of (record { name = name; sign = sign; argument = arg; four = Some four; six = Some six }) ≡ said_line (said_of (part s at next) t)
+  unfolding said_line said_of
+  mx_said g from to four six e arg p name n =
+      let b = rw e at said in rw (signed, e, n, given_is (eqb from to) argument (part (part s at next) from to) b arg p)
 
-  module _ (sign from to : ℕ) where
-    pub ptr_said : t ≡ Term.Ptr sign from to → Wrote (columns (bytes "ptr") (present sign) (given (eqb from to) argument) absent absent) out at o r
-        → Wrote (said_line (said_of (part s place next) t)) out at o r
+  pub ptr_said : (g from to : ℕ) → t ≡ Term.Ptr g from to → (arg : Option (Bor (List ℕ))) → arg ≡ then_some (not (eqb from to)) argument → (name : Bor (List ℕ)) → name.now ≡ bytes "ptr"
+      → columns_of (record { name = name; sign = sign; argument = arg; four = None; six = None }) ≡ said_line (said_of (part s at next) t)
+  unfolding said_line said_of
+  ptr_said g from to e arg p name n =
+      let b = rw e at said in rw (signed, e, n, given_is (eqb from to) argument (part (part s at next) from to) b arg p)
+
+  pub unknown_said : (name to : ℕ) → t ≡ Term.Unknown name to → (u : List ℕ) → u ≡ part s at next → (x : Bor (List ℕ)) → x.now ≡ part u 0 name
+      → columns_of (record { name = x; sign = sign; argument = Some argument; four = None; six = None }) ≡ said_line (said_of (part s at next) t)
+  unfolding said_line said_of
+  unknown_said name to e u p x q = let b = rw e at said in rw (signed, e, b, q, p)
+
+  module _ (g from to : ℕ) (a : Address) (n : ℕ) (e : t ≡ Term.Network g from to a n) (name : Bor (List ℕ)) where
+    pub ip4_said : (v : ℕ) → a ≡ IPv4 v → name.now ≡ bytes "ip4"
+        → columns_of (record { name = name; sign = sign; argument = Some argument; four = Some n; six = None }) ≡ said_line (said_of (part s at next) t)
     unfolding said_line said_of
-    ptr_said e v = let b = rw e at said in rw e (rw (b, given_is) at v)
+    ip4_said v k q = let b = rw (e, k) at said in rw (signed, e, k, q, b)
 
-    pub a_said : (n m : ℕ) → t ≡ Term.A sign from to n m
-        → Wrote (columns (bytes "a") (present sign) (given (eqb from to) argument) (present n) (present m)) out at o r
-        → Wrote (said_line (said_of (part s place next) t)) out at o r
+    pub ip6_said : (high low : ℕ) → a ≡ IPv6 high low → name.now ≡ bytes "ip6"
+        → columns_of (record { name = name; sign = sign; argument = Some argument; four = None; six = Some n }) ≡ said_line (said_of (part s at next) t)
     unfolding said_line said_of
-    a_said n m e v = let b = rw e at said in rw e (rw (b, given_is) at v)
-
-    pub mx_said : (n m : ℕ) → t ≡ Term.Mx sign from to n m
-        → Wrote (columns (bytes "mx") (present sign) (given (eqb from to) argument) (present n) (present m)) out at o r
-        → Wrote (said_line (said_of (part s place next) t)) out at o r
-    unfolding said_line said_of
-    mx_said n m e v = let b = rw e at said in rw e (rw (b, given_is) at v)
+    ip6_said high low k q = let b = rw (e, k) at said in rw (signed, e, k, q, b)

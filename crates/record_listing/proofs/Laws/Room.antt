@@ -1,5 +1,6 @@
 -- What is printed of a record has at most 320,000 bytes: a term's line has at most 76 more than its name and argument, which stand in the term, and
 -- each term has a byte of the record. From the definitions of Lines and the answers of `records`.
+use Rattle.std.proofs.Common.{None, Ok, Err, Some}
 use Prim.Native.Nat.{ℕ, ◌+◌, ◌-◌, ◌*◌, ◌≤◌, ◌<◌}
 use mathlib.Core.Path.{◌≡◌, ap}
 use mathlib.Core.List.{List}
@@ -10,10 +11,9 @@ use Rattle.address_text.proofs.Laws.Lengths.{length_decimal}
 use Rattle.address.specs.declared.Address.TheVariants.{IPv4, IPv6}
 use Rattle.text.proofs.Laws.Spans.{part_length}
 use Rattle.records.specs.Readings.{Optional, absent, present, Said, Placed, bytes_or}
-use Rattle.records.specs.Numbers.{optional, said_of, term, term_report}
+use Rattle.records.specs.Numbers.{optional, said_of, term, term_report, TermAnswer}
 use Rattle.records.specs.Reader.{read_term, Reads, stop, step}
 use Rattle.records.specs.declared.Term.{Term}
-use Rattle.records.specs.declared.TermAnswer.{TermAnswer}
 use Rattle.records.proofs.Laws.Terms.{Found, found}
 use Rattle.records.proofs.Laws.Records.{record_complete}
 use Rattle.records.proofs.Laws.Checking.{optional_bytes}
@@ -83,15 +83,16 @@ step_length : (s : List ℕ) (i : ℕ) (t : Placed) (next : ℕ) → term_report
 step_length s i t next e f = by (read_term s i) e
   where
     by : (x : TermAnswer) → term_report s x ≡ term next t → length (line_of t) ≤ 78 * (next - i)
-    by TermAnswer.End g = let z : ◌≡◌ {A = ℕ} 0 1 = cc in absurd (omega arith)
-    by (TermAnswer.Refused m q) g = let z : ◌≡◌ {A = ℕ} 0 1 = cc in absurd (omega arith)
-    by (TermAnswer.Is place m u) g =
-        let y : record { place = place; said = said_of (part s place m) u } ≡ t = cc in
-        let k : m ≡ next = cc in
-        let p : place ≡ t.place = ap (λ (z : Placed). z.place) y in
-        let w : length (part s place m) ≤ m - place = rw length-take (omega arith) in
-        let a = parts_length (part s place m) u in
-        let l = line_length (record { place = place; said = said_of (part s place m) u }) in
+    by (Ok None) g = let z : ◌≡◌ {A = ℕ} 0 1 = cc in absurd (omega arith)
+    by (Err x) g = let z : ◌≡◌ {A = ℕ} 0 1 = cc in absurd (omega arith)
+    by (Ok (Some x)) g =
+        let w = part s x.at x.next in
+        let y : record { place = x.at; said = said_of w x.term } ≡ t = cc in
+        let k : x.next ≡ next = cc in
+        let p : x.at ≡ t.place = ap (λ (z : Placed). z.place) y in
+        let n : length w ≤ x.next - x.at = rw length-take (omega arith) in
+        let a = parts_length w x.term in
+        let l = line_length (record { place = x.at; said = said_of w x.term }) in
         rw (← y) (omega (arith, f.from, f.some))
 
 lines_length : {s : List ℕ} {i : ℕ} {ts : List Placed} → Reads s i ts → length (lines_of ts) ≤ 78 * (length s - i)

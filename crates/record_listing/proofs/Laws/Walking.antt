@@ -1,48 +1,54 @@
 -- The lines of a record's terms, written one after the other: one rule for each way out of `put_terms`, `put_term`, `put_refusal`, `list_record` and
 -- the functions for cases. From the definitions of Lines, the laws of `records` on the terms that are left, and
 -- the laws on writing of `text`.
+use lib.Seq.{take-append_seam, get_or-append_seam}
+use Rattle.std.proofs.Common.{None, Ok, Err, Option, Some}
 use Prim.Native.Nat.{ℕ, ◌-◌, ◌^◌, ◌≤◌, ◌<◌}
 use mathlib.Core.Path.{◌≡◌, refl, sym, ap, subst, ◌∙◌}
 use mathlib.Core.List.{List, [], ◌∷◌, ◌++◌, append-nil, append_assoc}
 use native.Mathlib.Omega.{arith}
-use lib.ListN.{length, get_or}
-use borrow.Author.Tests.{eq-eqb, ne_eqb}
+use lib.ListN.{length, get_or, take, length-append}
+use borrow.Author.Tests.{ne_eqb}
 use Rattle.text.specs.Bytes.{part}
 use Rattle.text.specs.Texts.{bytes}
-use Rattle.text.specs.Writing.{Wrote}
-use Rattle.text.proofs.Laws.Writing.{wrote_none, wrote_then, wrote_over, wrote_length, length_wrote}
+use Rattle.text.specs.Writing.{Wrote, Writes}
+use Rattle.text.specs.declared.writing.Writer.{Writer}
+use Rattle.records.specs.declared.ReadTerm.{ReadTerm}
+use Rattle.records.specs.declared.Refusal.{Refusal}
+use Rattle.records.proofs.Laws.Arguments.{stands}
+use Rattle.record_listing.proofs.Laws.Columns.{writes_then}
+use Rattle.text.proofs.Laws.Writing.{wrote_none, wrote_then, wrote_over, wrote_length}
 use Rattle.address_text.specs.Digits.{in_decimal}
 use Rattle.records.specs.Readings.{Said, Placed}
-use Rattle.records.specs.Numbers.{record_report, term_report, said_of}
+use Rattle.records.specs.Numbers.{record_report, term_report, said_of, TermAnswer, RecordAnswer, number_of}
 use Rattle.records.specs.Answers.{RecordAnswers}
 use Rattle.records.specs.Reader.{read_term, Reads}
 use Rattle.records.specs.Beginnings.{pointed_record}
-use Rattle.records.specs.declared.Term.{Term}
-use Rattle.records.specs.declared.TermAnswer.{TermAnswer}
-use Rattle.records.specs.declared.RecordAnswer.{RecordAnswer}
 use Rattle.records.proofs.Laws.Records.{record_complete, record_answers, accepting}
-use Rattle.records.proofs.Laws.Remaining.{placed, reads_next, reads_out, reads_end}
+use Rattle.records.proofs.Laws.Remaining.{placed, reads_next, reads_out}
 use Rattle.record_listing.proofs.Laws.Room.{prints_length}
-use Rattle.record_listing.specs.Lines.{said_line, line_of, lines_of, listing_of, refusal_line, Prints, lists, refuses, Listed, room, without_newline, reading_line, term_line}
+use Rattle.record_listing.specs.Lines.{said_line, line_of, lines_of, listing_of, refusal_line, lists, refuses, Listed, room, without_newline, reading_line, term_line, Shown}
 
 -- the lines of the terms that were passed, and those that are left
-pub record Walked (s out : List ℕ) (from : ℕ) (ts : List Placed) (i : ℕ) (o : List ℕ) (n : ℕ) : Type 0 where
+pub record Walked (s : List ℕ) (a : Writer) (ts : List Placed) (i : ℕ) (b : Writer) : Type 0 where
   pub done : List Placed
   pub left : List Placed
   pub whole : lines_of ts ≡ lines_of done ++ lines_of left
   pub reads : Reads s i left
-  pub wrote : Wrote (lines_of done) out from o n
+  pub writes : Writes (lines_of done) a b
 
 -- `put_terms`: for each reading from the first place on
-pub record Walking (s : List ℕ) (start : ℕ) (out : List ℕ) (from i : ℕ) (o : List ℕ) (n : ℕ) : Type 0 where
-  pub same_size : length o ≡ length out
-  pub each : (ts : List Placed) → Reads s start ts → Walked s out from ts i o n
+abbrev pub Walking : List ℕ → ℕ → Writer → ℕ → Writer → Type 0
+Walking s start a i b = (ts : List Placed) → Reads s start ts → Walked s a ts i b
 
-pub walking_start : (s : List ℕ) (start : ℕ) (out : List ℕ) (from : ℕ) → from < 2 ^ 64 → length out < 2 ^ 64 → Walking s start out from start out from
+pub walking_start : (s : List ℕ) (start : ℕ) (a : Writer) → a.at < 2 ^ 64 → length a.out.now < 2 ^ 64 → Walking s start a start a
 unfolding lines_of
-walking_start s start out from h k = record {
-  same_size = refl;
-  each = λ ts r. record { done = []; left = ts; whole = refl; reads = r; wrote = wrote_none out from (omega arith) (omega arith) };
+walking_start s start a h k ts r = record {
+  done = [];
+  left = ts;
+  whole = refl;
+  reads = r;
+  writes = record { wrote = wrote_none a.out.now a.at (omega arith) (omega arith); same = refl };
 }
 
 lines_append : (xs ys : List Placed) → lines_of (xs ++ ys) ≡ lines_of xs ++ lines_of ys
@@ -57,129 +63,143 @@ one_line t = append-nil (line_of t)
 moved : (done left : List Placed) (y : Placed) → lines_of done ++ lines_of (y ∷ left) ≡ lines_of (done ++ (y ∷ [])) ++ lines_of left
 moved done left y = rw (lines_append done (y ∷ []), append_assoc, ← lines_append (y ∷ []) left)
 
-module _ (s : List ℕ) (start : ℕ) (out : List ℕ) (from i : ℕ) (o : List ℕ) (n : ℕ) (w : Walking s start out from i o n) where
+module _ (s : List ℕ) (start : ℕ) (a : Writer) (i : ℕ) (b : Writer) (w : Walking s start a i b) (x : TermAnswer) (p : x ≡ read_term s i) where
   -- no term is left
-  ended : ((left : List Placed) → Reads s i left → left ≡ []) → (ts : List Placed) → Reads s start ts → Wrote (lines_of ts) out from o n
+  ended : ((t : ReadTerm) → x ≡ Ok (Some t) → ⊥) → (ts : List Placed) → Reads s start ts → Writes (lines_of ts) a b
   unfolding lines_of
-  ended k ts r = let v = w.each ts r in rw (v.whole, k v.left v.reads, append-nil) v.wrote
+  ended h ts r = let v = w ts r in rw (v.whole, reads_out v.reads x p (λ at next t e. h _ e), append-nil) v.writes
 
-  module _ (x : TermAnswer) (p : x ≡ read_term s i) where
-    pub walked_out : ((b e : ℕ) (t : Term) → x ≡ TermAnswer.Is b e t → ⊥) → (ts : List Placed) → Reads s start ts → Wrote (lines_of ts) out from o n
-    walked_out h = ended (λ left d. reads_out d x p h)
+  pub walked_out : (y : Option ReadTerm) → x ≡ Ok y → y ≡ None → (ts : List Placed) → Reads s start ts → Writes (lines_of ts) a b
+  walked_out y e h = ended (λ t f. by x y e h f)
+    where
+      by : (r : TermAnswer) (y : Option ReadTerm) → r ≡ Ok y → y ≡ None → {t : ReadTerm} → r ≡ Ok (Some t) → ⊥
+      by r y e h f = let z : ◌≡◌ {A = ℕ} 0 1 = cc in omega arith
 
-    module _ (place next : ℕ) (t : Term) (q : x ≡ TermAnswer.Is place next t) where
-      abbrev found : Placed
-      found = placed s place next t
+  pub walked_refused : (f : Refusal) → x ≡ Err f → (ts : List Placed) → Reads s start ts → Writes (lines_of ts) a b
+  walked_refused f e = ended (λ t g. by x e g)
+    where
+      by : (r : TermAnswer) → r ≡ Err f → {t : ReadTerm} → r ≡ Ok (Some t) → ⊥
+      by r e g = let z : ◌≡◌ {A = ℕ} 0 1 = cc in omega arith
 
-      on : (o' : List ℕ) (n' : ℕ) → Wrote (line_of found) o n o' n' → (ts : List Placed) → Walked s out from ts i o n → Walked s out from ts next o' n'
-      on o' n' u ts v =
-          let l = reads_next v.reads place next t (sym p ∙ q) in
-          record {
-            done = v.done ++ (found ∷ []);
-            left = l.more;
-            whole = v.whole ∙ ap (λ (us : List Placed). lines_of v.done ++ lines_of us) l.whole ∙ moved v.done l.more found;
-            reads = l.reads;
-            wrote = rw (lines_append v.done (found ∷ []), one_line found) (wrote_then out from (lines_of v.done) (line_of found) o o' n n' v.wrote u);
-          }
+  -- one more term
+  module _ (y : Option ReadTerm) (e : x ≡ Ok y) (t : ReadTerm) (taken : y ≡ Some t) where
+    q : x ≡ Ok (Some t)
+    q = e ∙ ap Ok taken
 
-      pub walked_on : (o' : List ℕ) (n' : ℕ) → Wrote (line_of found) o n o' n' → Walking s start out from next o' n'
-      walked_on o' n' u = record {
-        same_size = length_wrote o n (line_of found) o' n' u ∙ w.same_size;
-        each = λ ts r. on o' n' u ts (w.each ts r);
-      }
+    abbrev found : Placed
+    found = placed s t.at t.next t.term
 
-  pub walked_past : length s < i → (ts : List Placed) → Reads s start ts → Wrote (lines_of ts) out from o n
-  walked_past h = ended (λ left d. reads_end d (omega arith))
+    pub walked_less : length s - t.next < length s - i
+    walked_less = let k = stands s i t.at t.next t.term (sym p ∙ q) in omega (arith, k.after, k.some, k.inside)
+
+    pub walked_on : (c : Writer) → Writes (line_of found) b c → Walking s start a t.next c
+    walked_on c u ts r =
+        let v = w ts r in
+        let l = reads_next v.reads t.at t.next t.term (sym p ∙ q) in
+        record {
+          done = v.done ++ (found ∷ []);
+          left = l.more;
+          whole = v.whole ∙ ap (λ (us : List Placed). lines_of v.done ++ lines_of us) l.whole ∙ moved v.done l.more found;
+          reads = l.reads;
+          writes = rw (lines_append v.done (found ∷ []), one_line found) (writes_then (lines_of v.done) (line_of found) a b c v.writes u);
+        }
 
 -- pieces that are written one after the other
-module _ (out : List ℕ) (at : ℕ) (o₁ : List ℕ) (n₁ : ℕ) (o₂ : List ℕ) (n₂ : ℕ) where
-  pub place_written : (place : ℕ) → Wrote (in_decimal place) out at o₁ n₁ → Wrote (32 ∷ []) o₁ n₁ o₂ n₂
-      → Wrote (in_decimal place ++ bytes " ") out at o₂ n₂
-  place_written place u v = wrote_then out at (in_decimal place) (32 ∷ []) o₁ o₂ n₁ n₂ u v
+module _ (a b c : Writer) where
+  pub place_written : (place : ℕ) → Writes (in_decimal place) a b → Writes (32 ∷ []) b c → Writes (in_decimal place ++ bytes " ") a c
+  place_written place u v = writes_then (in_decimal place) (32 ∷ []) a b c u v
 
-  pub term_written : (place : ℕ) (x : Said) → Wrote (in_decimal place ++ bytes " ") out at o₁ n₁ → Wrote (said_line x) o₁ n₁ o₂ n₂
-      → Wrote (line_of (record { place = place; said = x })) out at o₂ n₂
+  pub term_written : (place : ℕ) (x : Said) → Writes (in_decimal place ++ bytes " ") a b → (l : List ℕ) → l ≡ said_line x → Writes l b c
+      → Writes (line_of (record { place = place; said = x })) a c
   unfolding line_of
-  term_written place x u v = wrote_then out at (in_decimal place ++ bytes " ") (said_line x) o₁ o₂ n₁ n₂ u v
+  term_written place x u l e v = writes_then (in_decimal place ++ bytes " ") (said_line x) a b c u (rw e at v)
 
-  module _ (o₃ : List ℕ) (n₃ : ℕ) where
-    pub refusal_written : (number place : ℕ) (o₄ : List ℕ) (n₄ : ℕ) (o₅ : List ℕ) (n₅ : ℕ) → Wrote (bytes "refused ") out at o₁ n₁
-        → Wrote (in_decimal number) o₁ n₁ o₂ n₂ → Wrote (bytes " at ") o₂ n₂ o₃ n₃ → Wrote (in_decimal place) o₃ n₃ o₄ n₄ → Wrote (10 ∷ []) o₄ n₄ o₅ n₅
-        → Wrote (refusal_line number place) out at o₅ n₅
-    unfolding refusal_line
-    refusal_written number place o₄ n₄ o₅ n₅ u v w x y =
-        wrote_then out at _ _ o₄ o₅ n₄ n₅
-        (wrote_then out at _ _ o₃ o₄ n₃ n₄ (wrote_then out at _ _ o₂ o₃ n₂ n₃ (wrote_then out at _ _ o₁ o₂ n₁ n₂ u v) w) x) y
+  pub refusal_written : (number place : ℕ) (d e f : Writer) → Writes (bytes "refused ") a b → Writes (in_decimal number) b c → Writes (bytes " at ") c d
+      → Writes (in_decimal place) d e → Writes (10 ∷ []) e f → Writes (refusal_line number place) a f
+  unfolding refusal_line
+  refusal_written number place d e f u v w x y = writes_then _ _ a e f (writes_then _ _ a d e (writes_then _ _ a c d (writes_then _ _ a b c u v) w) x) y
 
-    -- `put_reading` of a record that is accepted, and `put_term_answer` of a term
-    pub accepted_written : (s : List ℕ) (x : RecordAnswer) → x ≡ pointed_record s → (next : ℕ) → x ≡ RecordAnswer.Accepted next
-        → Wrote (bytes "accepted ") out at o₁ n₁
-        → Wrote (in_decimal next) o₁ n₁ o₂ n₂ → Wrote (10 ∷ []) o₂ n₂ o₃ n₃ → Wrote (reading_line (record_report (pointed_record s))) out at o₃ n₃
-    unfolding reading_line
-    accepted_written s x p next q u v w = rw (← p, q) (wrote_then out at _ _ o₂ o₃ n₂ n₃ (wrote_then out at _ _ o₁ o₂ n₁ n₂ u v) w)
+  -- `put_record_answer` of a record that is accepted
+  pub accepted_written : (s : List ℕ) (x : RecordAnswer) → x ≡ pointed_record s → (next : ℕ) → x ≡ Ok next → (d : Writer) → Writes (bytes "accepted ") a b
+      → Writes (in_decimal next) b c → Writes (10 ∷ []) c d → Writes (reading_line (record_report (pointed_record s))) a d
+  unfolding reading_line
+  accepted_written s x p next q d u v w = rw (← p, q) (writes_then _ _ a c d (writes_then _ _ a b c u v) w)
 
-    pub answer_written : (s : List ℕ) (x : TermAnswer) (place next : ℕ) (t : Term) → x ≡ TermAnswer.Is place next t
-        → Wrote (in_decimal place ++ bytes " ") out at o₁ n₁
-        → Wrote (in_decimal next ++ bytes " ") o₁ n₁ o₂ n₂ → Wrote (said_line (said_of (part s place next) t)) o₂ n₂ o₃ n₃
-        → Wrote (term_line (term_report s x)) out at o₃ n₃
-    unfolding term_line
-    answer_written s x place next t e u v w =
-        rw (e, append_assoc (in_decimal place ++ bytes " ") (in_decimal next) (bytes " "))
-        (wrote_then out at _ _ o₂ o₃ n₂ n₃ (wrote_then out at _ _ o₁ o₂ n₁ n₂ u v) w)
+  -- `put_answer` of a term
+  pub answer_written : (s : List ℕ) (x : TermAnswer) (y : Option ReadTerm) → x ≡ Ok y → (t : ReadTerm) → y ≡ Some t → (d : Writer)
+      → Writes (in_decimal t.at ++ bytes " ") a b → Writes (in_decimal t.next ++ bytes " ") b c
+      → (l : List ℕ) → l ≡ said_line (said_of (part s t.at t.next) t.term) → Writes l c d → Writes (term_line (term_report s x)) a d
+  unfolding term_line
+  answer_written s x y e t f d u v l g w =
+      rw (e, f, append_assoc (in_decimal t.at ++ bytes " ") (in_decimal t.next) (bytes " "))
+      (writes_then _ _ a c d (writes_then _ _ a b c u v) (rw g at w))
 
 -- what is written in one piece
-module _ (s out : List ℕ) (at : ℕ) (o : List ℕ) (r : ℕ) where
-  pub refused_written : (x : RecordAnswer) → x ≡ pointed_record s → (number place : ℕ) → x ≡ RecordAnswer.Refused number place
-      → Wrote (refusal_line number place) out at o r
-      → Wrote (reading_line (record_report (pointed_record s))) out at o r
+module _ (s : List ℕ) (a b : Writer) where
+  pub refused_written : (x : RecordAnswer) → x ≡ pointed_record s → (f : Refusal) → x ≡ Err f → Writes (refusal_line (number_of f.reason) f.at) a b
+      → Writes (reading_line (record_report (pointed_record s))) a b
   unfolding reading_line
-  refused_written x p number place q w = rw (← p, q) w
+  refused_written x p f q w = rw (← p, q) w
 
   module _ (x : TermAnswer) where
-    pub end_written : x ≡ TermAnswer.End → Wrote (bytes "end\n") out at o r → Wrote (term_line (term_report s x)) out at o r
+    pub end_written : (y : Option ReadTerm) → x ≡ Ok y → y ≡ None → Writes (bytes "end\n") a b → Writes (term_line (term_report s x)) a b
     unfolding term_line
-    end_written e w = rw e w
+    end_written y e f w = rw (e, f) w
 
-    pub no_term_written : (number place : ℕ) → x ≡ TermAnswer.Refused number place → Wrote (refusal_line number place) out at o r
-        → Wrote (term_line (term_report s x)) out at o r
+    pub no_term_written : (f : Refusal) → x ≡ Err f → Writes (refusal_line (number_of f.reason) f.at) a b → Writes (term_line (term_report s x)) a b
     unfolding term_line
-    no_term_written number place e w = rw e w
+    no_term_written f e w = rw e w
+
+-- `put_listing`
+module _ (s : List ℕ) (a : Writer) (x : RecordAnswer) (p : x ≡ pointed_record s) where
+  pub refusal_shown : (b : Writer) (f : Refusal) → x ≡ Err f → Writes (refusal_line (number_of f.reason) f.at) a b → Shown s a b
+  refusal_shown b f q w = record {
+    text = refusal_line (number_of f.reason) f.at;
+    prints = refuses (subst (RecordAnswers s) (ap record_report (sym p ∙ q)) (record_answers s));
+    wrote = w.wrote;
+  }
+
+  pub terms_shown : (b c : Writer) (next : ℕ) → x ≡ Ok next → Writes (bytes "at term sign arg four six\n") a b
+      → ((ts : List Placed) → Reads s next ts → Wrote (lines_of ts) b.out.now b.at c.out.now c.at) → Shown s a c
+  unfolding listing_of
+  terms_shown b c next q u f =
+      let r = accepting s next (subst (RecordAnswers s) (ap record_report (sym p ∙ q)) (record_answers s)) in
+      let t = subst (λ (j : ℕ). Reads s j r.terms) (sym r.first) (record_complete r.reading r.short).walk in
+      record { text = listing_of r.terms; prints = lists r.short r.reading; wrote = wrote_then a.out.now a.at _ _ b.out.now c.out.now b.at c.at u.wrote (f r.terms t) }
 
 -- `list_record`
-stands : (s out o xs : List ℕ) (n : ℕ) → room ≤ length out → Prints s xs → Wrote xs out 0 o n → Listed s out o n
-stands s out o xs n h p w =
-    let l = prints_length p in
-    record { text = xs; prints = p; size = wrote_length xs out o n w (omega arith); buffer = wrote_over xs out o n w }
-
-module _ (s out : List ℕ) (fits : room ≤ length out) (x : RecordAnswer) (p : x ≡ pointed_record s) (o₂ : List ℕ) (n₂ : ℕ) where
-  pub refusal_listed : (number place : ℕ) → x ≡ RecordAnswer.Refused number place → Wrote (refusal_line number place) out 0 o₂ n₂ → Listed s out o₂ n₂
-  refusal_listed number place q w =
-      stands s out o₂ (refusal_line number place) n₂ fits (refuses (subst (RecordAnswers s) (ap record_report (sym p ∙ q)) (record_answers s))) w
-
-  pub terms_listed : (next : ℕ) → x ≡ RecordAnswer.Accepted next → (o₁ : List ℕ) (n₁ : ℕ) → Wrote (bytes "at term sign arg four six\n") out 0 o₁ n₁
-      → ((ts : List Placed) → Reads s next ts → Wrote (lines_of ts) o₁ n₁ o₂ n₂) → Listed s out o₂ n₂
-  unfolding listing_of
-  terms_listed next q o₁ n₁ u f =
-      let a = accepting s next (subst (RecordAnswers s) (ap record_report (sym p ∙ q)) (record_answers s)) in
-      let r = subst (λ (j : ℕ). Reads s j a.terms) (sym a.first) (record_complete a.reading a.short).walk in
-      stands s out o₂ (listing_of a.terms) n₂ fits (lists a.short a.reading) (wrote_then out 0 _ _ o₁ o₂ n₁ n₂ u (f a.terms r))
+pub shown_listed : (s before : List ℕ) (a b : Writer) → room ≤ length before → a.out.now ≡ before → a.at ≡ 0 → Shown s a b
+    → (after : List ℕ) → after ≡ b.out.now → Listed s before after b.at
+shown_listed s before a b h q z v after e =
+    let l = prints_length v.prints in
+    let w : Wrote v.text before 0 after b.at = rw (q, z, ← e) at v.wrote in
+    record {
+      text = v.text;
+      prints = v.prints;
+      size = wrote_length v.text before after b.at w (omega arith);
+      buffer = wrote_over v.text before after b.at w;
+    }
 
 -- `without_newline` and `list_input`
-module _ (s : List ℕ) where
-  pub newline_other : (get_or s (length s - 1) 0 ≡ 10 → ⊥) → s ≡ without_newline s
-  unfolding without_newline
-  newline_other h = rw (ne_eqb (get_or s (length s - 1) 0) 10 h)
+pub newline_empty : (s : List ℕ) → length s ≡ 0 → s ≡ without_newline s
+unfolding without_newline
+newline_empty [] h = refl
+newline_empty (b ∷ s) h = absurd (omega arith)
 
-  pub newline_empty : length s ≡ 0 → s ≡ without_newline s
-  newline_empty h = newline_other (λ e. by s h e)
-    where
-      by : (t : List ℕ) → length t ≡ 0 → get_or t (length t - 1) 0 ≡ 10 → ⊥
-      by [] k e = omega arith
-      by (b ∷ t) k e = omega arith
+module _ (s front : List ℕ) (last : ℕ) (split : s ≡ front ++ (last ∷ [])) where
+  last_at : length s - 1 ≡ length front
+  last_at = rw split (simp length-append (omega arith))
 
-  pub newline_dropped : get_or s (length s - 1) 0 ≡ 10 → (r : List ℕ) → r ≡ part s 0 (length s - 1) → r ≡ without_newline s
+  last_is : get_or s (length s - 1) 0 ≡ last
+  last_is = rw last_at (rw split (get_or-append_seam front last [] 0))
+
+  pub newline_other : (last ≡ 10 → ⊥) → s ≡ without_newline s
   unfolding without_newline
-  newline_dropped h r e = let z : length s - 1 - 0 ≡ length s - 1 = omega arith in e ∙ rw (z, eq-eqb (get_or s (length s - 1) 0) 10 h)
+  newline_other h = rw (last_is, ne_eqb last 10 h)
+
+  pub newline_dropped : last ≡ 10 → front ≡ without_newline s
+  unfolding without_newline
+  newline_dropped h = rw (last_is, h, last_at) (sym (ap (take (length front)) split ∙ take-append_seam front (last ∷ [])))
 
 pub input_listed : (input : List ℕ) (n : ℕ) (x s out o : List ℕ) (r : ℕ) → x ≡ part input 0 n → s ≡ without_newline x → Listed s out o r
     → Listed (without_newline (part input 0 n)) out o r

@@ -2,8 +2,8 @@
 use Rattle.record_listing.proofs.Laws.Columns.{mechanism_lead, modifier_lead}
 use Rattle.record_listing.proofs.lead_of.Goals as goal
 
-pub returns-in-Of : goal.returns-in-Of
-returns-in-Of c = search mechanism_lead
+pub returns-in-Some : goal.returns-in-Some
+returns-in-Some c = search mechanism_lead
 
-pub returns-in-Absent : goal.returns-in-Absent
-returns-in-Absent c = search modifier_lead
+pub returns-in-None : goal.returns-in-None
+returns-in-None c = search modifier_lead

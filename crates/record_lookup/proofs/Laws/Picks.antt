@@ -8,6 +8,7 @@ use mir.Syntax.{w64}
 use mir.Val.{Fits}
 use lib.ListN.{length, drop, length-take, length-drop}
 use Rattle.text.specs.Bytes.{part}
+use Rattle.text.specs.declared.spans.Span.{Span}
 use Rattle.answer_table.specs.Reader.{first_item, items_of, next_item, Starts, first, next as next_start}
 use Rattle.answer_table.proofs.Laws.Items.{items_step, items_end, next_further}
 use Rattle.answer_table.proofs.Laws.Places.{item_part}
@@ -18,7 +19,7 @@ use Rattle.record_lookup.specs.declared.Picked.{Picked}
 
 -- a further record
 one_more_is : (start : ℕ) (w : List ℕ) (ss : List (List ℕ)) (p : Picked) (i : ℕ) → Starts w i → i < length w → PickedIs start w ss p
-    → PickedIs start w (ss ++ (first_item (drop i w) ∷ [])) (one_more p (start + i + 2) (start + next_item w i))
+    → PickedIs start w (ss ++ (first_item (drop i w) ∷ [])) (one_more p (record { from = start + i + 2; to = start + next_item w i }))
 unfolding PickedIs one_more
 one_more_is start w [] p i b l h = rw h (i, b, l, refl, refl)
 one_more_is start w (s ∷ []) p i b l h = rw h.3
@@ -61,7 +62,7 @@ module _ (t : List ℕ) (start end : ℕ) (s : List ℕ) (e : s ≡ part t start
     item_is : part t (start + i + 2) (start + next_item s i) ≡ first_item (drop i s)
     item_is = rw e (sym (item_part t start end i))
 
-    pub pick_next : (next : ℕ) → next ≡ next_item s i → (r : Picked) → r ≡ joined t p (start + i + 2) (start + next) → Walk start s next r
+    pub pick_next : (next : ℕ) → next ≡ next_item s i → (r : Picked) → r ≡ joined t p (record { from = start + i + 2; to = start + next }) → Walk start s next r
     unfolding joined versioned
     pick_next next k r q = by (has_version (first_item (drop i s))) refl
       where
@@ -89,28 +90,28 @@ module _ (t : List ℕ) (start end : ℕ) (s : List ℕ) (e : s ≡ part t start
         }
 
 -- a further text
-module _ (t : List ℕ) (p : Picked) (from to : ℕ) (u : List ℕ) (e : u ≡ part t from to) (b : Bool) (m : b ≡ has_version u) where
-  has : has_version (part t from to) ≡ b
+module _ (t : List ℕ) (p : Picked) (place : Span) (u : List ℕ) (e : u ≡ part t place.from place.to) (b : Bool) (m : b ≡ has_version u) where
+  has : has_version (part t place.from place.to) ≡ b
   has = sym (m ∙ ap has_version e)
 
-  pub join_none : b ≡ false → p ≡ joined t p from to
+  pub join_none : b ≡ false → p ≡ joined t p place
   unfolding joined
   join_none h = rw (has, h)
 
-  pub join_one : b ≡ true → (r : Picked) → r ≡ one_more p from to → r ≡ joined t p from to
+  pub join_one : b ≡ true → (r : Picked) → r ≡ one_more p place → r ≡ joined t p place
   unfolding joined
   join_one h r q = rw (has, h) q
 
 -- one more record
-module _ (p : Picked) (from to : ℕ) where
-  pub more_first : p ≡ Picked.Nothing → Picked.One from to ≡ one_more p from to
+module _ (p : Picked) (place : Span) where
+  pub more_first : p ≡ Picked.Nothing → Picked.One place ≡ one_more p place
   unfolding one_more
   more_first h = rw h
 
-  pub more_several : p ≡ Picked.Several → Picked.Several ≡ one_more p from to
+  pub more_several : p ≡ Picked.Several → Picked.Several ≡ one_more p place
   unfolding one_more
   more_several h = rw h
 
-  pub more_second : (a z : ℕ) → p ≡ Picked.One a z → Picked.Several ≡ one_more p from to
+  pub more_second : (earlier : Span) → p ≡ Picked.One earlier → Picked.Several ≡ one_more p place
   unfolding one_more
-  more_second a z h = rw h
+  more_second earlier h = rw h

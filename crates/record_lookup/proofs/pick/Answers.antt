@@ -6,14 +6,14 @@ use Rattle.record_lookup.proofs.pick.Goals as goal
 pub loop-at-init : goal.loop-at-init
 loop-at-init c = search pick_start
 
-pub overflow_add-start : goal.overflow_add-start
-overflow_add-start c = search place_fits
+pub overflow_add-place : goal.overflow_add-place
+overflow_add-place c = search place_fits
 
-pub overflow_add-start-in-loop-at : goal.overflow_add-start-in-loop-at
-overflow_add-start-in-loop-at c = search text_fits
+pub overflow_add-place-in-loop-at : goal.overflow_add-place-in-loop-at
+overflow_add-place-in-loop-at c = search text_fits
 
-pub overflow_add-start-in-loop-at-2 : goal.overflow_add-start-in-loop-at-2
-overflow_add-start-in-loop-at-2 c = search end_fits
+pub overflow_add-place-in-loop-at-2 : goal.overflow_add-place-in-loop-at-2
+overflow_add-place-in-loop-at-2 c = search end_fits
 
 pub loop-at-smaller : goal.loop-at-smaller
 loop-at-smaller c = search next_less

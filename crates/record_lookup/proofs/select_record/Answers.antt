@@ -5,11 +5,11 @@ use Rattle.record_lookup.proofs.select_record.Goals as goal
 pub returns-in_default : goal.returns-in_default
 returns-in_default c = search select_missing
 
-pub returns-then-status-eq2 : goal.returns-then-status-eq2
-returns-then-status-eq2 c = search select_failed
+pub returns-then-found-eq2 : goal.returns-then-found-eq2
+returns-then-found-eq2 c = search select_failed
 
-pub overflow_sub-result : goal.overflow_sub-result
-overflow_sub-result c = search name_before
+pub overflow_sub-selected : goal.overflow_sub-selected
+overflow_sub-selected c = search name_before
 
 pub returns-in-Nothing : goal.returns-in-Nothing
 returns-in-Nothing c = search select_none

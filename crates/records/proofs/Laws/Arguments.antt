@@ -1,5 +1,6 @@
 -- Where a term that was read stands in its record, and where the argument of a redirect or an exp stands: just after its name and "=", up to the
 -- term's end. From the laws of terms, of mechanisms and of modifiers.
+use Rattle.std.proofs.Common.{None, Option, Some, Ok, Err}
 use Prim.Native.Nat.{ℕ, ◌+◌, ◌-◌, ◌≤◌, ◌<◌}
 use mathlib.Core.Path.{◌≡◌, refl, subst}
 use mathlib.Core.List.{List, ◌++◌}
@@ -18,12 +19,10 @@ use Rattle.text.proofs.Laws.Classes.{nonzero_inside}
 use Rattle.text.proofs.Laws.Spans.{Span, span_part, span_join, span_cut, span_to_end}
 use Rattle.records.specs.Readings.{present, Said}
 use Rattle.records.specs.Grammar.{Mechanism}
-use Rattle.records.specs.Numbers.{said_of}
+use Rattle.records.specs.Numbers.{said_of, TermAnswer, term_at}
 use Rattle.records.specs.Answers.{most_bytes}
 use Rattle.records.specs.Reader.{mechanism_of, modifier_of, token_of, term_from, read_term}
 use Rattle.records.specs.declared.Term.{Term}
-use Rattle.records.specs.declared.Token.{Token}
-use Rattle.records.specs.declared.TermAnswer.{TermAnswer}
 use Rattle.records.proofs.Laws.Names.{literal_length, literal_of}
 use Rattle.records.proofs.Laws.Mechanisms.{MechanismRight, mechanism_sound}
 use Rattle.records.proofs.Laws.Modifiers.{modifier_elim}
@@ -36,13 +35,13 @@ pub record Stands (s : List ℕ) (i p e : ℕ) (t : Term) : Type 0 where
   pub after : i ≤ p
   pub some : p < e
   pub inside : e ≤ length s
-  pub token : token_of (part s p e) ≡ Token.Is t
+  pub token : token_of (part s p e) ≡ Some t
   pub size : length (part s p e) ≡ e - p
 
 abbrev StandsRight : List ℕ → ℕ → TermAnswer → Type 0
-StandsRight s i (TermAnswer.Is p e t) = Stands s i p e t
-StandsRight s i TermAnswer.End = Unit {0}
-StandsRight s i (TermAnswer.Refused n p) = Unit {0}
+StandsRight s i (Ok (Some x)) = Stands s i x.at x.next x.term
+StandsRight s i (Ok None) = Unit {0}
+StandsRight s i (Err x) = Unit {0}
 
 view_stands : {s : List ℕ} {i : ℕ} {x : TermAnswer} → length s ≤ most_bytes → View s i x → StandsRight s i x
 view_stands h (only_spaces m) = tt
@@ -61,7 +60,7 @@ read_stands s i =
     let h = ltb-false most_bytes (length s) a in
     subst (StandsRight s i) e (view_stands h (term_view s i h (ltb-false (length s) i b)))))
 
-pub stands : (s : List ℕ) (i : ℕ) (p e : ℕ) (t : Term) → read_term s i ≡ TermAnswer.Is p e t → Stands s i p e t
+pub stands : (s : List ℕ) (i : ℕ) (p e : ℕ) (t : Term) → read_term s i ≡ term_at p e t → Stands s i p e t
 stands s i p e t q = subst (StandsRight s i) q (read_stands s i)
 
 -- a mechanism has a sign
@@ -93,23 +92,23 @@ Ends w (Term.Network sign from to x n) = Unit {0}
 Ends w (Term.Exists sign from to) = Unit {0}
 Ends w (Term.Unknown name to) = Unit {0}
 
-abbrev EndsRight : List ℕ → Token → Type 0
-EndsRight w (Token.Is t) = Ends w t
-EndsRight w Token.Outside = Unit {0}
+abbrev EndsRight : List ℕ → Option Term → Type 0
+EndsRight w (Some t) = Ends w t
+EndsRight w None = Unit {0}
 
-mechanism_ends : (w : List ℕ) (i sign : ℕ) (x : Token) → MechanismRight w i sign x → EndsRight w x
+mechanism_ends : (w : List ℕ) (i sign : ℕ) (x : Option Term) → MechanismRight w i sign x → EndsRight w x
 unfolding said_of
-mechanism_ends w i sign (Token.Is (Term.Redirect from to)) m = let n = signed m.made in let z : ◌≡◌ {A = ℕ} 0 1 = cc in absurd (omega arith)
-mechanism_ends w i sign (Token.Is (Term.Explanation from to)) m = let n = signed m.made in let z : ◌≡◌ {A = ℕ} 0 1 = cc in absurd (omega arith)
-mechanism_ends w i sign (Token.Is (Term.All s)) m = tt
-mechanism_ends w i sign (Token.Is (Term.Include s from to)) m = tt
-mechanism_ends w i sign (Token.Is (Term.A s from to k l)) m = tt
-mechanism_ends w i sign (Token.Is (Term.Mx s from to k l)) m = tt
-mechanism_ends w i sign (Token.Is (Term.Ptr s from to)) m = tt
-mechanism_ends w i sign (Token.Is (Term.Network s from to x n)) m = tt
-mechanism_ends w i sign (Token.Is (Term.Exists s from to)) m = tt
-mechanism_ends w i sign (Token.Is (Term.Unknown name to)) m = tt
-mechanism_ends w i sign Token.Outside m = tt
+mechanism_ends w i sign (Some (Term.Redirect from to)) m = let n = signed m.made in let z : ◌≡◌ {A = ℕ} 0 1 = cc in absurd (omega arith)
+mechanism_ends w i sign (Some (Term.Explanation from to)) m = let n = signed m.made in let z : ◌≡◌ {A = ℕ} 0 1 = cc in absurd (omega arith)
+mechanism_ends w i sign (Some (Term.All s)) m = tt
+mechanism_ends w i sign (Some (Term.Include s from to)) m = tt
+mechanism_ends w i sign (Some (Term.A s from to k l)) m = tt
+mechanism_ends w i sign (Some (Term.Mx s from to k l)) m = tt
+mechanism_ends w i sign (Some (Term.Ptr s from to)) m = tt
+mechanism_ends w i sign (Some (Term.Network s from to x n)) m = tt
+mechanism_ends w i sign (Some (Term.Exists s from to)) m = tt
+mechanism_ends w i sign (Some (Term.Unknown name to)) m = tt
+mechanism_ends w i sign None m = tt
 
 -- a name in either case of its letters is as long
 name_length : (name u : List ℕ) → same_word u name ≡ true → length u ≡ length name
@@ -155,12 +154,12 @@ argument_of s name i p e t k from to n =
     }
 
 module _ (s : List ℕ) (i p e from to : ℕ) where
-  pub redirect_argument : read_term s i ≡ TermAnswer.Is p e (Term.Redirect from to) → Argument s (bytes "redirect") p e from to
+  pub redirect_argument : read_term s i ≡ term_at p e (Term.Redirect from to) → Argument s (bytes "redirect") p e from to
   redirect_argument q =
       let k = stands s i p e (Term.Redirect from to) q in
       argument_of s (bytes "redirect") i p e (Term.Redirect from to) k from to (subst (EndsRight (part s p e)) k.token (token_ends (part s p e)))
 
-  pub explanation_argument : read_term s i ≡ TermAnswer.Is p e (Term.Explanation from to) → Argument s (bytes "exp") p e from to
+  pub explanation_argument : read_term s i ≡ term_at p e (Term.Explanation from to) → Argument s (bytes "exp") p e from to
   explanation_argument q =
       let k = stands s i p e (Term.Explanation from to) q in
       argument_of s (bytes "exp") i p e (Term.Explanation from to) k from to (subst (EndsRight (part s p e)) k.token (token_ends (part s p e)))

@@ -1,5 +1,7 @@
 -- The ways out of the functions that read a record, each with a rule whose premises are what the code knows there, and that a term's next
 -- place lies further on. From the definitions of Reader, the laws of runs, where terms stand, and what Terms and Records say of the answers.
+use Rattle.records.specs.declared.Reason.{Reason}
+use Rattle.std.proofs.Common.{None, Option, Some, Ok, Err}
 use Prim.Native.Nat.{ℕ, zero, suc, ◌+◌, ◌-◌, ◌≤◌, ◌<◌}
 use mathlib.Core.Path.{◌≡◌, refl, sym, ap, ◌∙◌}
 use mathlib.Core.List.{List, []}
@@ -20,10 +22,7 @@ use Rattle.text.proofs.Laws.Tests.{cond-elim}
 use Rattle.text.proofs.Laws.Spans.{part_past}
 use Rattle.records.specs.Readings.{Optional, absent, present, bytes_or, argument_bytes}
 use Rattle.records.specs.declared.Term.{Term}
-use Rattle.records.specs.declared.Token.{Token}
-use Rattle.records.specs.declared.TermAnswer.{TermAnswer}
-use Rattle.records.specs.declared.RecordAnswer.{RecordAnswer}
-use Rattle.records.specs.Numbers.{optional, network_said, said_of}
+use Rattle.records.specs.Numbers.{optional, network_said, said_of, TermAnswer, RecordAnswer, term_at, refusal}
 use Rattle.records.specs.Answers.{most_bytes, ReadsArgument}
 use Rattle.records.specs.Reader.{token_of, token_answer, term_from, read_term, is_redirect, is_explanation, check_after, check_from, has_version, read_record, after_version}
 use Rattle.records.proofs.Laws.Arguments.{stands}
@@ -33,30 +32,30 @@ use Rattle.records.proofs.Laws.Records.{read_record_long, read_record_other, rea
 use Rattle.records.proofs.Laws.Versions.{version_of, version_inside}
 
 -- `term_from`
-pub from_end : (s : List ℕ) (p : ℕ) → p ≡ length s → TermAnswer.End ≡ term_from s p
+pub from_end : (s : List ℕ) (p : ℕ) → p ≡ length s → Ok None ≡ term_from s p
 unfolding term_from
 from_end s p h = sym (simp (eq-eqb p (length s) h))
 
-module _ (s : List ℕ) (p : ℕ) (some : p ≡ length s → ⊥) (e : ℕ) (q : e ≡ run_end (is_in NotSpace) s p) (x : Token) (h : x ≡ token_of (part s p e)) where
+module _ (s : List ℕ) (p : ℕ) (some : p ≡ length s → ⊥) (e : ℕ) (q : e ≡ run_end (is_in NotSpace) s p) (x : Option Term) (h : x ≡ token_of (part s p e)) where
   from : term_from s p ≡ token_answer p e x
   unfolding term_from
   from = simp (ne_eqb p (length s) some, h, q)
 
-  pub from_bad : x ≡ Token.Outside → TermAnswer.Refused 32 p ≡ term_from s p
+  pub from_bad : x ≡ None → Err (refusal Reason.Outside p) ≡ term_from s p
   unfolding token_answer
   from_bad f = sym (from ∙ ap (token_answer p e) f)
 
-  pub from_term : (t : Term) → x ≡ Token.Is t → TermAnswer.Is p e t ≡ term_from s p
+  pub from_term : (t : Term) → x ≡ Some t → term_at p e t ≡ term_from s p
   unfolding token_answer
   from_term t f = sym (from ∙ ap (token_answer p e) f)
 
 -- `next_term`
 module _ (s : List ℕ) (i : ℕ) where
-  pub term_long : most_bytes < length s → TermAnswer.Refused 30 0 ≡ read_term s i
+  pub term_long : most_bytes < length s → Err (refusal Reason.TooLong 0) ≡ read_term s i
   term_long h = sym (read_long s i h)
 
   module _ (short : length s ≤ most_bytes) where
-    pub term_past : length s < i → TermAnswer.Refused 34 i ≡ read_term s i
+    pub term_past : length s < i → Err (refusal Reason.Beyond i) ≡ read_term s i
     term_past h = sym (read_past s i short h)
 
     pub term_found : i ≤ length s → (p : ℕ) → p ≡ run_end (is_in Space) s i → (r : TermAnswer) → r ≡ term_from s p → r ≡ read_term s i
@@ -64,11 +63,11 @@ module _ (s : List ℕ) (i : ℕ) where
     term_found h p q r e = e ∙ sym (simp (le-ltb most_bytes (length s) short, le-ltb (length s) i h, q))
 
 -- the next place of a term lies further on and inside
-term_next : (s : List ℕ) (i : ℕ) (r : TermAnswer) → r ≡ read_term s i → (p e : ℕ) (t : Term) → r ≡ TermAnswer.Is p e t → (i < e) × (e ≤ length s)
+term_next : (s : List ℕ) (i : ℕ) (r : TermAnswer) → r ≡ read_term s i → (p e : ℕ) (t : Term) → r ≡ term_at p e t → (i < e) × (e ≤ length s)
 term_next s i r q p e t h = let k = stands s i p e t (sym q ∙ h) in (omega (arith, k.after, k.some), k.inside)
 
 -- so that what is left to read falls
-pub next_less : (s : List ℕ) (i : ℕ) (r : TermAnswer) → r ≡ read_term s i → (p e : ℕ) (t : Term) → r ≡ TermAnswer.Is p e t
+pub next_less : (s : List ℕ) (i : ℕ) (r : TermAnswer) → r ≡ read_term s i → (p e : ℕ) (t : Term) → r ≡ term_at p e t
     → (m : ℕ) → i ≤ length s → length s - i ≡ m → length s - e < m
 next_less s i r q p e t h m l k = let n = term_next s i r q p e t h in omega (arith, n.0, n.1)
 
@@ -141,11 +140,11 @@ module _ (s : List ℕ) (i : ℕ) (r e : Bool) (inside : i ≤ length s) (a : Te
   check_ended x g zero l = absurd (omega arith)
   check_ended x g (suc f) l = g (check_from f s) ∙ ap (λ (y : TermAnswer). check_after r e y (check_from f s)) p
 
-  module _ (at n : ℕ) (t : Term) (q : a ≡ TermAnswer.Is at n t) (x : Bool) (g : x ≡ ((r && is_redirect t) || (e && is_explanation t))) where
-    read : read_term s i ≡ TermAnswer.Is at n t
+  module _ (at n : ℕ) (t : Term) (q : a ≡ term_at at n t) (x : Bool) (g : x ≡ ((r && is_redirect t) || (e && is_explanation t))) where
+    read : read_term s i ≡ term_at at n t
     read = sym p ∙ q
 
-    check_repeats : x ≡ true → (f : ℕ) → length s < f + i → RecordAnswer.Refused 33 at ≡ check_from f s i r e
+    check_repeats : x ≡ true → (f : ℕ) → length s < f + i → Err (refusal Reason.Repeated at) ≡ check_from f s i r e
     check_repeats h zero l = absurd (omega arith)
     check_repeats h (suc f) l = sym (check_twice f s i r e at n t read (sym g ∙ h))
 
@@ -172,13 +171,13 @@ module _ (s : List ℕ) (i₀ i : ℕ) (r e : Bool) (w : Checking s i₀ i r e) 
         → (f : ℕ) → length s < f + i₀ → x ≡ check_from f s i₀ false false
     checking_ended x g = w.rest x (check_ended s i r e w.inside a p x g)
 
-    module _ (at n : ℕ) (t : Term) (q : a ≡ TermAnswer.Is at n t) where
+    module _ (at n : ℕ) (t : Term) (q : a ≡ term_at at n t) where
       pub checking_less : length s + 1 - n < length s + 1 - i
       checking_less = let k = term_next s i a p at n t q in omega (arith, k.0, k.1)
 
       module _ (x : Bool) (g : x ≡ ((r && is_redirect t) || (e && is_explanation t))) where
-        pub checking_repeats : x ≡ true → (f : ℕ) → length s < f + i₀ → RecordAnswer.Refused 33 at ≡ check_from f s i₀ false false
-        checking_repeats h = w.rest (RecordAnswer.Refused 33 at) (check_repeats s i r e w.inside a p at n t q x g h)
+        pub checking_repeats : x ≡ true → (f : ℕ) → length s < f + i₀ → Err (refusal Reason.Repeated at) ≡ check_from f s i₀ false false
+        checking_repeats h = w.rest (Err (refusal Reason.Repeated at)) (check_repeats s i r e w.inside a p at n t q x g h)
 
         pub checking_next : x ≡ false → (r' e' : Bool) → r' ≡ (r || is_redirect t) → e' ≡ (e || is_explanation t) → Checking s i₀ n r' e'
         checking_next h r' e' hr he = record {
@@ -188,11 +187,11 @@ module _ (s : List ℕ) (i₀ i : ℕ) (r e : Bool) (w : Checking s i₀ i r e) 
 
 -- `open_record`
 module _ (s : List ℕ) where
-  pub record_long : most_bytes < length s → RecordAnswer.Refused 30 0 ≡ read_record s
+  pub record_long : most_bytes < length s → Err (refusal Reason.TooLong 0) ≡ read_record s
   record_long h = sym (read_record_long s h)
 
   module _ (short : length s ≤ most_bytes) (x : Bool) (p : x ≡ has_version s) where
-    pub record_other : x ≡ false → RecordAnswer.Refused 31 0 ≡ read_record s
+    pub record_other : x ≡ false → Err (refusal Reason.NoVersion 0) ≡ read_record s
     record_other h = sym (read_record_other s short (sym p ∙ h))
 
     pub record_checked : x ≡ true → (r : RecordAnswer) → ((f : ℕ) → length s < f + after_version → r ≡ check_from f s after_version false false) → r ≡ read_record s

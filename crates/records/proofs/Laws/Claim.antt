@@ -1,5 +1,6 @@
 -- Reading a record, its terms and their arguments, as one claim of any answers that meet the three promises, and that there are such answers. From
 -- what the promises determine (Records, Terms), completeness and the one walk (Records).
+use Rattle.std.proofs.Common.{None, Ok, Err, Some}
 use Prim.Native.Nat.{ℕ}
 use mathlib.Core.Path.{◌≡◌, refl, sym, ap, subst, ◌∙◌}
 use mathlib.Core.List.{List, [], ◌∷◌}
@@ -8,40 +9,43 @@ use native.Mathlib.Omega.{arith}
 use Rattle.text.specs.Bytes.{part}
 use Rattle.records.specs.Readings.{Placed, argument_bytes}
 use Rattle.records.specs.Grammar.{Record}
-use Rattle.records.specs.Numbers.{accepted, record_report, said_of, end, term, term_report}
+use Rattle.records.specs.Numbers.{accepted, record_report, said_of, end, term, term_report, TermAnswer, RecordAnswer, term_at}
 use Rattle.records.specs.Answers.{ReadsRecord}
 use Rattle.records.specs.Reader.{read_term, Reads, after_version}
 use Rattle.records.specs.Beginnings.{pointed_term, pointed_record}
 use Rattle.records.specs.Claim.{Calls, Told, Walks, told, Claim}
 use Rattle.records.specs.declared.Term.{Term}
-use Rattle.records.specs.declared.TermAnswer.{TermAnswer}
-use Rattle.records.specs.declared.RecordAnswer.{RecordAnswer}
 use Rattle.records.proofs.Laws.Terms.{term_answers, term_answers_is, point_kept, no_refusal}
 use Rattle.records.proofs.Laws.Records.{record_complete, record_accepted, reads_one, one_reading, record_answers, Accepting, accepting, record_answers_is}
 
 -- answers by what is reported of them
-accepted_of : (r : RecordAnswer) (n : ℕ) → record_report r ≡ accepted n → r ≡ RecordAnswer.Accepted n
-accepted_of (RecordAnswer.Accepted m) n e = cc
-accepted_of (RecordAnswer.Refused number p) n e = let z : ◌≡◌ {A = ℕ} 0 1 = cc in absurd (omega arith)
+accepted_of : (r : RecordAnswer) (n : ℕ) → record_report r ≡ accepted n → r ≡ Ok n
+accepted_of (Ok m) n e = cc
+accepted_of (Err x) n e = let z : ◌≡◌ {A = ℕ} 0 1 = cc in absurd (omega arith)
 
-end_of : (s : List ℕ) (r : TermAnswer) → term_report s r ≡ end → r ≡ TermAnswer.End
-end_of s TermAnswer.End e = refl
-end_of s (TermAnswer.Refused number p) e = let z : ◌≡◌ {A = ℕ} 0 1 = cc in absurd (omega arith)
-end_of s (TermAnswer.Is at next x) e = let z : ◌≡◌ {A = ℕ} 0 1 = cc in absurd (omega arith)
+end_of : (s : List ℕ) (r : TermAnswer) → term_report s r ≡ end → r ≡ Ok None
+end_of s (Ok None) e = refl
+end_of s (Err x) e = let z : ◌≡◌ {A = ℕ} 0 1 = cc in absurd (omega arith)
+end_of s (Ok (Some x)) e = let z : ◌≡◌ {A = ℕ} 0 1 = cc in absurd (omega arith)
 
 record TermOf (s : List ℕ) (r : TermAnswer) (next : ℕ) (t : Placed) : Type 0 where
   at : ℕ
   found : Term
-  is : r ≡ TermAnswer.Is at next found
+  is : r ≡ term_at at next found
   says : t ≡ record { place = at; said = said_of (part s at next) found }
 
 term_of : (s : List ℕ) (r : TermAnswer) (next : ℕ) (t : Placed) → term_report s r ≡ term next t → TermOf s r next t
-term_of s TermAnswer.End next t e = let z : ◌≡◌ {A = ℕ} 0 1 = cc in absurd (omega arith)
-term_of s (TermAnswer.Refused number p) next t e = let z : ◌≡◌ {A = ℕ} 0 1 = cc in absurd (omega arith)
-term_of s (TermAnswer.Is at e x) next t q =
-    let n : e ≡ next = cc in
-    let p : t ≡ record { place = at; said = said_of (part s at e) x } = cc in
-    record { at = at; found = x; is = ap (λ (k : ℕ). TermAnswer.Is at k x) n; says = p ∙ ap (λ (k : ℕ). record { place = at; said = said_of (part s at k) x }) n }
+term_of s (Ok None) next t e = let z : ◌≡◌ {A = ℕ} 0 1 = cc in absurd (omega arith)
+term_of s (Err x) next t e = let z : ◌≡◌ {A = ℕ} 0 1 = cc in absurd (omega arith)
+term_of s (Ok (Some x)) next t q =
+    let n : x.next ≡ next = cc in
+    let p : t ≡ record { place = x.at; said = said_of (part s x.at x.next) x.term } = cc in
+    record {
+      at = x.at;
+      found = x.term;
+      is = ap (λ (k : ℕ). term_at x.at k x.term) n;
+      says = p ∙ ap (λ (k : ℕ). record { place = x.at; said = said_of (part s x.at k) x.term }) n;
+    }
 
 module _ {s : List ℕ} (calls : Calls s) where
   -- a term's report, and the end, are the reader's
@@ -78,10 +82,10 @@ module _ {s : List ℕ} (calls : Calls s) where
       ∙ ap (λ (y : Placed). record { term = y; argument = argument_bytes y.said }) (sym o.says))
       (Walks.step o.is (reads_walks r))
 
-  accepted_by : (first : ℕ) → calls.record_answer ≡ RecordAnswer.Accepted first → Accepting s first
+  accepted_by : (first : ℕ) → calls.record_answer ≡ Ok first → Accepting s first
   accepted_by first e = accepting s first (subst (ReadsRecord s) e calls.record_promised)
 
-  walks_of : (first : ℕ) → calls.record_answer ≡ RecordAnswer.Accepted first → (ts : List Placed) → Record s ts → Reads s first ts
+  walks_of : (first : ℕ) → calls.record_answer ≡ Ok first → (ts : List Placed) → Record s ts → Reads s first ts
   walks_of first e ts d =
       let p = accepted_by first e in
       subst (λ (i : ℕ). Reads s i ts) (sym p.first) (record_complete d p.short).walk

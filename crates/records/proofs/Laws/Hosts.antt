@@ -1,5 +1,6 @@
 -- The domain-spec and the prefix lengths of `a` and `mx`: the lengths begin at the first slash of the trailing run of digits and slashes, since a
 -- domain-spec ends in at most digits after another byte. From the laws of domain-specs, of runs and of lengths.
+use Rattle.std.proofs.Common.{None, Option, Some}
 use Prim.Native.Nat.{ℕ, suc, ◌+◌, ◌≤◌}
 use mathlib.Core.Path.{◌≡◌, refl, sym, ap, subst, ◌∙◌}
 use mathlib.Core.Logic.{◌⊎◌, inl, inr, ⊎_elim}
@@ -18,14 +19,14 @@ use Rattle.text.proofs.Laws.Spans.{Span, span_join, span_cut, span_word, rest_pa
 use Rattle.text.proofs.Laws.Runs.{run_zero, all_run, span_run, run_end_inside, trailing_le, trailing_first}
 use Rattle.text.proofs.Laws.Parts.{all_none, all_join, all_inside, one_fails}
 use Rattle.networks.specs.Grammar.{DualCidrLength}
-use Rattle.networks.specs.Reader.{read_dual}
-use Rattle.networks.specs.declared.Dual.{Dual}
+use Rattle.networks.specs.Reader.{lengths, read_dual}
+use Rattle.networks.specs.declared.Lengths.{Lengths}
 use Rattle.networks.proofs.Laws.Lengths.{dual_sound, dual_complete}
 use Rattle.networks.proofs.Laws.Plain.{LengthText, dual_text, digit_length}
 use Rattle.records.specs.Readings.{Optional}
 use Rattle.records.specs.Grammar.{OptionalSpec, without, has_spec}
 use Rattle.records.specs.Numbers.{optional}
-use Rattle.records.specs.Reader.{spec_at, after_dual, after_hosts, cut_of, hosts_cut, hosts_at}
+use Rattle.records.specs.Reader.{spec_at, after_dual, after_hosts, cut_of, hosts_cut, hosts_at, hosts_of}
 use Rattle.records.specs.declared.terms.Hosts.{Hosts}
 use Rattle.records.proofs.Laws.Specs.{Ending, ending_after, spec_ending, spec_right, Optionally, argument_given, argument_absent, spec_absent, spec_given, spec-elim}
 
@@ -95,15 +96,15 @@ pub cut_after : (w : List ℕ) (k : ℕ) → k ≤ length w → k + cut_of (part
 cut_after w k h = omega (arith, cut_inside (part w k (length w)), ap length (rest_part w k), length-drop k w)
 
 -- the ways out of the lengths, and of both together
-pub dual-elim {κ} : {A : Type 0} (P : A → Type κ) (x : Dual) (f : ℕ → ℕ → A) (z : A)
-    → ((n m : ℕ) → x ≡ Dual.Both n m → P (f n m)) → (x ≡ Dual.NoLengths → P z) → P (after_dual x f z)
-dual-elim P (Dual.Both n m) f z g h = g n m refl
-dual-elim P Dual.NoLengths f z g h = h refl
+pub dual-elim {κ} : {A : Type 0} (P : A → Type κ) (x : Option Lengths) (f : ℕ → ℕ → A) (z : A)
+    → ((n m : ℕ) → x ≡ Some (lengths n m) → P (f n m)) → (x ≡ None → P z) → P (after_dual x f z)
+dual-elim P (Some d) f z g h = g d.four d.six refl
+dual-elim P None f z g h = h refl
 
-pub hosts-elim {κ} : {A : Type 0} (P : A → Type κ) (x : Hosts) (f : ℕ → ℕ → ℕ → ℕ → A) (z : A)
-    → ((from to n m : ℕ) → x ≡ Hosts.Of from to n m → P (f from to n m)) → (x ≡ Hosts.Bad → P z) → P (after_hosts x f z)
-hosts-elim P (Hosts.Of from to n m) f z g h = g from to n m refl
-hosts-elim P Hosts.Bad f z g h = h refl
+pub hosts-elim {κ} : {A : Type 0} (P : A → Type κ) (x : Option Hosts) (f : ℕ → ℕ → ℕ → ℕ → A) (z : A)
+    → ((from to n m : ℕ) → x ≡ Some (hosts_of from to n m) → P (f from to n m)) → (x ≡ None → P z) → P (after_hosts x f z)
+hosts-elim P (Some x) f z g h = g x.domain.from x.domain.to x.lengths.four x.lengths.six refl
+hosts-elim P None f z g h = h refl
 
 -- what is read is a domain-spec, or none, and the lengths
 pub record HostsMade (w : List ℕ) (k from to n m : ℕ) : Type 0 where
@@ -113,12 +114,12 @@ pub record HostsMade (w : List ℕ) (k from to n m : ℕ) : Type 0 where
   pub made : OptionalSpec argument (optional w from to)
   pub sized : DualCidrLength lengths n m
 
-abbrev pub HostsRight : List ℕ → ℕ → Hosts → Type 0
-HostsRight w k (Hosts.Of from to n m) = HostsMade w k from to n m
-HostsRight w k Hosts.Bad = Unit {0}
+abbrev pub HostsRight : List ℕ → ℕ → Option Hosts → Type 0
+HostsRight w k (Some x) = HostsMade w k x.domain.from x.domain.to x.lengths.four x.lengths.six
+HostsRight w k None = Unit {0}
 
 module _ (w : List ℕ) (k cut : ℕ) (after : k ≤ cut) (inside : cut ≤ length w) where
-  hosts_made : (from to n m : ℕ) → Optionally w k cut from to → read_dual (part w cut (length w)) ≡ Dual.Both n m → HostsMade w k from to n m
+  hosts_made : (from to n m : ℕ) → Optionally w k cut from to → read_dual (part w cut (length w)) ≡ Some (lengths n m) → HostsMade w k from to n m
   hosts_made from to n m a d = record {
     argument = a.word;
     lengths = part w cut (length w);
@@ -130,8 +131,8 @@ module _ (w : List ℕ) (k cut : ℕ) (after : k ≤ cut) (inside : cut ≤ leng
   hosts_cut_sound : HostsRight w k (hosts_cut w k cut)
   unfolding hosts_cut
   hosts_cut_sound =
-      dual-elim (HostsRight w k) (read_dual (part w cut (length w))) _ Hosts.Bad
-      (λ n m d. spec-elim (HostsRight w k) (spec_at w k cut) (λ from. Hosts.Of from cut n m) (Hosts.Of cut cut n m) Hosts.Bad
+      dual-elim (HostsRight w k) (read_dual (part w cut (length w))) _ None
+      (λ n m d. spec-elim (HostsRight w k) (spec_at w k cut) (λ from. Some (hosts_of from cut n m)) (Some (hosts_of cut cut n m)) None
       (λ from e. hosts_made from cut n m (argument_given w k cut from (spec_right w k cut after inside e)) d)
       (λ e. hosts_made cut cut n m (argument_absent w k cut (spec_right w k cut after inside e)) d)
       (λ _. tt))
@@ -141,14 +142,14 @@ pub hosts_sound : (w : List ℕ) (k : ℕ) → k ≤ length w → HostsRight w k
 unfolding hosts_at
 hosts_sound w k h = hosts_cut_sound w k (k + cut_of (part w k (length w))) (omega arith) (cut_after w k h)
 
-pub hosts_right : (w : List ℕ) (k : ℕ) → k ≤ length w → {x : Hosts} → hosts_at w k ≡ x → HostsRight w k x
+pub hosts_right : (w : List ℕ) (k : ℕ) → k ≤ length w → {x : Option Hosts} → hosts_at w k ≡ x → HostsRight w k x
 hosts_right w k h e = subst (HostsRight w k) e (hosts_sound w k h)
 
 -- what is produced is read
 pub record HostsRead (w : List ℕ) (k : ℕ) (arg : Optional (List ℕ)) (n m : ℕ) : Type 0 where
   pub from : ℕ
   pub to : ℕ
-  pub read : hosts_at w k ≡ Hosts.Of from to n m
+  pub read : hosts_at w k ≡ Some (hosts_of from to n m)
   pub says : optional w from to ≡ arg
 
 cut_complete : {u l : List ℕ} {arg : Optional (List ℕ)} {n m : ℕ} → OptionalSpec u arg → DualCidrLength l n m → (w : List ℕ) (k cut : ℕ)

@@ -1,5 +1,6 @@
 -- The longest beginning of a run with which some term begins, as the code finds it, is that of the productions: `beginnings`. From the laws of Beginnings,
 -- that the models' ends are enough, and of Tokens, that a term is what the reader takes for one.
+use Rattle.std.proofs.Common.{None, Option, Some}
 use Prim.Native.Nat.{ℕ, zero, suc, ◌≤◌, ◌<◌}
 use mathlib.Core.Path.{◌≡◌, refl, sym, ap, subst, ◌∙◌}
 use mathlib.Core.Logic.{⊎_elim}
@@ -17,10 +18,10 @@ use Rattle.records.specs.Numbers.{said_of}
 use Rattle.records.specs.Answers.{Begun, Longest}
 use Rattle.records.specs.Reader.{token_of}
 use Rattle.records.specs.Beginnings.{models, ending, is_term, some_up_to, begins_term, longest_up_to, longest, Beginnings}
-use Rattle.records.specs.declared.Token.{Token}
 use Rattle.records.proofs.Laws.Tokens.{token_sound, token_complete}
 use Rattle.records.proofs.Laws.Endings.{Ending}
 use Rattle.records.proofs.Laws.Beginnings.{nothing_begins, term_begins}
+use Rattle.records.specs.declared.Term.{Term}
 
 -- a test that holds at some place
 record At (test : ℕ → Bool) (n : ℕ) : Type 0 where
@@ -44,10 +45,10 @@ some_holds test (suc n) i h k = ⊎_elim
     (le_or_lt i n)
 
 -- a term is what the reader takes for one
-term_of : (w : List ℕ) (t : Token) → token_of w ≡ t → is_term t ≡ true → (x : Said) × TermText w x
+term_of : (w : List ℕ) (t : Option Term) → token_of w ≡ t → is_term t ≡ true → (x : Said) × TermText w x
 unfolding is_term
-term_of w (Token.Is t) q h = (said_of w t, token_sound w t q)
-term_of w Token.Outside q h = let z : ◌≡◌ {A = ℕ} 0 1 = cc in absurd (omega arith)
+term_of w (Some t) q h = (said_of w t, token_sound w t q)
+term_of w None q h = let z : ◌≡◌ {A = ℕ} 0 1 = cc in absurd (omega arith)
 
 is_term_lem : {w : List ℕ} {x : Said} → TermText w x → is_term (token_of w) ≡ true
 unfolding is_term

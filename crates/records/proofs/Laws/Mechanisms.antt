@@ -1,5 +1,6 @@
 -- One mechanism after its qualifier: what is read is produced, what is produced is read, and it holds no space. From the laws of names, of
 -- domain-specs, of hosts and of networks.
+use Rattle.std.proofs.Common.{None, Option, Some}
 use Prim.Native.Nat.{ℕ, ◌+◌, ◌≤◌}
 use mathlib.Core.Path.{◌≡◌, refl, sym, ap, subst, ◌∙◌}
 use mathlib.Core.Logic.{⊎_elim}
@@ -27,7 +28,6 @@ use Rattle.records.specs.Numbers.{optional, said_of}
 use Rattle.records.specs.Reader.{kind_of, spec_at, hosts_at, all_of, with_spec, ptr_of, with_hosts, network_by, mechanism_by, mechanism_of}
 use Rattle.records.specs.declared.terms.Kind.{Kind}
 use Rattle.records.specs.declared.Term.{Term}
-use Rattle.records.specs.declared.Token.{Token}
 use Rattle.records.proofs.Laws.Names.{Word, literal_word, KindRight, kind_sound, Known, all_known, include_known, a_known, mx_known, ptr_known, ip4_known, ip6_known, exists_known, name_at, Unreserved}
 use Rattle.records.proofs.Laws.Specs.{solid_one, solid_bytes, solid_spec, Argument, spec_right, Optionally, argument_given, argument_absent, spec_absent, spec_given, spec-elim}
 use Rattle.records.proofs.Laws.Hosts.{hosts-elim, HostsMade, hosts_right, HostsRead, hosts_complete}
@@ -40,15 +40,15 @@ pub record MechanismMade (w : List ℕ) (i sign : ℕ) (t : Term) : Type 0 where
   pub made : Mechanism sign word (said_of w t)
   pub other : Unreserved w t
 
-abbrev pub MechanismRight : List ℕ → ℕ → ℕ → Token → Type 0
-MechanismRight w i sign (Token.Is t) = MechanismMade w i sign t
-MechanismRight w i sign Token.Outside = Unit {0}
+abbrev pub MechanismRight : List ℕ → ℕ → ℕ → Option Term → Type 0
+MechanismRight w i sign (Some t) = MechanismMade w i sign t
+MechanismRight w i sign None = Unit {0}
 
 -- each mechanism, with its name from i up to k
 module _ (w : List ℕ) (i k sign : ℕ) (p : Span w i k (part w i k)) (inside : k ≤ length w) where
   all_sound : Literal (bytes "all") (part w i k) → MechanismRight w i sign (all_of sign k w)
   unfolding all_of said_of
-  all_sound l = cond-elim (MechanismRight w i sign) (eqb k (length w)) {x = Token.Is (Term.All sign)} {y = Token.Outside}
+  all_sound l = cond-elim (MechanismRight w i sign) (eqb k (length w)) {x = Some (Term.All sign)} {y = None}
       (λ e. record {
         word = part w i k;
         span = subst (λ (n : ℕ). Span w i n (part w i k)) (eqb-true k (length w) e) p;
@@ -63,7 +63,7 @@ module _ (w : List ℕ) (i k sign : ℕ) (p : Span w i k (part w i k)) (inside :
       → MechanismRight w i sign (with_spec term k w)
   unfolding with_spec
   spec_sound term other made =
-      spec-elim (MechanismRight w i sign) (spec_at w k (length w)) (λ from. Token.Is (term from (length w))) Token.Outside Token.Outside
+      spec-elim (MechanismRight w i sign) (spec_at w k (length w)) (λ from. Some (term from (length w))) None None
       (λ from e.
       let a = spec_right w k (length w) inside (omega arith) e in
       record {
@@ -86,8 +86,8 @@ module _ (w : List ℕ) (i k sign : ℕ) (p : Span w i k (part w i k)) (inside :
   ptr_sound : Literal (bytes "ptr") (part w i k) → MechanismRight w i sign (ptr_of sign k w)
   unfolding ptr_of
   ptr_sound l =
-      spec-elim (MechanismRight w i sign) (spec_at w k (length w)) (λ from. Token.Is (Term.Ptr sign from (length w)))
-      (Token.Is (Term.Ptr sign (length w) (length w))) Token.Outside
+      spec-elim (MechanismRight w i sign) (spec_at w k (length w)) (λ from. Some (Term.Ptr sign from (length w)))
+      (Some (Term.Ptr sign (length w) (length w))) None
       (λ from e. ptr_made l from (argument_given w k (length w) from (spec_right w k (length w) inside (omega arith) e)))
       (λ e. ptr_made l (length w) (argument_absent w k (length w) (spec_right w k (length w) inside (omega arith) e)))
       (λ _. tt)
@@ -98,7 +98,7 @@ module _ (w : List ℕ) (i k sign : ℕ) (p : Span w i k (part w i k)) (inside :
       → MechanismRight w i sign (with_hosts term k w)
   unfolding with_hosts
   hosts_sound term other made =
-      hosts-elim (MechanismRight w i sign) (hosts_at w k) (λ from to n m. Token.Is (term from to n m)) Token.Outside
+      hosts-elim (MechanismRight w i sign) (hosts_at w k) (λ from to n m. Some (term from to n m)) None
       (λ from to n m e.
       let h = hosts_right w k inside e in
       record {
@@ -121,17 +121,17 @@ module _ (w : List ℕ) (i k sign : ℕ) (p : Span w i k (part w i k)) (inside :
       })
       tt
 
-  by_kind : (kind : Kind) → KindRight (part w i k) kind → MechanismRight w i sign (mechanism_by kind sign k w)
+  by_kind : (kind : Option Kind) → KindRight (part w i k) kind → MechanismRight w i sign (mechanism_by kind sign k w)
   unfolding mechanism_by said_of
-  by_kind Kind.All l = all_sound l
-  by_kind Kind.Include l = spec_sound (Term.Include sign) (λ from to. tt) (λ from a. Mechanism.include {w = part w i k} l a.made)
-  by_kind Kind.A l = hosts_sound (Term.A sign) (λ from to n m. tt) (λ from to n m h. Mechanism.a {w = part w i k} l h.made h.sized)
-  by_kind Kind.Mx l = hosts_sound (Term.Mx sign) (λ from to n m. tt) (λ from to n m h. Mechanism.mx {w = part w i k} l h.made h.sized)
-  by_kind Kind.Ptr l = ptr_sound l
-  by_kind Kind.Ip4 l = address_sound four l
-  by_kind Kind.Ip6 l = address_sound six l
-  by_kind Kind.Exists l = spec_sound (Term.Exists sign) (λ from to. tt) (λ from a. Mechanism.exists {w = part w i k} l a.made)
-  by_kind Kind.NoKind l = tt
+  by_kind (Some Kind.All) l = all_sound l
+  by_kind (Some Kind.Include) l = spec_sound (Term.Include sign) (λ from to. tt) (λ from a. Mechanism.include {w = part w i k} l a.made)
+  by_kind (Some Kind.A) l = hosts_sound (Term.A sign) (λ from to n m. tt) (λ from to n m h. Mechanism.a {w = part w i k} l h.made h.sized)
+  by_kind (Some Kind.Mx) l = hosts_sound (Term.Mx sign) (λ from to n m. tt) (λ from to n m h. Mechanism.mx {w = part w i k} l h.made h.sized)
+  by_kind (Some Kind.Ptr) l = ptr_sound l
+  by_kind (Some Kind.Ip4) l = address_sound four l
+  by_kind (Some Kind.Ip6) l = address_sound six l
+  by_kind (Some Kind.Exists) l = spec_sound (Term.Exists sign) (λ from to. tt) (λ from a. Mechanism.exists {w = part w i k} l a.made)
+  by_kind None l = tt
 
 pub mechanism_sound : (sign i : ℕ) (w : List ℕ) → i ≤ length w → MechanismRight w i sign (mechanism_of sign i w)
 unfolding mechanism_of
@@ -169,18 +169,18 @@ optional_stops (has_spec s) l h = colon_stops
 -- what is produced is read, and the reader takes it for a mechanism
 pub record MechanismRead (w : List ℕ) (i sign : ℕ) (x : Said) : Type 0 where
   pub term : Term
-  pub read : mechanism_of sign i w ≡ Token.Is term
+  pub read : mechanism_of sign i w ≡ Some term
   pub says : said_of w term ≡ x
   pub letter : is_alpha (at w i) ≡ true
   pub plain : eqb (at w (run_end (is_in NameByte) w i)) 61 ≡ false
 
 -- from what its kind reads after its name
-record After (token : Token) (w : List ℕ) (x : Said) : Type 0 where
+record After (token : Option Term) (w : List ℕ) (x : Said) : Type 0 where
   term : Term
-  read : token ≡ Token.Is term
+  read : token ≡ Some term
   says : said_of w term ≡ x
 
-module _ {w name u rest : List ℕ} {i sign : ℕ} {x : Said} {kind : Kind} (known : Known name kind) (l : Literal name u) (stops : Stops (at rest 0))
+module _ {w name u rest : List ℕ} {i sign : ℕ} {x : Said} {kind : Option Kind} (known : Known name kind) (l : Literal name u) (stops : Stops (at rest 0))
     (p : Span w i (length w) (u ++ rest)) where
   read_by : ((k : ℕ) → Span w k (length w) rest → After (mechanism_by kind sign k w) w x) → MechanismRead w i sign x
   unfolding mechanism_of

@@ -1,5 +1,6 @@
 -- One modifier: what is read is produced, what is produced is read, and it holds no space. From the laws of names and of domain-specs, and the
 -- soundness and completeness of macro strings.
+use Rattle.std.proofs.Common.{None, Option, Some}
 use Prim.Native.Nat.{ℕ, ◌+◌}
 use mathlib.Core.Path.{◌≡◌, refl, sym, ap, subst, ◌∙◌}
 use mathlib.Core.List.{List, [], ◌∷◌, ◌++◌, map}
@@ -30,7 +31,6 @@ use Rattle.records.specs.Grammar.{Literal, Name, letters, is_reserved, Modifier}
 use Rattle.records.specs.Numbers.{said_of}
 use Rattle.records.specs.Reader.{modifier_of}
 use Rattle.records.specs.declared.Term.{Term}
-use Rattle.records.specs.declared.Token.{Token}
 use Rattle.records.proofs.Laws.Names.{alpha_name, Word, literal_word, redirect_word, exp_word, literal_of, literal_same, NameAt, name_at, Unreserved}
 use Rattle.records.proofs.Laws.Specs.{solid_spec, solid_string}
 use Rattle.records.proofs.Laws.Mechanisms.{solid_after}
@@ -40,11 +40,11 @@ unfolding is_reserved
 unreserved u h k = simp (h, k)
 
 -- the ways out of a modifier with its name up to k
-pub modifier_elim : (k : ℕ) (w : List ℕ) (P : Token → Type 0)
-    → (same_word (part w 0 k) (bytes "redirect") ≡ true → is_macro_string Form.DomainSpec (part w (k + 1) (length w)) ≡ true → P (Token.Is (Term.Redirect (k + 1) (length w))))
-    → (same_word (part w 0 k) (bytes "exp") ≡ true → is_macro_string Form.DomainSpec (part w (k + 1) (length w)) ≡ true → P (Token.Is (Term.Explanation (k + 1) (length w))))
-    → (is_alpha (at w 0) ≡ true → is_reserved (part w 0 k) ≡ false → is_macro_string ModifierValue (part w (k + 1) (length w)) ≡ true → P (Token.Is (Term.Unknown k (length w))))
-    → P Token.Outside → P (modifier_of k w)
+pub modifier_elim : (k : ℕ) (w : List ℕ) (P : Option Term → Type 0)
+    → (same_word (part w 0 k) (bytes "redirect") ≡ true → is_macro_string Form.DomainSpec (part w (k + 1) (length w)) ≡ true → P (Some (Term.Redirect (k + 1) (length w))))
+    → (same_word (part w 0 k) (bytes "exp") ≡ true → is_macro_string Form.DomainSpec (part w (k + 1) (length w)) ≡ true → P (Some (Term.Explanation (k + 1) (length w))))
+    → (is_alpha (at w 0) ≡ true → is_reserved (part w 0 k) ≡ false → is_macro_string ModifierValue (part w (k + 1) (length w)) ≡ true → P (Some (Term.Unknown k (length w))))
+    → P None → P (modifier_of k w)
 unfolding modifier_of
 modifier_elim k w P redirects explains others outside =
     let name = part w 0 k in
@@ -62,9 +62,9 @@ pub record ModifierMade (w : List ℕ) (t : Term) : Type 0 where
   pub made : Modifier w (said_of w t)
   pub other : Unreserved w t
 
-abbrev pub ModifierRight : List ℕ → Token → Type 0
-ModifierRight w (Token.Is t) = ModifierMade w t
-ModifierRight w Token.Outside = Unit {0}
+abbrev pub ModifierRight : List ℕ → Option Term → Type 0
+ModifierRight w (Some t) = ModifierMade w t
+ModifierRight w None = Unit {0}
 
 equals_no_alpha : is_alpha 61 ≡ false
 unfolding is_alpha is_upper within
@@ -113,7 +113,7 @@ modifier_sound w e = modifier_made w (run_end (is_in NameByte) w 0) (run_span (i
 -- what is produced is read, and the reader takes it for a modifier
 pub record ModifierRead (w : List ℕ) (x : Said) : Type 0 where
   pub term : Term
-  pub read : modifier_of (run_end (is_in NameByte) w 0) w ≡ Token.Is term
+  pub read : modifier_of (run_end (is_in NameByte) w 0) w ≡ Some term
   pub says : said_of w term ≡ x
   pub letter : is_alpha (at w 0) ≡ true
   pub equals : eqb (at w (run_end (is_in NameByte) w 0)) 61 ≡ true
@@ -121,7 +121,7 @@ pub record ModifierRead (w : List ℕ) (x : Said) : Type 0 where
 -- from what is read with its name up to k
 record After (w : List ℕ) (k : ℕ) (x : Said) : Type 0 where
   term : Term
-  read : modifier_of k w ≡ Token.Is term
+  read : modifier_of k w ≡ Some term
   says : said_of w term ≡ x
 
 equals_no_name : is_name_byte 61 ≡ false

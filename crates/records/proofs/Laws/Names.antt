@@ -1,5 +1,6 @@
 -- Names: a word in either case of its letters, the name of a term as the longest run of name bytes, and which mechanism a name is. From the
 -- definitions of Grammar and Reader and the laws of runs.
+use Rattle.std.proofs.Common.{None, Option, Some}
 use Prim.Native.Nat.{ℕ, ◌+◌}
 use mathlib.Core.Path.{◌≡◌, refl, sym, ap, ◌∙◌}
 use mathlib.Core.List.{List, [], ◌∷◌, ◌++◌, map, append-nil}
@@ -85,16 +86,16 @@ unfolding same_word
 literal_same word w l = true_same (map lower w) word l.lowered
 
 -- which mechanism a name is
-abbrev pub KindRight : List ℕ → Kind → Type 0
-KindRight w Kind.All = Literal (bytes "all") w
-KindRight w Kind.Include = Literal (bytes "include") w
-KindRight w Kind.A = Literal (bytes "a") w
-KindRight w Kind.Mx = Literal (bytes "mx") w
-KindRight w Kind.Ptr = Literal (bytes "ptr") w
-KindRight w Kind.Ip4 = Literal (bytes "ip4") w
-KindRight w Kind.Ip6 = Literal (bytes "ip6") w
-KindRight w Kind.Exists = Literal (bytes "exists") w
-KindRight w Kind.NoKind = Unit {0}
+abbrev pub KindRight : List ℕ → Option Kind → Type 0
+KindRight w (Some Kind.All) = Literal (bytes "all") w
+KindRight w (Some Kind.Include) = Literal (bytes "include") w
+KindRight w (Some Kind.A) = Literal (bytes "a") w
+KindRight w (Some Kind.Mx) = Literal (bytes "mx") w
+KindRight w (Some Kind.Ptr) = Literal (bytes "ptr") w
+KindRight w (Some Kind.Ip4) = Literal (bytes "ip4") w
+KindRight w (Some Kind.Ip6) = Literal (bytes "ip6") w
+KindRight w (Some Kind.Exists) = Literal (bytes "exists") w
+KindRight w None = Unit {0}
 
 later_sound : (w : List ℕ) → KindRight w (later_kind w)
 unfolding later_kind
@@ -113,39 +114,39 @@ kind_sound w =
     (λ _. cond-elim (KindRight w) (same_word w (bytes "ptr")) (literal_of (bytes "ptr") w) (λ _. later_sound w)))))
 
 -- the name of a mechanism: in either case of its letters it is of the kind
-pub record Known (name : List ℕ) (kind : Kind) : Type 0 where
+pub record Known (name : List ℕ) (kind : Option Kind) : Type 0 where
   pub word : Word name
   pub is : (w : List ℕ) → Literal name w → kind_of w ≡ kind
 
-pub all_known : Known (bytes "all") Kind.All
+pub all_known : Known (bytes "all") (Some Kind.All)
 unfolding kind_of later_kind same_word same all is_name_byte is_alphanumeric is_alpha is_upper is_digit within
 all_known = record { word = record { letter = refl; names = refl }; is = λ w l. rw l.lowered }
 
-pub include_known : Known (bytes "include") Kind.Include
+pub include_known : Known (bytes "include") (Some Kind.Include)
 unfolding kind_of later_kind same_word same all is_name_byte is_alphanumeric is_alpha is_upper is_digit within
 include_known = record { word = record { letter = refl; names = refl }; is = λ w l. rw l.lowered }
 
-pub a_known : Known (bytes "a") Kind.A
+pub a_known : Known (bytes "a") (Some Kind.A)
 unfolding kind_of later_kind same_word same all is_name_byte is_alphanumeric is_alpha is_upper is_digit within
 a_known = record { word = record { letter = refl; names = refl }; is = λ w l. rw l.lowered }
 
-pub mx_known : Known (bytes "mx") Kind.Mx
+pub mx_known : Known (bytes "mx") (Some Kind.Mx)
 unfolding kind_of later_kind same_word same all is_name_byte is_alphanumeric is_alpha is_upper is_digit within
 mx_known = record { word = record { letter = refl; names = refl }; is = λ w l. rw l.lowered }
 
-pub ptr_known : Known (bytes "ptr") Kind.Ptr
+pub ptr_known : Known (bytes "ptr") (Some Kind.Ptr)
 unfolding kind_of later_kind same_word same all is_name_byte is_alphanumeric is_alpha is_upper is_digit within
 ptr_known = record { word = record { letter = refl; names = refl }; is = λ w l. rw l.lowered }
 
-pub ip4_known : Known (bytes "ip4") Kind.Ip4
+pub ip4_known : Known (bytes "ip4") (Some Kind.Ip4)
 unfolding kind_of later_kind same_word same all is_name_byte is_alphanumeric is_alpha is_upper is_digit within
 ip4_known = record { word = record { letter = refl; names = refl }; is = λ w l. rw l.lowered }
 
-pub ip6_known : Known (bytes "ip6") Kind.Ip6
+pub ip6_known : Known (bytes "ip6") (Some Kind.Ip6)
 unfolding kind_of later_kind same_word same all is_name_byte is_alphanumeric is_alpha is_upper is_digit within
 ip6_known = record { word = record { letter = refl; names = refl }; is = λ w l. rw l.lowered }
 
-pub exists_known : Known (bytes "exists") Kind.Exists
+pub exists_known : Known (bytes "exists") (Some Kind.Exists)
 unfolding kind_of later_kind same_word same all is_name_byte is_alphanumeric is_alpha is_upper is_digit within
 exists_known = record { word = record { letter = refl; names = refl }; is = λ w l. rw l.lowered }
 

@@ -1,5 +1,6 @@
 -- The argument of `ip4` and `ip6`: a network up to the first slash, and a prefix length from there on, since a network holds no slash and a length
 -- begins with one. Said once for both families; from the laws of networks, of lengths and of runs.
+use Rattle.std.proofs.Common.{None, Option, Some}
 use Prim.Native.Nat.{ℕ, ◌+◌}
 use mathlib.Core.Path.{◌≡◌, refl, sym, ap, subst, ◌∙◌}
 use mathlib.Core.Logic.{⊎_elim}
@@ -23,8 +24,6 @@ use Rattle.networks.specs.Grammar.{Network4, Network6, Length4, Length6}
 use Rattle.networks.specs.Reader.{read_ip4, read_length4, read_length6}
 use Rattle.networks.specs.Reader6.{read_ip6}
 use Rattle.networks.proofs.Laws.Readings.{length-elim}
-use Rattle.networks.specs.declared.Network.{Network}
-use Rattle.networks.specs.declared.Length.{Length}
 use Rattle.networks.proofs.Laws.Ip4.{ip4_sound, ip4_complete}
 use Rattle.networks.proofs.Laws.Ip6.{ip6_sound, ip6_complete}
 use Rattle.networks.proofs.Laws.Lengths.{length4_sound, length4_complete, length6_sound, length6_complete}
@@ -34,14 +33,13 @@ use Rattle.records.specs.Grammar.{Literal, Mechanism}
 use Rattle.records.specs.Numbers.{network_said}
 use Rattle.records.specs.Reader.{after_network, network_term, network_cut, network_by}
 use Rattle.records.specs.declared.Term.{Term}
-use Rattle.records.specs.declared.Token.{Token}
 use Rattle.records.proofs.Laws.Names.{last_at}
 
 -- the ways out of a network
-pub network-elim {κ} : {A : Type 0} (P : A → Type κ) (x : Network) (f : Address → A) (z : A)
-    → ((a : Address) → x ≡ Network.Is a → P (f a)) → P z → P (after_network x f z)
-network-elim P (Network.Is a) f z g h = g a refl
-network-elim P Network.NoNetwork f z g h = h
+pub network-elim {κ} : {A : Type 0} (P : A → Type κ) (x : Option Address) (f : Address → A) (z : A)
+    → ((a : Address) → x ≡ Some a → P (f a)) → P z → P (after_network x f z)
+network-elim P (Some a) f z g h = g a refl
+network-elim P None f z g h = h
 
 -- a family: its mechanism's name, what such a term says, its networks and lengths as productions, and their readers
 pub record Family : Type 1 where
@@ -49,12 +47,12 @@ pub record Family : Type 1 where
   pub shape : ℕ → List ℕ → Address → ℕ → Said
   pub Net : List ℕ → Address → Type 0
   pub Size : List ℕ → ℕ → Type 0
-  pub read : List ℕ → Network
-  pub size : List ℕ → Length
-  pub sound : (s : List ℕ) (x : Address) → read s ≡ Network.Is x → Net s x
-  pub complete : (s : List ℕ) (x : Address) → Net s x → read s ≡ Network.Is x
-  pub size_sound : (s : List ℕ) (n : ℕ) → size s ≡ Length.Of n → Size s n
-  pub size_complete : (s : List ℕ) (n : ℕ) → Size s n → size s ≡ Length.Of n
+  pub read : List ℕ → Option Address
+  pub size : List ℕ → Option ℕ
+  pub sound : (s : List ℕ) (x : Address) → read s ≡ Some x → Net s x
+  pub complete : (s : List ℕ) (x : Address) → Net s x → read s ≡ Some x
+  pub size_sound : (s : List ℕ) (n : ℕ) → size s ≡ Some n → Size s n
+  pub size_complete : (s : List ℕ) (n : ℕ) → Size s n → size s ≡ Some n
   pub plain : {w : List ℕ} {x : Address} → Net w x → Plain w
   pub text : {l : List ℕ} {n : ℕ} → Size l n → LengthText l
   pub said : (sign : ℕ) (t : List ℕ) (x : Address) (n : ℕ) → Net t x → network_said sign t x n ≡ shape sign t x n
@@ -115,19 +113,19 @@ pub record NetworkMade (f : Family) (w : List ℕ) (k from to : ℕ) (x : Addres
   pub made : f.Net (part w from to) x
   pub sized : f.Size lengths n
 
-pub network_sound : (f : Family) (P : Token → Type 0) (sign k : ℕ) (w : List ℕ)
-    → ((from to : ℕ) (x : Address) (n : ℕ) → NetworkMade f w k from to x n → P (Token.Is (Term.Network sign from to x n))) → P Token.Outside
+pub network_sound : (f : Family) (P : Option Term → Type 0) (sign k : ℕ) (w : List ℕ)
+    → ((from to : ℕ) (x : Address) (n : ℕ) → NetworkMade f w k from to x n → P (Some (Term.Network sign from to x n))) → P None
     → P (network_by f.read f.size sign k w)
 unfolding network_by network_cut network_term
 network_sound f P sign k w g z =
     let slash = run_end (is_in NotSlash) w (k + 1) in
-    cond-elim P (eqb (at w k) 58) {x = network_cut f.read f.size sign (k + 1) w slash} {y = Token.Outside}
+    cond-elim P (eqb (at w k) 58) {x = network_cut f.read f.size sign (k + 1) w slash} {y = None}
     (λ c.
     let b = eqb-true (at w k) 58 c in
     let i = nonzero_inside w k (λ e. omega (arith, b, e)) in
     let h = run_end_inside (is_in NotSlash) w (k + 1) (omega arith) in
-    network-elim P (f.read (part w (k + 1) slash)) _ Token.Outside
-    (λ x d. length-elim P (f.size (part w slash (length w))) (λ n. Token.Is (Term.Network sign (k + 1) slash x n)) Token.Outside
+    network-elim P (f.read (part w (k + 1) slash)) _ None
+    (λ x d. length-elim P (f.size (part w slash (length w))) (λ n. Some (Term.Network sign (k + 1) slash x n)) None
     (λ n e. g (k + 1) slash x n (record {
       lengths = part w slash (length w);
       span = span_join (span_byte w k 57 b)
@@ -140,10 +138,10 @@ network_sound f P sign k w g z =
     (λ _. z)
 
 -- what is produced is read
-pub record NetworkRead (token : Token) (sign : ℕ) (w t : List ℕ) (x : Address) (n : ℕ) : Type 0 where
+pub record NetworkRead (token : Option Term) (sign : ℕ) (w t : List ℕ) (x : Address) (n : ℕ) : Type 0 where
   pub from : ℕ
   pub to : ℕ
-  pub read : token ≡ Token.Is (Term.Network sign from to x n)
+  pub read : token ≡ Some (Term.Network sign from to x n)
   pub says : part w from to ≡ t
 
 pub slash_stops : is_in NotSlash 47 ≡ false

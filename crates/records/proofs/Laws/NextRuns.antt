@@ -1,4 +1,7 @@
 -- From a place on, spaces and then a run of non-spaces: as the productions have them, and as the reader finds them. From the laws of runs.
+use Rattle.records.specs.declared.Reason.{Reason}
+use Rattle.records.specs.Numbers.{TermAnswer, term_at, refusal}
+use Rattle.std.proofs.Common.{None, Option, Some, Ok, Err}
 use Prim.Native.Nat.{ℕ, ◌+◌, ◌≤◌, ◌<◌}
 use mathlib.Core.Path.{◌≡◌, refl, sym, ap, subst, ◌∙◌}
 use mathlib.Core.Logic.{inl, inr, ⊎_elim}
@@ -22,8 +25,6 @@ use Rattle.text.proofs.Laws.Classes.{class_tests, space_is}
 use Rattle.records.specs.Answers.{most_bytes, Boundary, Run}
 use Rattle.records.specs.Reader.{token_of, token_answer, term_from, read_term}
 use Rattle.records.specs.declared.Term.{Term}
-use Rattle.records.specs.declared.Token.{Token}
-use Rattle.records.specs.declared.TermAnswer.{TermAnswer}
 
 pub record NextRun (s : List ℕ) (i a e : ℕ) (u w : List ℕ) : Type 0 where
   pub spaces : Span s i a u
@@ -85,7 +86,7 @@ module _ {s : List ℕ} {i a e : ℕ} {u w : List ℕ} (n : NextRun s i a e u w)
       simp (le-ltb most_bytes (length s) h, le-ltb (length s) i (omega arith), spaces_end, word_end_lem, span_word n.word, ne_eqb a (length s) (omega arith))
 
 -- only spaces left
-pub read_spaces : {s : List ℕ} {i : ℕ} {u : List ℕ} → length s ≤ most_bytes → Span s i (length s) u → all is_space u ≡ true → read_term s i ≡ TermAnswer.End
+pub read_spaces : {s : List ℕ} {i : ℕ} {u : List ℕ} → length s ≤ most_bytes → Span s i (length s) u → all is_space u ≡ true → read_term s i ≡ Ok None
 unfolding read_term term_from
 read_spaces {s} {i} {u} h p m =
     simp (le-ltb most_bytes (length s) h, le-ltb (length s) i (omega (arith, p.size)), span_run_end (is_in Space) p (class_tests Space u ∙ m), eq-eqb (length s) (length s) refl)
@@ -137,14 +138,14 @@ gap_of {s} {i} {a} {e} {u = x ∷ g} {w} n b = record {
 
 -- what reading a term answers, for a place inside
 pub data View (s : List ℕ) (i : ℕ) : TermAnswer → Type 0 where
-  only_spaces : all is_space (drop i s) ≡ true → View s i TermAnswer.End
-  outside : {a e : ℕ} {u : List ℕ} → NextRun s i a e u (part s a e) → token_of (part s a e) ≡ Token.Outside → View s i (TermAnswer.Refused 32 a)
-  is : {a e : ℕ} {u : List ℕ} {t : Term} → NextRun s i a e u (part s a e) → token_of (part s a e) ≡ Token.Is t → View s i (TermAnswer.Is a e t)
+  only_spaces : all is_space (drop i s) ≡ true → View s i (Ok None)
+  outside : {a e : ℕ} {u : List ℕ} → NextRun s i a e u (part s a e) → token_of (part s a e) ≡ None → View s i (Err (refusal Reason.Outside a))
+  is : {a e : ℕ} {u : List ℕ} {t : Term} → NextRun s i a e u (part s a e) → token_of (part s a e) ≡ Some t → View s i (term_at a e t)
 
-view_token : (s : List ℕ) (i a e : ℕ) → NextRun s i a e (part s i a) (part s a e) → (t : Token) → token_of (part s a e) ≡ t → View s i (token_answer a e t)
+view_token : (s : List ℕ) (i a e : ℕ) → NextRun s i a e (part s i a) (part s a e) → (t : Option Term) → token_of (part s a e) ≡ t → View s i (token_answer a e t)
 unfolding token_answer
-view_token s i a e n (Token.Is t) q = is n q
-view_token s i a e n Token.Outside q = outside n q
+view_token s i a e n (Some t) q = is n q
+view_token s i a e n None q = outside n q
 
 pub term_view : (s : List ℕ) (i : ℕ) → length s ≤ most_bytes → i ≤ length s → View s i (read_term s i)
 unfolding read_term term_from

@@ -1,5 +1,9 @@
 -- The ways out of the functions that read a record for a client: the record's answer is that of the reader, the leading terms are as the opening says,
 -- and redirect and exp stand where the modifiers say. From the laws of Checking and of Noting, and the definitions of Opening.
+use Rattle.records.specs.declared.ReadTerm.{ReadTerm}
+use Rattle.records.specs.declared.Reason.{Reason}
+use Rattle.records.specs.Numbers.{TermAnswer, term_at, refusal}
+use Rattle.std.proofs.Common.{None, Option, Some, Result, Ok, Err}
 use Prim.Native.Nat.{ℕ, ◌+◌, ◌-◌, ◌≤◌, ◌<◌}
 use mathlib.Core.Path.{◌≡◌, refl, sym, ap, ◌∙◌}
 use mathlib.Core.List.{List}
@@ -12,15 +16,14 @@ use Rattle.address.specs.declared.Address.{Address}
 use Rattle.address.specs.Matching.{matches_at}
 use Rattle.text.specs.Texts.{bytes}
 use Rattle.records.specs.declared.Term.{Term}
-use Rattle.records.specs.declared.TermAnswer.{TermAnswer}
-use Rattle.records.specs.declared.RecordAnswer.{RecordAnswer}
 use Rattle.records.specs.declared.opening.Unaided.{Unaided}
 use Rattle.records.specs.declared.opening.Opening.{Opening}
 use Rattle.records.specs.declared.opening.Modifiers.{Modifiers}
 use Rattle.records.specs.declared.opening.Reading.{Reading}
+use Rattle.records.specs.declared.Refusal.{Refusal}
 use Rattle.records.specs.Answers.{most_bytes}
 use Rattle.records.specs.Reader.{read_term, is_redirect, is_explanation, check_after, check_from, has_version, read_record, after_version}
-use Rattle.records.specs.Opening.{modifier_at, modifiers_of, unaided, Passing, Leads, ModifiersAre, Accepts, Opened, OpeningOf, answer_of, none_met, is_met, repeated_by, noted, NoteFits, refused_of, led_by, led_on}
+use Rattle.records.specs.Opening.{unaided, Passing, Leads, Opened, OpeningOf, answer_of, none_met, is_met, repeated_by, noted, NoteFits, led_by, led_on}
 use Rattle.records.proofs.Laws.Checking.{Checking, checking_start, checking_ended, checking_repeats, checking_less, checking_next, record_long, record_other, record_checked}
 use Rattle.records.proofs.Laws.Standing.{Sought, sought_start, sought_end}
 use Rattle.records.proofs.Laws.Noting.{case_of, redirect_met, exp_met, redirect_next, exp_next, note_fits}
@@ -43,7 +46,6 @@ pub lead_other : (client : Address) (o : Opening) (i n : ℕ) (x : Term) → ((j
 unfolding led_on
 lead_other client (Opening.Open j) i n x h = absurd (h j refl)
 lead_other client (Opening.Matched sign) i n x h = refl
-lead_other client (Opening.Refused number p) i n x h = refl
 
 module _ (client : Address) (o : Opening) (j : ℕ) (e : o ≡ Opening.Open j) (i n : ℕ) (x : Term) where
   pub lead_behind : (j ≡ i → ⊥) → Opening.Open j ≡ led_on client o i n x
@@ -73,10 +75,13 @@ pub data Led (client : Address) (s : List ℕ) (i₀ i : ℕ) : Opening → Type
   known : {o : Opening} → Leads client s i₀ o → Led client s i₀ i o
 
 -- a place has one term
-pub one_term : (s : List ℕ) (j at n at' n' : ℕ) (x x' : Term) → read_term s j ≡ TermAnswer.Is at n x → read_term s j ≡ TermAnswer.Is at' n' x' → (n ≡ n') × (x ≡ x')
-one_term s j at n at' n' x x' p q = let e : TermAnswer.Is at n x ≡ TermAnswer.Is at' n' x' = sym p ∙ q in (cc, cc)
+pub one_term : (s : List ℕ) (j at n at' n' : ℕ) (x x' : Term) → read_term s j ≡ term_at at n x → read_term s j ≡ term_at at' n' x' → (n ≡ n') × (x ≡ x')
+one_term s j at n at' n' x x' p q =
+    let e : term_at at n x ≡ term_at at' n' x' = sym p ∙ q in
+    let g : ◌≡◌ {A = ReadTerm} (record { at = at; next = n; term = x }) (record { at = at'; next = n'; term = x' }) = cc in
+    (ap (λ (t : ReadTerm). t.next) g, ap (λ (t : ReadTerm). t.term) g)
 
-module _ (client : Address) (s : List ℕ) (i₀ i at n : ℕ) (x : Term) (q : read_term s i ≡ TermAnswer.Is at n x) where
+module _ (client : Address) (s : List ℕ) (i₀ i at n : ℕ) (x : Term) (q : read_term s i ≡ term_at at n x) where
   -- one more term, all before it passing
   led_by_lem : Passing client s i₀ i → (u : Unaided) → unaided client x ≡ u → Led client s i₀ n (led_by u i n)
   unfolding led_by
@@ -88,7 +93,6 @@ module _ (client : Address) (s : List ℕ) (i₀ i at n : ℕ) (x : Term) (q : r
   unfolding led_on led_by
   led_on_lem o (passing p) = rw (eq-eqb i i refl) (led_by_lem p (unaided client x) refl)
   led_on_lem o (known (Leads.matched p r e)) = known (Leads.matched p r e)
-  led_on_lem o (known Leads.refused) = known Leads.refused
   led_on_lem o (known (Leads.opened {j = j} p a)) = by (eqb j i) refl
     where
       by : (t : Bool) → eqb j i ≡ t → Led client s i₀ n (cond t (led_by (unaided client x) j n) (Opening.Open j))
@@ -96,64 +100,40 @@ module _ (client : Address) (s : List ℕ) (i₀ i at n : ℕ) (x : Term) (q : r
       by false e = known (Leads.opened p a)
 
 -- no more term
-no_term : (at n : ℕ) (x : Term) → TermAnswer.End ≡ TermAnswer.Is at n x → ⊥
+no_term : (at n : ℕ) (x : Term) → Ok None ≡ term_at at n x → ⊥
 no_term at n x e = let z : ◌≡◌ {A = ℕ} 0 1 = cc in omega arith
 
-led_last : (client : Address) (s : List ℕ) (i₀ i : ℕ) (o : Opening) → Led client s i₀ i o → TermAnswer.End ≡ read_term s i → Leads client s i₀ o
+led_last : (client : Address) (s : List ℕ) (i₀ i : ℕ) (o : Opening) → Led client s i₀ i o → Ok None ≡ read_term s i → Leads client s i₀ o
 led_last client s i₀ i o (passing p) q = Leads.opened p (λ at n x r. absurd (no_term at n x (q ∙ r)))
 led_last client s i₀ i o (known l) q = l
-
--- one more term leaves a record that was accepted so far
-accepted_by : (j n : ℕ) (t : Bool) (u : Unaided) → Accepts (cond t (led_by u j n) (Opening.Open j))
-unfolding led_by answer_of
-accepted_by j n true (Unaided.Matches sign) = refl
-accepted_by j n true Unaided.Passes = refl
-accepted_by j n true Unaided.Asks = refl
-accepted_by j n false u = refl
-
-accepted_on : (client : Address) (o : Opening) → Accepts o → (i n : ℕ) (x : Term) → Accepts (led_on client o i n x)
-unfolding led_on answer_of
-accepted_on client (Opening.Matched sign) h i n x = refl
-accepted_on client (Opening.Refused number p) h i n x = h
-accepted_on client (Opening.Open j) h i n x = accepted_by j n (eqb j i) (unaided client x)
 
 -- part way through the terms, with the modifiers met and the opening so far
 pub record Opens (client : Address) (s : List ℕ) (i₀ i : ℕ) (m : Modifiers) (o : Opening) : Type 0 where
   pub checks : Checking s i₀ i (is_met m.redirect) (is_met m.exp)
-  pub accepted : Accepts o
   pub leads : Led client s i₀ i o
   pub redirect : Sought s (bytes "redirect") i₀ i m.redirect
   pub exp : Sought s (bytes "exp") i₀ i m.exp
 
-opens_start : (client : Address) (s : List ℕ) (i : ℕ) → i ≤ length s → Opens client s i i none_met (Opening.Open i)
-unfolding answer_of is_met
-opens_start client s i h = record {
+pub opens_begin : (client : Address) (s : List ℕ) (i : ℕ) → i ≤ length s → Opens client s i i none_met (Opening.Open i)
+unfolding is_met
+opens_begin client s i h = record {
   checks = checking_start s i h;
-  accepted = refl;
   leads = passing Passing.none;
   redirect = sought_start s (bytes "redirect") i;
   exp = sought_start s (bytes "exp") i;
 }
 
-pub opens_begin : (client : Address) (s : List ℕ) (i : ℕ) → i ≤ length s
-    → Opens client s i i (modifiers_of (record { redirect = record { from = 0; to = 0 }; exp = record { from = 0; to = 0 } })) (Opening.Open i)
-unfolding modifier_at
-opens_begin client s i h = opens_start client s i h
-
 -- a refusal tells nothing of the terms
-no_modifiers : (s : List ℕ) (i number p : ℕ) → Accepts (Opening.Refused number p) → ModifiersAre s i none_met
+refused_opened : (client : Address) (s : List ℕ) (i : ℕ) (x : Refusal) → ((f : ℕ) → length s < f + i → Err x ≡ check_from f s i false false)
+    → Opened client s i (Err x)
 unfolding answer_of
-no_modifiers s i number p h = absurd (let z : ◌≡◌ {A = ℕ} 0 1 = cc in omega arith)
-
-refused_opened : (client : Address) (s : List ℕ) (i number p : ℕ) → ((f : ℕ) → length s < f + i → RecordAnswer.Refused number p ≡ check_from f s i false false)
-    → (r : Reading) → r ≡ refused_of number p → Opened client s i r
-unfolding answer_of
-refused_opened client s i number p h r e = rw e (record { checks = h; leads = Leads.refused; modifiers = no_modifiers s i number p })
+refused_opened client s i x h = record {
+  checks = h;
+  leads = λ r e. absurd (let z : ◌≡◌ {A = ℕ} 0 1 = cc in omega arith);
+  modifiers = λ r e. absurd (let z : ◌≡◌ {A = ℕ} 0 1 = cc in omega arith);
+}
 
 module _ (client : Address) (s : List ℕ) (i₀ i : ℕ) (m : Modifiers) (o : Opening) (w : Opens client s i₀ i m o) where
-  pub opens_past : length s < i → (y : Modifiers) → Opened client s i₀ (record { opening = o; modifiers = y })
-  opens_past h y = absurd (omega (arith, w.checks.inside))
-
   -- which modifiers have been met
   abbrev r : Bool
   r = is_met m.redirect
@@ -162,65 +142,71 @@ module _ (client : Address) (s : List ℕ) (i₀ i : ℕ) (m : Modifiers) (o : O
   e = is_met m.exp
 
   module _ (a : TermAnswer) (p : a ≡ read_term s i) where
-    pub opens_end : ((at n : ℕ) (t : Term) → a ≡ TermAnswer.Is at n t → ⊥) → ((number at : ℕ) → a ≡ TermAnswer.Refused number at → ⊥)
-        → (y : Modifiers) → y ≡ m → Opened client s i₀ (record { opening = o; modifiers = y })
-    unfolding check_after
-    opens_end h k y f = rw f (by a p h k)
-      where
-        by : (b : TermAnswer) → b ≡ read_term s i → ((at n : ℕ) (t : Term) → b ≡ TermAnswer.Is at n t → ⊥) → ((number at : ℕ) → b ≡ TermAnswer.Refused number at → ⊥)
-            → Opened client s i₀ (record { opening = o; modifiers = m })
-        by (TermAnswer.Is at n t) q h k = absurd (h at n t refl)
-        by TermAnswer.End q h k = record {
-          checks = checking_ended s i₀ i r e w.checks TermAnswer.End q (answer_of o) (λ rest. w.accepted);
-          leads = led_last client s i₀ i o w.leads q;
-          modifiers = λ _. record { redirect = sought_end q w.redirect; exp = sought_end q w.exp };
+    opens_end : a ≡ Ok None → Opened client s i₀ (Ok (record { opening = o; modifiers = m }))
+    unfolding answer_of check_after
+    opens_end q =
+        let k : Ok None ≡ read_term s i = sym q ∙ p in
+        record {
+          checks = checking_ended s i₀ i r e w.checks (Ok None) k (Ok after_version) (λ rest. refl);
+          leads = λ y h. let g : y ≡ record { opening = o; modifiers = m } = cc in rw g (led_last client s i₀ i o w.leads k);
+          modifiers = λ y h. let g : y ≡ record { opening = o; modifiers = m } = cc in rw g (record { redirect = sought_end k w.redirect; exp = sought_end k w.exp });
         }
-        by (TermAnswer.Refused number at) q h k = absurd (k number at refl)
 
-    pub opens_refused : (number at : ℕ) → a ≡ TermAnswer.Refused number at → (x : Reading) → x ≡ refused_of number at → Opened client s i₀ x
+    pub opens_refused : (x : Refusal) → a ≡ Err x → Opened client s i₀ (Err x)
     unfolding check_after
-    opens_refused number at q = refused_opened client s i₀ number at
-        (checking_ended s i₀ i r e w.checks (TermAnswer.Refused number at) (sym q ∙ p) (RecordAnswer.Refused number at) (λ rest. refl))
+    opens_refused x q = refused_opened client s i₀ x (checking_ended s i₀ i r e w.checks (Err x) (sym q ∙ p) (Err x) (λ rest. refl))
 
-    module _ (at n : ℕ) (t : Term) (q : a ≡ TermAnswer.Is at n t) where
-      read : read_term s i ≡ TermAnswer.Is at n t
+    pub opens_end_at : (x : Option ReadTerm) → a ≡ Ok x → ((t : ReadTerm) → x ≡ Some t → ⊥) → Opened client s i₀ (Ok (record { opening = o; modifiers = m }))
+    opens_end_at None q h = opens_end q
+    opens_end_at (Some t) q h = absurd (h t refl)
+
+    module _ (y : Option ReadTerm) (u : a ≡ Ok y) (t : ReadTerm) (v : y ≡ Some t) where
+      q : a ≡ Ok (Some t)
+      q = u ∙ ap Ok v
+
+      read : read_term s i ≡ Ok (Some t)
       read = sym p ∙ q
 
-      pub opens_less : length s + 1 - n < length s + 1 - i
-      opens_less = checking_less s i₀ i r e w.checks a p at n t q
+      pub opens_less : length s + 1 - t.next < length s + 1 - i
+      opens_less = checking_less s i₀ i r e w.checks a p t.at t.next t.term q
 
-      pub opens_notes : NoteFits at t
-      opens_notes = note_fits s i at n t read
+      pub opens_notes : NoteFits t.at t.term
+      opens_notes = note_fits s i t.at t.next t.term read
 
-      module _ (x : Bool) (g : x ≡ repeated_by m t) where
-        tested : x ≡ ((r && is_redirect t) || (e && is_explanation t))
+      module _ (x : Bool) (g : x ≡ repeated_by m t.term) where
+        tested : x ≡ ((r && is_redirect t.term) || (e && is_explanation t.term))
         unfolding repeated_by
         tested = g
 
-        pub opens_repeats : x ≡ true → (y : Reading) → y ≡ refused_of 33 at → Opened client s i₀ y
-        opens_repeats h = refused_opened client s i₀ 33 at (checking_repeats s i₀ i r e w.checks a p at n t q x tested h)
+        pub opens_repeats : x ≡ true → Opened client s i₀ (Err (refusal Reason.Repeated t.at))
+        opens_repeats h =
+            refused_opened client s i₀ (refusal Reason.Repeated t.at) (checking_repeats s i₀ i r e w.checks a p t.at t.next t.term q x tested h)
 
-        pub opens_next : x ≡ false → (m' : Modifiers) → m' ≡ noted m at t → (o' : Opening) → o' ≡ led_on client o i n t → Opens client s i₀ n m' o'
+        pub opens_next : x ≡ false → (m' : Modifiers) → m' ≡ noted m t.at t.term → (o' : Opening) → o' ≡ led_on client o i t.next t.term
+            → Opens client s i₀ t.next m' o'
         opens_next h m' j o' k = rw (j, k) (record {
-          checks = checking_next s i₀ i r e w.checks a p at n t q x tested h _ _ (redirect_met m at (case_of t)) (exp_met m at (case_of t));
-          accepted = accepted_on client o w.accepted i n t;
-          leads = led_on_lem client s i₀ i at n t read o w.leads;
-          redirect = redirect_next s i₀ i at n m (case_of t) read (sym g ∙ h) w.redirect;
-          exp = exp_next s i₀ i at n m (case_of t) read (sym g ∙ h) w.exp;
+          checks = checking_next s i₀ i r e w.checks a p t.at t.next t.term q x tested h _ _ (redirect_met m t.at (case_of t.term)) (exp_met m t.at (case_of t.term));
+          leads = led_on_lem client s i₀ i t.at t.next t.term read o w.leads;
+          redirect = redirect_next s i₀ i t.at t.next m (case_of t.term) read (sym g ∙ h) w.redirect;
+          exp = exp_next s i₀ i t.at t.next m (case_of t.term) read (sym g ∙ h) w.exp;
         })
 
 -- `open_record`
 module _ (client : Address) (s : List ℕ) where
-  refused_of_lem : (number p : ℕ) → RecordAnswer.Refused number p ≡ read_record s → (r : Reading) → r ≡ refused_of number p → OpeningOf client s r
+  refused_of_lem : (x : Refusal) → Err x ≡ read_record s → OpeningOf client s (Err x)
   unfolding answer_of
-  refused_of_lem number p h r e = rw e (record { answer = h; leads = Leads.refused; modifiers = no_modifiers s after_version number p })
+  refused_of_lem x h = record {
+    answer = h;
+    leads = λ r e. absurd (let z : ◌≡◌ {A = ℕ} 0 1 = cc in omega arith);
+    modifiers = λ r e. absurd (let z : ◌≡◌ {A = ℕ} 0 1 = cc in omega arith);
+  }
 
-  pub open_long : most_bytes < length s → (r : Reading) → r ≡ refused_of 30 0 → OpeningOf client s r
-  open_long h = refused_of_lem 30 0 (record_long s h)
+  pub open_long : most_bytes < length s → OpeningOf client s (Err (refusal Reason.TooLong 0))
+  open_long h = refused_of_lem (refusal Reason.TooLong 0) (record_long s h)
 
   module _ (short : length s ≤ most_bytes) (x : Bool) (p : x ≡ has_version s) where
-    pub open_other : x ≡ false → (r : Reading) → r ≡ refused_of 31 0 → OpeningOf client s r
-    open_other h = refused_of_lem 31 0 (record_other s short x p h)
+    pub open_other : x ≡ false → OpeningOf client s (Err (refusal Reason.NoVersion 0))
+    open_other h = refused_of_lem (refusal Reason.NoVersion 0) (record_other s short x p h)
 
-    pub open_checked : x ≡ true → (r : Reading) → Opened client s after_version r → OpeningOf client s r
-    open_checked h r g = record { answer = record_checked s short x p h (answer_of r.opening) g.checks; leads = g.leads; modifiers = g.modifiers }
+    pub open_checked : x ≡ true → (r : Result Reading Refusal) → Opened client s after_version r → OpeningOf client s r
+    open_checked h r g = record { answer = record_checked s short x p h (answer_of r) g.checks; leads = g.leads; modifiers = g.modifiers }

@@ -1,5 +1,9 @@
 -- The ways out of the functions that read one term: a rule for each way, whose premises are what the code knows there. From the definitions of
 -- Reader and the laws of runs.
+use mathlib.Core.Logic.{◌⊎◌, inl, inr}
+use Rattle.records.proofs.Laws.Steps.{some_if}
+use Rattle.std.specs.Bool.{then_some}
+use Rattle.std.proofs.Common.{None, Option, Some, unwrap_or}
 use Prim.Native.Nat.{ℕ, ◌+◌, ◌≤◌, ◌<◌, ◌^◌}
 use mathlib.Core.Path.{◌≡◌, refl, sym, ap, ◌∙◌}
 use mathlib.Core.List.{List}
@@ -22,16 +26,12 @@ use Rattle.records.proofs.Laws.Hosts.{cut_after}
 use Rattle.macros.specs.declared.Form.TheVariants.{DomainSpec, ModifierValue}
 use Rattle.macros.specs.Reader.{is_macro_string}
 use Rattle.networks.specs.Reader.{read_dual}
-use Rattle.networks.specs.declared.Network.{Network}
-use Rattle.networks.specs.declared.Length.{Length}
-use Rattle.networks.specs.declared.Dual.{Dual}
+use Rattle.networks.specs.declared.Lengths.{Lengths}
 use Rattle.records.specs.Grammar.{is_qualifier}
 use Rattle.records.specs.declared.Term.{Term}
-use Rattle.records.specs.declared.Token.{Token}
 use Rattle.records.specs.declared.terms.Kind.{Kind}
-use Rattle.records.specs.declared.terms.Spec.{Spec}
 use Rattle.records.specs.declared.terms.Hosts.{Hosts}
-use Rattle.records.specs.Reader.{kind_of, spec_at, cut_of, hosts_cut, hosts_at, network_term, network_cut, network_by, mechanism_by, mechanism_of, modifier_of, sign_by, name_by, token_of}
+use Rattle.records.specs.Reader.{kind_of, spec_at, cut_of, hosts_cut, hosts_at, network_term, network_cut, network_by, mechanism_by, mechanism_of, modifier_of, sign_by, name_by, token_of, with_spec, ptr_of, with_hosts}
 
 -- the end of a run that the code has found
 module _ (p : ℕ → Bool) (w : List ℕ) (i e : ℕ) (q : e ≡ run_end p w i) where
@@ -44,15 +44,12 @@ module _ (p : ℕ → Bool) (w : List ℕ) (i e : ℕ) (q : e ≡ run_end p w i)
 -- `read_spec`
 module _ (w : List ℕ) (k to : ℕ) (some : k ≡ to → ⊥) (b : ℕ) (p : b ≡ at w k) (colon : b ≡ 58) where
   module _ (m : Bool) (e : m ≡ is_macro_string DomainSpec (part w (k + 1) to)) where
-    spec : spec_at w k to ≡ cond m (Spec.From (k + 1)) Spec.Bad
+    spec : spec_at w k to ≡ cond m (Some (Some (k + 1))) None
     unfolding spec_at
     spec = simp (ne_eqb k to some, eq-eqb (at w k) 58 (sym p ∙ colon), sym e)
 
-    pub spec_from : m ≡ true → Spec.From (k + 1) ≡ spec_at w k to
-    spec_from h = sym (spec ∙ simp h)
-
-    pub spec_bad : m ≡ false → Spec.Bad ≡ spec_at w k to
-    spec_bad h = sym (spec ∙ simp h)
+    pub spec_from : (r : Option (Option ℕ)) → r ≡ then_some m (Some (k + 1)) → r ≡ spec_at w k to
+    spec_from r h = h ∙ some_if m (Some (k + 1)) ∙ sym spec
 
 -- `lengths_start`
 pub cut_found : (t : List ℕ) (i r : ℕ) → i ≡ trailing_start (is_in LengthByte) t → r ≡ run_end (is_in Digit) t i → r ≡ cut_of t
@@ -60,23 +57,21 @@ unfolding cut_of
 cut_found t i r p q = q ∙ ap (run_end (is_in Digit) t) p
 
 -- `read_hosts_cut`
-module _ (w : List ℕ) (k cut : ℕ) (d : Dual) (q : d ≡ read_dual (part w cut (length w))) where
-  pub hosts_no_lengths : d ≡ Dual.NoLengths → Hosts.Bad ≡ hosts_cut w k cut
+module _ (w : List ℕ) (k cut : ℕ) (d : Option Lengths) (q : d ≡ read_dual (part w cut (length w))) where
+  pub hosts_no_lengths : d ≡ None → None ≡ hosts_cut w k cut
   unfolding hosts_cut
   hosts_no_lengths h = sym (simp (sym q ∙ h))
 
-  module _ (n m : ℕ) (h : d ≡ Dual.Both n m) (s : Spec) (e : s ≡ spec_at w k cut) where
-    pub hosts_from : (from : ℕ) → s ≡ Spec.From from → Hosts.Of from cut n m ≡ hosts_cut w k cut
-    unfolding hosts_cut
-    hosts_from from g = sym (simp (sym q ∙ h, sym e ∙ g))
-
-    pub hosts_absent : s ≡ Spec.Absent → Hosts.Of cut cut n m ≡ hosts_cut w k cut
-    unfolding hosts_cut
-    hosts_absent g = sym (simp (sym q ∙ h, sym e ∙ g))
-
-    pub hosts_bad : s ≡ Spec.Bad → Hosts.Bad ≡ hosts_cut w k cut
+  module _ (x : Lengths) (h : d ≡ Some x) (s : Option (Option ℕ)) (e : s ≡ spec_at w k cut) where
+    pub hosts_bad : s ≡ None → None ≡ hosts_cut w k cut
     unfolding hosts_cut
     hosts_bad g = sym (simp (sym q ∙ h, sym e ∙ g))
+
+    pub hosts_from : (y : Option ℕ) → s ≡ Some y → (from : ℕ) → from ≡ unwrap_or y cut
+        → Some (record { domain = record { from = from; to = cut }; lengths = x }) ≡ hosts_cut w k cut
+    unfolding hosts_cut
+    hosts_from (Some n) g from r = sym (simp (sym q ∙ h, sym e ∙ g, r))
+    hosts_from None g from r = sym (simp (sym q ∙ h, sym e ∙ g, r))
 
 -- `read_hosts`
 module _ (w : List ℕ) (k n : ℕ) (q : n ≡ cut_of (part w k (length w))) where
@@ -86,22 +81,22 @@ module _ (w : List ℕ) (k n : ℕ) (q : n ≡ cut_of (part w k (length w))) whe
   pub hosts_room : k ≤ length w → length w < 2 ^ 64 → k + n < 2 ^ 64
   hosts_room h g = omega (arith, hosts_inside h)
 
-  pub hosts_found : (r : Hosts) → r ≡ hosts_cut w k (k + n) → r ≡ hosts_at w k
+  pub hosts_found : (r : Option Hosts) → r ≡ hosts_cut w k (k + n) → r ≡ hosts_at w k
   unfolding hosts_at
   hosts_found r e = e ∙ ap (λ (i : ℕ). hosts_cut w k (k + i)) q
 
 -- `network_term`
-module _ (sign from to : ℕ) (network : Network) (size : Length) where
-  pub no_network : network ≡ Network.NoNetwork → Token.Outside ≡ network_term sign from to network size
+module _ (sign from to : ℕ) (network : Option Address) (size : Option ℕ) where
+  pub no_network : network ≡ None → None ≡ network_term sign from to network size
   unfolding network_term
   no_network h = sym (simp h)
 
-  module _ (x : Address) (h : network ≡ Network.Is x) where
-    pub no_length : size ≡ Length.NoLength → Token.Outside ≡ network_term sign from to network size
+  module _ (x : Address) (h : network ≡ Some x) where
+    pub no_length : size ≡ None → None ≡ network_term sign from to network size
     unfolding network_term
     no_length e = sym (simp (h, e))
 
-    pub network_is : (n : ℕ) → size ≡ Length.Of n → Token.Is (Term.Network sign from to x n) ≡ network_term sign from to network size
+    pub network_is : (n : ℕ) → size ≡ Some n → Some (Term.Network sign from to x n) ≡ network_term sign from to network size
     unfolding network_term
     network_is n e = sym (simp (h, e))
 
@@ -116,16 +111,50 @@ module _ (w : List ℕ) (k b : ℕ) (p : b ≡ at w k) (colon : b ≡ 58) where
   pub slash_inside : (slash : ℕ) → slash ≡ run_end (is_in NotSlash) w (k + 1) → slash ≤ length w
   slash_inside slash q = end_inside (is_in NotSlash) w (k + 1) slash q after_colon
 
-pub network_found : (read : List ℕ → Network) (size : List ℕ → Length) (sign k : ℕ) (w : List ℕ) (b : ℕ) → b ≡ at w k → b ≡ 58
-    → (slash : ℕ) → slash ≡ run_end (is_in NotSlash) w (k + 1) → (x : Network) → x ≡ read (part w (k + 1) slash)
-    → (n : Length) → n ≡ size (part w slash (length w))
-    → (r : Token) → r ≡ network_term sign (k + 1) slash x n → r ≡ network_by read size sign k w
+pub network_found : (read : List ℕ → Option Address) (size : List ℕ → Option ℕ) (sign k : ℕ) (w : List ℕ) (b : ℕ) → b ≡ at w k → b ≡ 58
+    → (slash : ℕ) → slash ≡ run_end (is_in NotSlash) w (k + 1) → (x : Option Address) → x ≡ read (part w (k + 1) slash)
+    → (n : Option ℕ) → n ≡ size (part w slash (length w))
+    → (r : Option Term) → r ≡ network_term sign (k + 1) slash x n → r ≡ network_by read size sign k w
 unfolding network_by network_cut
 network_found read size sign k w b p colon slash q x ex n en r e = e ∙ simp (eq-eqb (at w k) 58 (sym p ∙ colon), ex, en, q)
 
 -- `read_mechanism_by`
-pub by_kind : (kind x : Kind) (sign k : ℕ) (w : List ℕ) (r : Token) → kind ≡ x → r ≡ mechanism_by x sign k w → r ≡ mechanism_by kind sign k w
-by_kind kind x sign k w r e h = h ∙ ap (λ (y : Kind). mechanism_by y sign k w) (sym e)
+pub by_kind : (kind x : Kind) (sign k : ℕ) (w : List ℕ) (r : Option Term) → kind ≡ x → r ≡ mechanism_by (Some x) sign k w → r ≡ mechanism_by (Some kind) sign k w
+by_kind kind x sign k w r e h = h ∙ ap (λ (y : Kind). mechanism_by (Some y) sign k w) (sym e)
+
+module _ (k : ℕ) (w : List ℕ) (s : Option (Option ℕ)) (e : s ≡ spec_at w k (length w)) where
+  module _ (term : ℕ → ℕ → Term) where
+    pub with_none : s ≡ None → None ≡ with_spec term k w
+    unfolding with_spec
+    with_none h = sym (simp (sym e ∙ h))
+
+    module _ (y : Option ℕ) (h : s ≡ Some y) where
+      pub with_absent : y ≡ None → None ≡ with_spec term k w
+      unfolding with_spec
+      with_absent g = sym (simp (sym e ∙ h, g))
+
+      pub with_from : (from : ℕ) → y ≡ Some from → Some (term from (length w)) ≡ with_spec term k w
+      unfolding with_spec
+      with_from from g = sym (simp (sym e ∙ h, g))
+
+  module _ (sign : ℕ) where
+    pub ptr_none : s ≡ None → None ≡ ptr_of sign k w
+    unfolding ptr_of
+    ptr_none h = sym (simp (sym e ∙ h))
+
+    pub ptr_from : (y : Option ℕ) → s ≡ Some y → (from : ℕ) → from ≡ unwrap_or y (length w) → Some (Term.Ptr sign from (length w)) ≡ ptr_of sign k w
+    unfolding ptr_of
+    ptr_from (Some n) h from g = sym (simp (sym e ∙ h, g))
+    ptr_from None h from g = sym (simp (sym e ∙ h, g))
+
+module _ (k : ℕ) (w : List ℕ) (h : Option Hosts) (e : h ≡ hosts_at w k) (term : ℕ → ℕ → ℕ → ℕ → Term) where
+  pub with_no_hosts : h ≡ None → None ≡ with_hosts term k w
+  unfolding with_hosts
+  with_no_hosts q = sym (simp (sym e ∙ q))
+
+  pub with_some_hosts : (x : Hosts) → h ≡ Some x → Some (term x.domain.from x.domain.to x.lengths.four x.lengths.six) ≡ with_hosts term k w
+  unfolding with_hosts
+  with_some_hosts x q = sym (simp (sym e ∙ q))
 
 -- `read_modifier`
 module _ (k : ℕ) (w : List ℕ) (b : ℕ) (p : b ≡ at w 0) (a : Bool) (q : a ≡ is_in Alpha b) where
@@ -133,7 +162,7 @@ module _ (k : ℕ) (w : List ℕ) (b : ℕ) (p : b ≡ at w 0) (a : Bool) (q : a
   unfolding is_in
   alpha = ap is_alpha (sym p) ∙ sym q
 
-  pub modifier_first : a ≡ false → Token.Outside ≡ modifier_of k w
+  pub modifier_first : a ≡ false → None ≡ modifier_of k w
   unfolding modifier_of
   modifier_first h = sym (simp (alpha ∙ h))
 
@@ -146,45 +175,45 @@ module _ (k : ℕ) (w : List ℕ) (b : ℕ) (p : b ≡ at w 0) (a : Bool) (q : a
         domain : is_macro_string DomainSpec (part w (k + 1) (length w)) ≡ m
         domain = ap (is_macro_string DomainSpec) (sym v) ∙ sym g
 
-        pub modifier_redirect : x ≡ true → m ≡ true → Token.Is (Term.Redirect (k + 1) (length w)) ≡ modifier_of k w
+        pub modifier_redirect : x ≡ true → (r : Option Term) → r ≡ then_some m (Term.Redirect (k + 1) (length w)) → r ≡ modifier_of k w
         unfolding modifier_of
-        modifier_redirect f d = sym (simp (alpha ∙ h, redirect ∙ f, domain ∙ d))
-
-        pub modifier_no_redirect : x ≡ true → m ≡ false → Token.Outside ≡ modifier_of k w
-        unfolding modifier_of
-        modifier_no_redirect f d = sym (simp (alpha ∙ h, redirect ∙ f, domain ∙ d))
+        modifier_redirect f r d = d ∙ some_if m _ ∙ sym (simp (alpha ∙ h, redirect ∙ f, domain))
 
       module _ (f : x ≡ false) (y : Bool) (l : y ≡ same_word name (bytes "exp")) where
         exp : same_word (part w 0 k) (bytes "exp") ≡ y
         exp = ap (λ (u : List ℕ). same_word u (bytes "exp")) (sym n) ∙ sym l
 
         module _ (m : Bool) (g : m ≡ is_macro_string DomainSpec t) where
-          pub modifier_explanation : y ≡ true → m ≡ true → Token.Is (Term.Explanation (k + 1) (length w)) ≡ modifier_of k w
+          pub modifier_explanation : y ≡ true → (r : Option Term) → r ≡ then_some m (Term.Explanation (k + 1) (length w)) → r ≡ modifier_of k w
           unfolding modifier_of
-          modifier_explanation c d = sym (simp (alpha ∙ h, redirect ∙ f, exp ∙ c, domain m g ∙ d))
-
-          pub modifier_no_explanation : y ≡ true → m ≡ false → Token.Outside ≡ modifier_of k w
-          unfolding modifier_of
-          modifier_no_explanation c d = sym (simp (alpha ∙ h, redirect ∙ f, exp ∙ c, domain m g ∙ d))
+          modifier_explanation c r d = d ∙ some_if m _ ∙ sym (simp (alpha ∙ h, redirect ∙ f, exp ∙ c, domain m g))
 
         module _ (m : Bool) (g : m ≡ is_macro_string ModifierValue t) where
           value : is_macro_string ModifierValue (part w (k + 1) (length w)) ≡ m
           value = ap (is_macro_string ModifierValue) (sym v) ∙ sym g
 
-          pub modifier_unknown : y ≡ false → m ≡ true → Token.Is (Term.Unknown k (length w)) ≡ modifier_of k w
+          pub modifier_unknown : y ≡ false → (r : Option Term) → r ≡ then_some m (Term.Unknown k (length w)) → r ≡ modifier_of k w
           unfolding modifier_of
-          modifier_unknown c d = sym (simp (alpha ∙ h, redirect ∙ f, exp ∙ c, value ∙ d))
+          modifier_unknown c r d = d ∙ some_if m _ ∙ sym (simp (alpha ∙ h, redirect ∙ f, exp ∙ c, value))
 
-          pub modifier_no_value : y ≡ false → m ≡ false → Token.Outside ≡ modifier_of k w
-          unfolding modifier_of
-          modifier_no_value c d = sym (simp (alpha ∙ h, redirect ∙ f, exp ∙ c, value ∙ d))
+-- `is_qualifier`
+pub qualifier_is : (b : ℕ) → (b ≡ 43) ⊎ ((b ≡ 45) ⊎ ((b ≡ 63) ⊎ (b ≡ 126))) → true ≡ is_qualifier b
+unfolding is_qualifier
+qualifier_is b (inl e) = rw e
+qualifier_is b (inr (inl e)) = rw e
+qualifier_is b (inr (inr (inl e))) = rw e
+qualifier_is b (inr (inr (inr e))) = rw e
+
+pub qualifier_not : (b : ℕ) → ((b ≡ 43) ⊎ ((b ≡ 45) ⊎ ((b ≡ 63) ⊎ (b ≡ 126))) → ⊥) → false ≡ is_qualifier b
+unfolding is_qualifier
+qualifier_not b n = sym (simp (ne_eqb b 43 (λ e. n (inl e)), ne_eqb b 45 (λ e. n (inr (inl e))), ne_eqb b 63 (λ e. n (inr (inr (inl e)))), ne_eqb b 126 (λ e. n (inr (inr (inr e))))))
 
 -- `is_modifier`
 pub and_eq : (m n : ℕ) (u z : Bool) → m ≡ n → z ≡ u → z ≡ (eqb m n && u)
 and_eq m n u z p h = h ∙ ap (λ (b : Bool). b && u) (sym (eq-eqb m n p))
 
-pub and_ne : (m n : ℕ) (u : Bool) → (m ≡ n → ⊥) → false ≡ (eqb m n && u)
-and_ne m n u p = ap (λ (b : Bool). b && u) (sym (ne_eqb m n p))
+pub and_ne : (m n : ℕ) (u : Bool) → (m ≡ n → ⊥) → eqb m n ≡ (eqb m n && u)
+and_ne m n u p = rw (ne_eqb m n p)
 
 -- `read_token`
 module _ (w : List ℕ) (a : ℕ) (p : a ≡ at w 0) (i : ℕ) (ei : i ≡ name_by a) where
@@ -207,7 +236,7 @@ module _ (w : List ℕ) (a : ℕ) (p : a ≡ at w 0) (i : ℕ) (ei : i ≡ name_
       pub equals_inside : x ≡ true → k < length w
       equals_inside h = let f = eqb-true b 61 (and_right (eqb i 0) (eqb b 61) (sym q ∙ h)) in nonzero_inside w k (omega arith)
 
-      pub token_modifier : x ≡ true → (r : Token) → r ≡ modifier_of k w → r ≡ token_of w
+      pub token_modifier : x ≡ true → (r : Option Term) → r ≡ modifier_of k w → r ≡ token_of w
       unfolding token_of
       token_modifier h r c = by (is_qualifier (at w 0)) refl
         where
@@ -221,8 +250,8 @@ module _ (w : List ℕ) (a : ℕ) (p : a ≡ at w 0) (i : ℕ) (ei : i ≡ name_
               let d = and_right (eqb i 0) (eqb b 61) (sym q ∙ h) in
               c ∙ sym (simp (e, sym n, sym g, d))
 
-      pub token_mechanism : x ≡ false → (kind : Kind) → kind ≡ kind_of (part w i k) → (sign : ℕ) → sign ≡ sign_by a
-          → (r : Token) → r ≡ mechanism_by kind sign k w → r ≡ token_of w
+      token_mechanism : x ≡ false → (kind : Option Kind) → kind ≡ kind_of (part w i k) → (sign : ℕ) → sign ≡ sign_by a
+          → (r : Option Term) → r ≡ mechanism_by kind sign k w → r ≡ token_of w
       unfolding token_of mechanism_of sign_by
       token_mechanism h kind et sign es r c = by (is_qualifier (at w 0)) refl
         where
@@ -241,3 +270,11 @@ module _ (w : List ℕ) (a : ℕ) (p : a ≡ at w 0) (i : ℕ) (ei : i ≡ name_
               let s : sign ≡ 43 = es ∙ simp (p, e) in
               let d : eqb b 61 ≡ false = ap (λ (t : Bool). t && eqb b 61) (sym (eq-eqb i 0 z)) ∙ sym q ∙ h in
               c ∙ sym (simp (e, sym n, sym g, d, sym m, sym s))
+
+      pub token_no_kind : x ≡ false → (kind : Option Kind) → kind ≡ kind_of (part w i k) → kind ≡ None → None ≡ token_of w
+      unfolding mechanism_by
+      token_no_kind h kind et n = token_mechanism h kind et _ refl None (sym (ap (λ (t : Option Kind). mechanism_by t (sign_by a) k w) n))
+
+      pub token_by_kind : x ≡ false → (kind : Option Kind) → kind ≡ kind_of (part w i k) → (t : Kind) → kind ≡ Some t → (sign : ℕ) → sign ≡ sign_by a
+          → (r : Option Term) → r ≡ mechanism_by (Some t) sign k w → r ≡ token_of w
+      token_by_kind h kind et t n sign es r c = token_mechanism h kind et sign es r (c ∙ ap (λ (u : Option Kind). mechanism_by u sign k w) (sym n))

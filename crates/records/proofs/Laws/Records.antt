@@ -1,10 +1,13 @@
 -- Reading a record and then term after term: accepted exactly if produced, with the one reading; refused with the number and place that the
 -- productions say. From the laws of Walks, of Rests and of the version.
+use lib.Dec.{eqb}
+use Rattle.records.specs.declared.Reason.{Reason}
+use Rattle.std.proofs.Common.{None, Ok, Err}
 use Prim.Native.Nat.{ℕ, suc, ◌+◌, ◌≤◌, ◌<◌}
 use mathlib.Core.Path.{◌≡◌, refl, sym, ap, subst, ◌∙◌}
 use mathlib.Core.Logic.{inl, inr, ⊎_elim}
 use mathlib.Core.List.{List, [], ◌∷◌, ◌++◌, append-nil, append_assoc}
-use mathlib.Core.Bool.{Bool, true, false, ◌&&◌, ◌||◌}
+use mathlib.Core.Bool.{Bool, true, false, ◌&&◌, ◌||◌, cond}
 use native.Mathlib.Omega.{arith}
 use lib.ListN.{length, take, drop, length-append}
 use lib.Seq.{drop-length, drop-drop, drop-append_seam}
@@ -18,12 +21,10 @@ use Rattle.text.proofs.Laws.Parts.{all_append}
 use Rattle.text.proofs.Laws.Spans.{Span, span_rest}
 use Rattle.records.specs.Readings.{Said, Placed}
 use Rattle.records.specs.Grammar.{Literal, TermText, Terms, count_of, Once, Record, spf1}
-use Rattle.records.specs.Numbers.{RecordReport, record_report, accepted, refused}
+use Rattle.records.specs.Numbers.{RecordReport, record_report, accepted, refused, RecordAnswer, refusal, number_of}
 use Rattle.records.specs.Answers.{most_bytes, NoTerm, Version, Front, RecordAnswers, too_long, no_version, outside, repeated, produced, ReadsRecord}
 use Rattle.records.specs.Reader.{token_answer, read_term, is_redirect, is_explanation, check_from, has_version, read_record, Reads, stop, step, after_version}
 use Rattle.records.specs.Beginnings.{pointed, point_record, pointed_record}
-use Rattle.records.specs.declared.TermAnswer.{TermAnswer}
-use Rattle.records.specs.declared.RecordAnswer.{RecordAnswer}
 use Rattle.records.proofs.Laws.Terms.{no_term_outside, points}
 use Rattle.records.proofs.Laws.Longest.{longest_found, longest_one}
 use Rattle.records.proofs.Laws.NextRuns.{NextRun, next_run, read_run, read_spaces}
@@ -33,11 +34,11 @@ use Rattle.records.proofs.Laws.Walks.{Walk, terms_walk, terms_boundary, space_mo
 use Rattle.records.proofs.Laws.Rests.{FrontFrom, Rest, rest_answers}
 
 -- the three ways through `read_record`
-pub read_record_long : (s : List ℕ) → most_bytes < length s → read_record s ≡ RecordAnswer.Refused 30 0
+pub read_record_long : (s : List ℕ) → most_bytes < length s → read_record s ≡ Err (refusal Reason.TooLong 0)
 unfolding read_record
 read_record_long s h = simp (lt-ltb most_bytes (length s) h)
 
-pub read_record_other : (s : List ℕ) → length s ≤ most_bytes → has_version s ≡ false → read_record s ≡ RecordAnswer.Refused 31 0
+pub read_record_other : (s : List ℕ) → length s ≤ most_bytes → has_version s ≡ false → read_record s ≡ Err (refusal Reason.NoVersion 0)
 unfolding read_record
 read_record_other s h v = simp (le-ltb most_bytes (length s) h, v)
 
@@ -61,14 +62,14 @@ loop_after {s} {ts} {j} h v w o =
 
 -- complete: what the grammar produces is accepted, and its terms are read one after the other, then the end
 pub record Accepts (s : List ℕ) (ts : List Placed) : Type 0 where
-  pub accepted : read_record s ≡ RecordAnswer.Accepted after_version
+  pub accepted : read_record s ≡ Ok after_version
   pub walk : Reads s after_version ts
 
 pub terms_accepted : {s v rest : List ℕ} {ts : List Placed} → Version s v rest → Terms after_version rest ts → Once ts → length s ≤ most_bytes → Accepts s ts
 terms_accepted {s} {v} {rest} {ts} d t o h =
     let r : Span s after_version (length s) rest = subst (Span s after_version (length s)) (version_rest d) (span_rest s after_version (version_inside d)) in
     let w = terms_walk t s (length s) r (inl (drop-length s)) in
-    let q : read_term s w.last ≡ TermAnswer.End = read_spaces h w.spaces w.blank in
+    let q : read_term s w.last ≡ Ok None = read_spaces h w.spaces w.blank in
     let z = loop_after h (has_version_lem d) w.walk o in
     record {
       accepted = z.is ∙ check_end z.fuel s w.last z.flag z.mark q;
@@ -83,7 +84,7 @@ record_complete (spf1 {v = v} {rest = rest} {ts = ts} l t o) h =
     let d = record_version v rest l t in
     terms_accepted d (subst (λ (n : ℕ). Terms n rest ts) (version_size d) t) o h
 
-pub record_accepted : {s : List ℕ} {ts : List Placed} → Record s ts → length s ≤ most_bytes → pointed_record s ≡ RecordAnswer.Accepted after_version
+pub record_accepted : {s : List ℕ} {ts : List Placed} → Record s ts → length s ≤ most_bytes → pointed_record s ≡ Ok after_version
 unfolding point_record
 record_accepted {s} d h = ap (point_record s) (record_complete d h).accepted
 
@@ -131,14 +132,25 @@ front_walked {s} {ts} {w} {p} f =
     }
 
 -- a report with 32's place at the byte
+abbrev number_pointed : List ℕ → ℕ → ℕ → ℕ
+number_pointed s number p = cond (eqb number 32) (pointed s Reason.Outside p) p
+
 abbrev point_report : List ℕ → RecordReport → RecordReport
 point_report s (accepted n) = accepted n
-point_report s (refused number p) = refused number (pointed s number p)
+point_report s (refused number p) = refused number (number_pointed s number p)
+
+by_number : (s : List ℕ) (reason : Reason) (p : ℕ) → pointed s reason p ≡ number_pointed s (number_of reason) p
+unfolding pointed
+by_number s Reason.TooLong p = refl
+by_number s Reason.NoVersion p = refl
+by_number s Reason.Outside p = refl
+by_number s Reason.Repeated p = refl
+by_number s Reason.Beyond p = refl
 
 report_pointed : (s : List ℕ) (r : RecordAnswer) → record_report (point_record s r) ≡ point_report s (record_report r)
 unfolding point_record
-report_pointed s (RecordAnswer.Accepted n) = refl
-report_pointed s (RecordAnswer.Refused number p) = refl
+report_pointed s (Ok n) = refl
+report_pointed s (Err x) = ap (refused (number_of x.reason)) (by_number s x.reason x.at)
 
 -- the answer for any record, refusals too
 module _ (s : List ℕ) (h : length s ≤ most_bytes) (d : Version s (take after_version s) (drop after_version s)) where
@@ -207,20 +219,20 @@ accepting s n a = by a refl
         let e : n ≡ length v = cc in
         record { short = h; first = e ∙ version_size d; terms = ts; reading = r }
 
-pub record_accepting : (s : List ℕ) (n : ℕ) → read_record s ≡ RecordAnswer.Accepted n → Accepting s n
+pub record_accepting : (s : List ℕ) (n : ℕ) → read_record s ≡ Ok n → Accepting s n
 unfolding point_record
 record_accepting s n e = accepting s n (subst (λ (r : RecordAnswer). ReadsRecord s (point_record s r)) e (record_answers s))
 
 -- sound: what is accepted, the grammar produces
-pub record_sound : (s : List ℕ) (n : ℕ) → read_record s ≡ RecordAnswer.Accepted n → (ts : List Placed) × Record s ts
+pub record_sound : (s : List ℕ) (n : ℕ) → read_record s ≡ Ok n → (ts : List Placed) × Record s ts
 record_sound s n e = let a = record_accepting s n e in (a.terms, a.reading)
 
-outside_is : {s : List ℕ} {ts : List Placed} {w : List ℕ} {p : ℕ} → length s ≤ most_bytes → Front s ts w p → Once ts → NoTerm w → read_record s ≡ RecordAnswer.Refused 32 p
+outside_is : {s : List ℕ} {ts : List Placed} {w : List ℕ} {p : ℕ} → length s ≤ most_bytes → Front s ts w p → Once ts → NoTerm w → read_record s ≡ Err (refusal Reason.Outside p)
 unfolding token_answer
 outside_is {s} {ts} {w} {p} h f o i =
     let g = front_walked f in
     let z = loop_after h (has_version_lem f.version) g.walk o in
-    z.is ∙ check_refused z.fuel s g.last z.flag z.mark 32 p (read_run g.next h ∙ ap (token_answer p g.finish) (no_term_outside w i))
+    z.is ∙ check_refused z.fuel s g.last z.flag z.mark (refusal Reason.Outside p) (read_run g.next h ∙ ap (token_answer p g.finish) (no_term_outside w i))
 
 -- with one more term that repeats none, each name still stands at most once
 once_more : (ts : List Placed) (t : Placed) (r x p q : Bool) → count r ≡ count false + count_of (bytes "redirect") ts → count x ≡ count false + count_of (bytes "exp") ts
@@ -234,7 +246,7 @@ once_more ts t r x p q a b cr cx h =
     }
 
 repeated_is : {s : List ℕ} {ts : List Placed} {w : List ℕ} {p : ℕ} {x : Said} → length s ≤ most_bytes → Front s ts w p → Once ts → TermText w x
-    → (Once (ts ++ (record { place = p; said = x } ∷ [])) → ⊥) → read_record s ≡ RecordAnswer.Refused 33 p
+    → (Once (ts ++ (record { place = p; said = x } ∷ [])) → ⊥) → read_record s ≡ Err (refusal Reason.Repeated p)
 repeated_is {s} {ts} {w} {p} {x} h f o d n =
     let g = front_walked f in
     let z = loop_after h (has_version_lem f.version) g.walk o in
@@ -251,7 +263,7 @@ record_answers_is s r (no_version h v) =
     ap (λ (x : RecordAnswer). record_report (point_record s x))
     (sym (read_record_other s h (test_fails (has_version s) (λ q. v (take after_version s) (drop after_version s) (version_of s q)))))
 record_answers_is s r (outside {w = w} {p = p} {n = n} h f o i l) =
-    let q : p + n ≡ pointed s 32 p = ap (λ (k : ℕ). p + k) (longest_one l (longest_found w)) ∙ sym (points (front_walked f).next) in
+    let q : p + n ≡ pointed s Reason.Outside p = ap (λ (k : ℕ). p + k) (longest_one l (longest_found w)) ∙ sym (points (front_walked f).next) in
     ap (refused 32) q ∙ ap (λ (x : RecordAnswer). record_report (point_record s x)) (sym (outside_is h f o i))
 record_answers_is s r (repeated h f o d n) = ap (λ (x : RecordAnswer). record_report (point_record s x)) (sym (repeated_is h f o d n))
 record_answers_is s r (produced h v d) = ap accepted (version_size v) ∙ ap record_report (sym (record_accepted d h))

@@ -1,5 +1,7 @@
 -- What the reader answers from a place on is what the productions say: accepted, the place of the first run that is no term, or that of a second
 -- redirect or exp. By the fuel, from the laws of one term.
+use Rattle.records.specs.declared.Reason.{Reason}
+use Rattle.std.proofs.Common.{Some, Err}
 use Prim.Native.Nat.{ℕ, zero, suc, ◌+◌, ◌-◌, ◌≤◌, ◌<◌}
 use mathlib.Core.Path.{◌≡◌, refl, sym, ap, subst, ◌∙◌}
 use mathlib.Core.List.{List, [], ◌∷◌, ◌++◌, append_assoc}
@@ -13,13 +15,10 @@ use Rattle.text.proofs.Laws.Tests.{cond-elim, or_elim, or_false_left, or_false_r
 use Rattle.text.proofs.Laws.Spans.{span_join}
 use Rattle.records.specs.Readings.{Said, Placed}
 use Rattle.records.specs.Grammar.{TermText, Terms, done, term, count_of}
-use Rattle.records.specs.Numbers.{said_of, RecordReport, record_report, accepted, refused}
+use Rattle.records.specs.Numbers.{said_of, RecordReport, record_report, accepted, refused, TermAnswer, RecordAnswer, term_at, refusal}
 use Rattle.records.specs.Answers.{most_bytes, Boundary, Run, NoTerm}
 use Rattle.records.specs.Reader.{token_of, is_redirect, is_explanation, check_after, check_from, after_version}
 use Rattle.records.specs.declared.Term.{Term}
-use Rattle.records.specs.declared.Token.{Token}
-use Rattle.records.specs.declared.TermAnswer.{TermAnswer}
-use Rattle.records.specs.declared.RecordAnswer.{RecordAnswer}
 use Rattle.records.proofs.Laws.Tokens.{token_sound, redirect_name, explanation_name}
 use Rattle.records.proofs.Laws.Terms.{outside_no_term}
 use Rattle.records.proofs.Laws.NextRuns.{run_forward, Gap, gap_of, View, term_view}
@@ -120,9 +119,9 @@ fits_not r x t p q a b h c =
     (λ (e : (r && p) ≡ true). omega (arith, flag_twice r p e, c.redirects, cr))
     (λ (e : (x && q) ≡ true). omega (arith, flag_twice x q e, c.explanations, cx))
 
-rest_term : (f : ℕ) (s : List ℕ) (i a e : ℕ) (t : Term) (r x : Bool) → Gap s i a e (part s a e) → token_of (part s a e) ≡ Token.Is t
+rest_term : (f : ℕ) (s : List ℕ) (i a e : ℕ) (t : Term) (r x : Bool) → Gap s i a e (part s a e) → token_of (part s a e) ≡ Some t
     → ((r y : Bool) → Rest s e (count r) (count y) (record_report (check_from f s e r y)))
-    → Rest s i (count r) (count x) (record_report (check_after r x (TermAnswer.Is a e t) (check_from f s)))
+    → Rest s i (count r) (count x) (record_report (check_after r x (term_at a e t) (check_from f s)))
 unfolding check_after
 rest_term f s i a e t r x g o ih =
     let w = part s a e in
@@ -130,7 +129,7 @@ rest_term f s i a e t r x g o ih =
     let nr = redirect_name w t o in
     let nx = explanation_name w t o in
     cond-elim (λ (y : RecordAnswer). Rest s i (count r) (count x) (record_report y)) ((r && is_redirect t) || (x && is_explanation t))
-    {x = RecordAnswer.Refused 33 a} {y = check_from f s e (r || is_redirect t) (x || is_explanation t)}
+    {x = Err (refusal Reason.Repeated a)} {y = check_from f s e (r || is_redirect t) (x || is_explanation t)}
     (λ q. twice (front_here g) (fits_none r x) d (fits_not r x (record { place = a; said = said_of w t }) (is_redirect t) (is_explanation t) nr nx q))
     (λ q. rest_before g d
     (flag_sum r (is_redirect t) (or_false_left (r && is_redirect t) (x && is_explanation t) q) ∙ ap (λ (b : Bool). count r + count b) (sym nr))

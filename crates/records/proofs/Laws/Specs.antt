@@ -1,5 +1,6 @@
 -- Domain-specs as terms hold them: no space, not empty, ending in at most digits after a byte that no prefix length holds; read after a colon, or
 -- absent, as the production says. From the grammar of macro strings and its soundness and completeness.
+use Rattle.std.proofs.Common.{None, Option, Some}
 use Prim.Native.Nat.{ℕ, ◌+◌, ◌≤◌, ◌<◌}
 use mathlib.Core.Path.{◌≡◌, refl, sym, ap, subst, ◌∙◌}
 use mathlib.Core.Logic.{◌⊎◌, inl, inr, ⊎_elim}
@@ -26,7 +27,6 @@ use Rattle.macros.proofs.Laws.Completeness.{complete}
 use Rattle.records.specs.Grammar.{OptionalSpec, without, has_spec}
 use Rattle.records.specs.Numbers.{optional}
 use Rattle.records.specs.Reader.{spec_at, after_spec}
-use Rattle.records.specs.declared.terms.Spec.{Spec}
 
 -- a class without the space
 pub solid_byte : (p : ℕ → Bool) → p 32 ≡ false → (b : ℕ) → p b ≡ true → is_not_space b ≡ true
@@ -170,10 +170,10 @@ pub record Argument (w : List ℕ) (k to from : ℕ) : Type 0 where
   pub span : Span w k to (58 ∷ part w from to)
   pub some : eqb from to ≡ false
 
-abbrev pub SpecRight : List ℕ → ℕ → ℕ → Spec → Type 0
-SpecRight w k to (Spec.From from) = Argument w k to from
-SpecRight w k to Spec.Absent = k ≡ to
-SpecRight w k to Spec.Bad = Unit {0}
+abbrev pub SpecRight : List ℕ → ℕ → ℕ → Option (Option ℕ) → Type 0
+SpecRight w k to (Some (Some from)) = Argument w k to from
+SpecRight w k to (Some None) = k ≡ to
+SpecRight w k to None = Unit {0}
 
 after_colon : (w : List ℕ) (k to : ℕ) → k < to → to ≤ length w → at w k ≡ 58 → is_macro_string Form.DomainSpec (part w (k + 1) to) ≡ true → Argument w k to (k + 1)
 after_colon w k to h l c m =
@@ -195,7 +195,7 @@ spec_sound w k to h l =
     (λ m. let z = eqb-false k to n in after_colon w k to (omega arith) l (eqb-true (at w k) 58 c) m) (λ _. tt))
     (λ _. tt))
 
-pub spec_right : (w : List ℕ) (k to : ℕ) → k ≤ to → to ≤ length w → {x : Spec} → spec_at w k to ≡ x → SpecRight w k to x
+pub spec_right : (w : List ℕ) (k to : ℕ) → k ≤ to → to ≤ length w → {x : Option (Option ℕ)} → spec_at w k to ≡ x → SpecRight w k to x
 spec_right w k to h l e = subst (SpecRight w k to) e (spec_sound w k to h l)
 
 -- an argument that may be absent
@@ -219,12 +219,12 @@ argument_absent w k to e = record {
 }
 
 -- a domain-spec is read after its colon, and absent where there is none
-pub spec_absent : {w : List ℕ} {k to : ℕ} → Span w k to [] → spec_at w k to ≡ Spec.Absent
+pub spec_absent : {w : List ℕ} {k to : ℕ} → Span w k to [] → spec_at w k to ≡ Some None
 unfolding spec_at
 spec_absent {w} {k} {to} p = simp (eq-eqb k to (omega (arith, p.size)))
 
 pub record Given (w : List ℕ) (k to : ℕ) (d : List ℕ) : Type 0 where
-  pub read : spec_at w k to ≡ Spec.From (k + 1)
+  pub read : spec_at w k to ≡ Some (Some (k + 1))
   pub says : part w (k + 1) to ≡ d
   pub some : eqb (k + 1) to ≡ false
 
@@ -240,8 +240,8 @@ spec_given {w} {k} {to} {d} {ps} s p =
     }
 
 -- the three ways out of a domain-spec
-pub spec-elim {κ} : {A : Type 0} (P : A → Type κ) (x : Spec) (f : ℕ → A) (y z : A)
-    → ((from : ℕ) → x ≡ Spec.From from → P (f from)) → (x ≡ Spec.Absent → P y) → (x ≡ Spec.Bad → P z) → P (after_spec x f y z)
-spec-elim P (Spec.From from) f y z g h k = g from refl
-spec-elim P Spec.Absent f y z g h k = h refl
-spec-elim P Spec.Bad f y z g h k = k refl
+pub spec-elim {κ} : {A : Type 0} (P : A → Type κ) (x : Option (Option ℕ)) (f : ℕ → A) (y z : A)
+    → ((from : ℕ) → x ≡ Some (Some from) → P (f from)) → (x ≡ Some None → P y) → (x ≡ None → P z) → P (after_spec x f y z)
+spec-elim P (Some (Some from)) f y z g h k = g from refl
+spec-elim P (Some None) f y z g h k = h refl
+spec-elim P None f y z g h k = k refl

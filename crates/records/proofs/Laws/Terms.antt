@@ -1,5 +1,7 @@
 -- Reading one term: what the reader answers, with 32's place at the byte, is what the productions say, and nothing else is. From the laws of one term, of
 -- the run that is next and of its longest beginning.
+use Rattle.records.specs.declared.Reason.{Reason}
+use Rattle.std.proofs.Common.{None, Option, Some, Ok, Err}
 use Prim.Native.Nat.{ℕ, ◌+◌, ◌≤◌, ◌<◌}
 use mathlib.Core.Path.{◌≡◌, refl, sym, ap, subst, ◌∙◌}
 use mathlib.Core.Logic.{◌↔◌, ⊎_elim}
@@ -12,30 +14,28 @@ use Rattle.text.proofs.Laws.Orders.{le_or_lt}
 use Rattle.text.proofs.Laws.Spans.{span_word, span_rest}
 use Rattle.records.specs.Readings.{Said, Placed}
 use Rattle.records.specs.Grammar.{TermText}
-use Rattle.records.specs.Numbers.{said_of, TermReport, term_report, refused, term}
+use Rattle.records.specs.Numbers.{said_of, TermReport, term_report, refused, term, TermAnswer, term_at, refusal, number_of}
 use Rattle.records.specs.Answers.{most_bytes, Run, NoTerm, TermAnswers, too_long, beyond, only_spaces, outside, produced, ReadsTerm}
 use Rattle.records.specs.Reader.{token_of, token_answer, read_term}
 use Rattle.records.specs.Beginnings.{longest, pointed, point_term, pointed_term}
 use Rattle.records.specs.declared.Term.{Term}
-use Rattle.records.specs.declared.Token.{Token}
-use Rattle.records.specs.declared.TermAnswer.{TermAnswer}
 use Rattle.records.proofs.Laws.Tokens.{token_sound, token_complete}
 use Rattle.records.proofs.Laws.Longest.{longest_found, longest_one}
 use Rattle.records.proofs.Laws.NextRuns.{NextRun, word_end_lem, View, term_view, next_run, read_run, read_spaces}
 
 -- no term is what the reader finds outside, and the other way round
-pub outside_no_term : (w : List ℕ) → token_of w ≡ Token.Outside → NoTerm w
+pub outside_no_term : (w : List ℕ) → token_of w ≡ None → NoTerm w
 outside_no_term w q x d = let r = token_complete d in let o = r.read in let z : ◌≡◌ {A = ℕ} 0 1 = cc in omega arith
 
-pub no_term_outside : (w : List ℕ) → NoTerm w → token_of w ≡ Token.Outside
+pub no_term_outside : (w : List ℕ) → NoTerm w → token_of w ≡ None
 no_term_outside w h = by (token_of w) refl
   where
-    by : (t : Token) → token_of w ≡ t → t ≡ Token.Outside
-    by (Token.Is t) q = absurd (h (said_of w t) (token_sound w t q))
-    by Token.Outside q = refl
+    by : (t : Option Term) → token_of w ≡ t → t ≡ None
+    by (Some t) q = absurd (h (said_of w t) (token_sound w t q))
+    by None q = refl
 
 -- where 32 points: just after the longest beginning of the run
-pub points : {s : List ℕ} {i a e : ℕ} {u w : List ℕ} → NextRun s i a e u w → pointed s 32 a ≡ a + longest w
+pub points : {s : List ℕ} {i a e : ℕ} {u w : List ℕ} → NextRun s i a e u w → pointed s Reason.Outside a ≡ a + longest w
 unfolding pointed
 points n = simp (word_end_lem n, span_word n.word)
 
@@ -43,24 +43,23 @@ points n = simp (word_end_lem n, span_word n.word)
 pub point_kept : (s : List ℕ) (r : TermAnswer) (x : TermReport) → ((number p : ℕ) → x ≡ refused number p → ⊥)
     → (term_report s (point_term s r) ≡ x) ↔ (term_report s r ≡ x)
 unfolding point_term
-point_kept s TermAnswer.End x h = (λ e. e, λ e. e)
-point_kept s (TermAnswer.Is at next t) x h = (λ e. e, λ e. e)
-point_kept s (TermAnswer.Refused number p) x h = (λ e. absurd (h number (pointed s number p) (sym e)), λ e. absurd (h number p (sym e)))
+point_kept s (Ok None) x h = (λ e. e, λ e. e)
+point_kept s (Ok (Some t)) x h = (λ e. e, λ e. e)
+point_kept s (Err f) x h = (λ e. absurd (h (number_of f.reason) (pointed s f.reason f.at) (sym e)), λ e. absurd (h (number_of f.reason) f.at (sym e)))
 
-pub term_unpointed : (s : List ℕ) (r : TermAnswer) (at next : ℕ) (t : Term) → point_term s r ≡ TermAnswer.Is at next t → r ≡ TermAnswer.Is at next t
+pub term_unpointed : (s : List ℕ) (r : TermAnswer) (at next : ℕ) (t : Term) → point_term s r ≡ term_at at next t → r ≡ term_at at next t
 unfolding point_term
-term_unpointed s (TermAnswer.Is at' next' t') at next t e = e
-term_unpointed s TermAnswer.End at next t e = e
-term_unpointed s (TermAnswer.Refused number p) at next t e = let z : ◌≡◌ {A = ℕ} 0 1 = cc in absurd (omega arith)
+term_unpointed s (Ok x) at next t e = e
+term_unpointed s (Err x) at next t e = let z : ◌≡◌ {A = ℕ} 0 1 = cc in absurd (omega arith)
 
 pub no_refusal : (next : ℕ) (t : Placed) (number p : ℕ) → term next t ≡ refused number p → ⊥
 no_refusal next t number p e = let z : ◌≡◌ {A = ℕ} 0 1 = cc in omega arith
 
 -- the places by the lengths
 place_refused : {s : List ℕ} {i a e : ℕ} {u w : List ℕ} → NextRun s i a e u w → length s ≤ most_bytes → i ≤ length s → NoTerm w
-    → TermAnswers s i (refused 32 (pointed s 32 a))
+    → TermAnswers s i (refused 32 (pointed s Reason.Outside a))
 place_refused {s} {i} {a} {e} {u} {w} n h k f =
-    let q : i + length u + longest w ≡ pointed s 32 a = ap (λ (p : ℕ). p + longest w) (sym n.spaces.size) ∙ sym (points n) in
+    let q : i + length u + longest w ≡ pointed s Reason.Outside a = ap (λ (p : ℕ). p + longest w) (sym n.spaces.size) ∙ sym (points n) in
     subst (λ (p : ℕ). TermAnswers s i (refused 32 p)) q
     (outside u w (drop e s) h k (n.spaces.split ∙ ap (λ (t : List ℕ). u ++ t) n.word.split) n.blank n.is_run f (longest_found w))
 
@@ -79,11 +78,11 @@ view_answers s i h k (View.outside {a = a} {e = e} n q) = place_refused n h k (o
 view_answers s i h k (View.is {a = a} {e = e} {t = t} n q) = place_term n h k (token_sound (part s a e) t q)
 
 -- the two refusals that look at no term
-pub read_long : (s : List ℕ) (i : ℕ) → most_bytes < length s → read_term s i ≡ TermAnswer.Refused 30 0
+pub read_long : (s : List ℕ) (i : ℕ) → most_bytes < length s → read_term s i ≡ Err (refusal Reason.TooLong 0)
 unfolding read_term
 read_long s i h = simp (lt-ltb most_bytes (length s) h)
 
-pub read_past : (s : List ℕ) (i : ℕ) → length s ≤ most_bytes → length s < i → read_term s i ≡ TermAnswer.Refused 34 i
+pub read_past : (s : List ℕ) (i : ℕ) → length s ≤ most_bytes → length s < i → read_term s i ≡ Err (refusal Reason.Beyond i)
 unfolding read_term
 read_past s i h k = simp (le-ltb most_bytes (length s) h, lt-ltb (length s) i k)
 
@@ -138,8 +137,8 @@ term_answers_is s i r (beyond h k) = simp (read_past s i h k)
 term_answers_is s i r (only_spaces h k m) = simp (read_spaces h (span_rest s i k) m)
 term_answers_is s i r (outside u w rest {n = n} h k q m d f l) =
     let g = next_run s i u w rest q m d in
-    let e : read_term s i ≡ TermAnswer.Refused 32 (i + length u) = simp (read_run g h, no_term_outside w f) in
-    let p : i + length u + n ≡ pointed s 32 (i + length u) = ap (λ (k : ℕ). i + length u + k) (longest_one l (longest_found w)) ∙ sym (points g) in
+    let e : read_term s i ≡ Err (refusal Reason.Outside (i + length u)) = simp (read_run g h, no_term_outside w f) in
+    let p : i + length u + n ≡ pointed s Reason.Outside (i + length u) = ap (λ (k : ℕ). i + length u + k) (longest_one l (longest_found w)) ∙ sym (points g) in
     ap (refused 32) p ∙ ap (λ (x : TermAnswer). term_report s (point_term s x)) (sym e)
 term_answers_is s i r (produced u w rest h k q m n d) =
     let g = next_run s i u w rest q m n in

@@ -1,5 +1,6 @@
 -- One term: a run of non-spaces is read as a term exactly if the productions make it, with exactly what they say. From the laws of mechanisms and
 -- of modifiers.
+use Rattle.std.proofs.Common.{None, Option, Some}
 use Prim.Native.Nat.{ℕ, ◌≤◌, ◌<◌}
 use mathlib.Core.Path.{◌≡◌, refl, sym, subst}
 use mathlib.Core.List.{List, [], ◌∷◌}
@@ -17,7 +18,6 @@ use Rattle.text.specs.declared.bytes.Class.TheVariants.{NameByte}
 use Rattle.text.proofs.Laws.Tests.{cond-elim}
 use Rattle.text.proofs.Laws.Classes.{apart, class_inside}
 use Rattle.text.proofs.Laws.Spans.{span_all, span_whole, span_join, span_cut}
-use Rattle.records.specs.declared.Token.{Token}
 use Rattle.records.specs.declared.Term.{Term}
 use Rattle.records.specs.Readings.{Said}
 use Rattle.records.specs.Grammar.{TermText, directive, modifier_term, unsigned, signed, is_qualifier}
@@ -33,29 +33,29 @@ record TokenMade (w : List ℕ) (t : Term) : Type 0 where
   made : TermText w (said_of w t)
   other : Unreserved w t
 
-abbrev TokenRight : List ℕ → Token → Type 0
-TokenRight w (Token.Is t) = TokenMade w t
-TokenRight w Token.Outside = Unit {0}
+abbrev TokenRight : List ℕ → Option Term → Type 0
+TokenRight w (Some t) = TokenMade w t
+TokenRight w None = Unit {0}
 
-signed_right : (w : List ℕ) → is_qualifier (at w 0) ≡ true → (t : Token) → MechanismRight w 1 (at w 0) t → TokenRight w t
-signed_right [] h (Token.Is t) m = absurd (omega (arith, class_inside is_qualifier qualifier_zero [] 0 h))
-signed_right [] h Token.Outside m = tt
-signed_right (q ∷ w) h (Token.Is t) m =
+signed_right : (w : List ℕ) → is_qualifier (at w 0) ≡ true → (t : Option Term) → MechanismRight w 1 (at w 0) t → TokenRight w t
+signed_right [] h (Some t) m = absurd (omega (arith, class_inside is_qualifier qualifier_zero [] 0 h))
+signed_right [] h None m = tt
+signed_right (q ∷ w) h (Some t) m =
     let e : q ∷ w ≡ q ∷ m.word = span_whole (span_join {u = q ∷ []} (record { split = refl; size = refl }) m.span) in
     record { made = subst (λ (u : List ℕ). TermText u (said_of (q ∷ w) t)) (sym e) (directive (signed h m.made)); other = m.other }
-signed_right (q ∷ w) h Token.Outside m = tt
+signed_right (q ∷ w) h None m = tt
 
-unsigned_right : (w : List ℕ) (t : Token) → MechanismRight w 0 43 t → TokenRight w t
-unsigned_right w (Token.Is t) m =
+unsigned_right : (w : List ℕ) (t : Option Term) → MechanismRight w 0 43 t → TokenRight w t
+unsigned_right w (Some t) m =
     record { made = subst (λ (u : List ℕ). TermText u (said_of w t)) (sym (span_whole m.span)) (directive (unsigned m.made)); other = m.other }
-unsigned_right w Token.Outside m = tt
+unsigned_right w None m = tt
 
-modifier_right : (w : List ℕ) (t : Token) → ModifierRight w t → TokenRight w t
-modifier_right w (Token.Is t) m = record { made = modifier_term m.made; other = m.other }
-modifier_right w Token.Outside m = tt
+modifier_right : (w : List ℕ) (t : Option Term) → ModifierRight w t → TokenRight w t
+modifier_right w (Some t) m = record { made = modifier_term m.made; other = m.other }
+modifier_right w None m = tt
 
 -- the ways out of a run of non-spaces
-pub token_elim : (w : List ℕ) (P : Token → Type 0) → (is_qualifier (at w 0) ≡ true → 1 ≤ length w → P (mechanism_of (at w 0) 1 w))
+pub token_elim : (w : List ℕ) (P : Option Term → Type 0) → (is_qualifier (at w 0) ≡ true → 1 ≤ length w → P (mechanism_of (at w 0) 1 w))
     → (at w (run_end (is_in NameByte) w 0) ≡ 61 → P (modifier_of (run_end (is_in NameByte) w 0) w)) → P (mechanism_of 43 0 w) → P (token_of w)
 unfolding token_of
 token_elim w P signs equals plain =
@@ -69,15 +69,15 @@ token_right w = token_elim w (TokenRight w)
     (λ e. modifier_right w (modifier_of (run_end (is_in NameByte) w 0) w) (modifier_sound w e))
     (unsigned_right w (mechanism_of 43 0 w) (mechanism_sound 43 0 w (omega arith)))
 
-token_made : (w : List ℕ) (t : Term) → token_of w ≡ Token.Is t → TokenMade w t
+token_made : (w : List ℕ) (t : Term) → token_of w ≡ Some t → TokenMade w t
 token_made w t e = subst (TokenRight w) e (token_right w)
 
-pub token_sound : (w : List ℕ) (t : Term) → token_of w ≡ Token.Is t → TermText w (said_of w t)
+pub token_sound : (w : List ℕ) (t : Term) → token_of w ≡ Some t → TermText w (said_of w t)
 token_sound w t e = (token_made w t e).made
 
 pub record TokenRead (w : List ℕ) (x : Said) : Type 0 where
   pub term : Term
-  pub read : token_of w ≡ Token.Is term
+  pub read : token_of w ≡ Some term
   pub says : said_of w term ≡ x
 
 unsigned_read : {w : List ℕ} {x : Said} → MechanismRead w 0 43 x → TokenRead w x
@@ -103,7 +103,7 @@ pub record Solid (w : List ℕ) : Type 0 where
   pub some : 0 < length w
   pub no_space : all is_not_space w ≡ true
 
-empty_outside : token_of [] ≡ Token.Outside
+empty_outside : token_of [] ≡ None
 unfolding token_of is_qualifier mechanism_of mechanism_by kind_of later_kind same_word same run_end run
 empty_outside = refl
 
@@ -145,8 +145,8 @@ told w (Term.Redirect from to) u = record { redirect = refl; explanation = refl 
 told w (Term.Explanation from to) u = record { redirect = refl; explanation = refl }
 told w (Term.Unknown name to) u = record { redirect = unreserved_redirect (part w 0 name) u; explanation = unreserved_exp (part w 0 name) u }
 
-pub redirect_name : (w : List ℕ) (t : Term) → token_of w ≡ Token.Is t → same (said_of w t).name (bytes "redirect") ≡ is_redirect t
+pub redirect_name : (w : List ℕ) (t : Term) → token_of w ≡ Some t → same (said_of w t).name (bytes "redirect") ≡ is_redirect t
 redirect_name w t e = (told w t (token_made w t e).other).redirect
 
-pub explanation_name : (w : List ℕ) (t : Term) → token_of w ≡ Token.Is t → same (said_of w t).name (bytes "exp") ≡ is_explanation t
+pub explanation_name : (w : List ℕ) (t : Term) → token_of w ≡ Some t → same (said_of w t).name (bytes "exp") ≡ is_explanation t
 explanation_name w t e = (told w t (token_made w t e).other).explanation

@@ -1,4 +1,7 @@
 -- Terms one after the other: from the productions to the reader, with its fuel and its two flags. From the laws of one term and of runs.
+use Rattle.records.specs.declared.Refusal.{Refusal}
+use Rattle.records.specs.declared.Reason.{Reason}
+use Rattle.std.proofs.Common.{None, Ok, Err}
 use Prim.Native.Nat.{ℕ, zero, suc, ◌+◌, ◌-◌, ◌≤◌}
 use mathlib.Core.Path.{◌≡◌, refl, sym, ap, subst, ◌∙◌}
 use mathlib.Core.Logic.{inr}
@@ -14,12 +17,10 @@ use Rattle.text.proofs.Laws.Spans.{Span, span_cut, span_word}
 use Rattle.text.proofs.Laws.Classes.{space_is}
 use Rattle.records.specs.Readings.{Said, Placed}
 use Rattle.records.specs.Grammar.{TermText, Terms, done, term, count_of}
-use Rattle.records.specs.Numbers.{said_of, TermReport, term_report}
+use Rattle.records.specs.Numbers.{said_of, TermReport, term_report, RecordAnswer, term_at, refusal}
 use Rattle.records.specs.Answers.{most_bytes, Boundary}
 use Rattle.records.specs.Reader.{token_answer, read_term, is_redirect, is_explanation, check_after, check_from, Reads, stop, step, after_version}
 use Rattle.records.specs.declared.Term.{Term}
-use Rattle.records.specs.declared.TermAnswer.{TermAnswer}
-use Rattle.records.specs.declared.RecordAnswer.{RecordAnswer}
 use Rattle.records.proofs.Laws.Tokens.{token_complete, term_solid, redirect_name, explanation_name}
 use Rattle.records.proofs.Laws.NextRuns.{NextRun, run_forward, read_run}
 use Rattle.records.proofs.Laws.Counts.{count, count_none, count_more, Fits, flag_free, flag_sum}
@@ -78,7 +79,7 @@ terms_walk (term {p = p} u w {rest = rest} m d r) s j sp b =
 -- a term that the productions make, as the reader answers it
 pub record TermRead (s : List ℕ) (i a e : ℕ) (x : Said) : Type 0 where
   pub found : Term
-  pub read : read_term s i ≡ TermAnswer.Is a e found
+  pub read : read_term s i ≡ term_at a e found
   pub says : said_of (part s a e) found ≡ x
   pub redirect : same x.name (bytes "redirect") ≡ is_redirect found
   pub explanation : same x.name (bytes "exp") ≡ is_explanation found
@@ -96,7 +97,7 @@ term_read {s} {i} {a} {e} {u} {w} {x} h n d =
     }
 
 -- reading term after term, up to the end
-pub walk_reads : {s : List ℕ} {i j : ℕ} {ts : List Placed} → length s ≤ most_bytes → Walk s i ts j → read_term s j ≡ TermAnswer.End → Reads s i ts
+pub walk_reads : {s : List ℕ} {i j : ℕ} {ts : List Placed} → length s ≤ most_bytes → Walk s i ts j → read_term s j ≡ Ok None → Reads s i ts
 walk_reads h here q = stop (ap (term_report _) q)
 walk_reads {s} h (next {a = a} {e = e} n d k) q =
     let o = term_read h n d in
@@ -104,16 +105,16 @@ walk_reads {s} h (next {a = a} {e = e} n d k) q =
 
 -- the loop, by what reading a term answers
 module _ (f : ℕ) (s : List ℕ) (i : ℕ) (r x : Bool) where
-  pub check_end : read_term s i ≡ TermAnswer.End → check_from (suc f) s i r x ≡ RecordAnswer.Accepted after_version
+  pub check_end : read_term s i ≡ Ok None → check_from (suc f) s i r x ≡ Ok after_version
   unfolding check_from check_after
   check_end q = simp q
 
-  pub check_refused : (number a : ℕ) → read_term s i ≡ TermAnswer.Refused number a → check_from (suc f) s i r x ≡ RecordAnswer.Refused number a
+  pub check_refused : (y : Refusal) → read_term s i ≡ Err y → check_from (suc f) s i r x ≡ Err y
   unfolding check_from check_after
-  check_refused number a q = simp q
+  check_refused y q = simp q
 
-  module _ (a e : ℕ) (t : Term) (q : read_term s i ≡ TermAnswer.Is a e t) where
-    pub check_twice : ((r && is_redirect t) || (x && is_explanation t)) ≡ true → check_from (suc f) s i r x ≡ RecordAnswer.Refused 33 a
+  module _ (a e : ℕ) (t : Term) (q : read_term s i ≡ term_at a e t) where
+    pub check_twice : ((r && is_redirect t) || (x && is_explanation t)) ≡ true → check_from (suc f) s i r x ≡ Err (refusal Reason.Repeated a)
     unfolding check_from check_after
     check_twice h = simp (q, h)
 

@@ -1,12 +1,14 @@
 -- One rule for each way out of `answer_input`: what is written is what is printed. From what `add_lifetimes` promises and the laws on writing of
 -- `text`.
+use Rattle.std.proofs.Common.{Result, Ok, Err}
 use Prim.Native.Nat.{ℕ, ◌≤◌, ◌<◌}
-use mathlib.Core.Path.{◌≡◌, refl, sym}
+use mathlib.Core.Path.{◌≡◌, refl, sym, ◌∙◌}
 use mathlib.Core.Logic.{⊎_elim}
 use mathlib.Core.List.{List}
 use native.Mathlib.Omega.{arith}
 use lib.ListN.{length}
-use Rattle.text.specs.Writing.{Wrote}
+use Rattle.text.specs.Writing.{Wrote, Writes}
+use Rattle.text.specs.declared.writing.Writer.{Writer}
 use Rattle.text.proofs.Laws.Writing.{over_fits, wrote_over, wrote_length}
 use Rattle.answer_table.specs.Numbers.{Place, nowhere, byte}
 use Rattle.answer_table.specs.Answers.{most_bytes}
@@ -14,8 +16,9 @@ use Rattle.record_listing.specs.Lines.{refusal_line}
 use Rattle.record_listing.proofs.Laws.Room.{refusal_length}
 use Rattle.old_layout.specs.Rewriting.{Outcome, written, refused, Rewrites}
 use Rattle.old_layout.specs.Numbers.{outcome_of}
-use Rattle.old_layout.specs.declared.Added.{Added}
-use Rattle.rewrite_input.specs.Printing.{shown, Prints, no_table, too_long, rewrites, Printed}
+use Rattle.answer_table.specs.declared.TableError.{TableError}
+use Rattle.answer_table.specs.declared.TableError.TheVariants.{TooLong, Malformed, Repeated}
+use Rattle.rewrite_input.specs.Printing.{shown, error_line, Prints, no_table, too_long, rewrites, Printed}
 
 module _ (input out : List ℕ) (h : most_bytes ≤ length out) where
   -- a table that is written
@@ -40,28 +43,28 @@ module _ (input out : List ℕ) (h : most_bytes ≤ length out) where
       (refl, rw (← a, ← b) (too_long t r m))
   refusal_printed k p (Rewrites.fits t r l m) e = let z : ◌≡◌ {A = ℕ} 0 1 = cc in absurd (omega arith)
 
-  module _ (x : Added) (o : List ℕ) (a : Rewrites input out (outcome_of x) o) where
-    pub written_printed : (n : ℕ) → x ≡ Added.Written n → Printed input out o n
+  module _ (x : Result ℕ TableError) (o : List ℕ) (a : Rewrites input out (outcome_of x) o) where
+    pub written_printed : (n : ℕ) → x ≡ Ok n → Printed input out o n
     written_printed n e = table_printed (rw e at a) refl
 
-    line_printed : (k : ℕ) (p : Place) → outcome_of x ≡ refused k p → (after : List ℕ) (n : ℕ) → Wrote (refusal_line k (shown p)) o 0 after n
-        → Printed input out after n
-    line_printed k p e after n w =
-        let r = refusal_printed k p a e in
-        let line = refusal_line k (shown p) in
-        let v : Wrote line out 0 after n = rw r.0 at w in
-        record {
-          text = line;
-          prints = r.1;
-          size = wrote_length line out after n v (omega (arith, refusal_length k (shown p)));
-          buffer = wrote_over line out after n v;
-        }
+    -- the line of a refusal
+    pub line_printed : (e : TableError) → x ≡ Err e → (before after : Writer) → before.out.now ≡ o → before.at ≡ 0 → Writes (error_line e) before after
+        → (last : List ℕ) → last ≡ after.out.now → Printed input out last after.at
+    line_printed e q before after b z w last t = by e q w
+      where
+        line : (k : ℕ) (p : Place) → outcome_of x ≡ refused k p → Writes (refusal_line k (shown p)) before after → Printed input out last after.at
+        line k p u w =
+            let r = refusal_printed k p a u in
+            let s = refusal_line k (shown p) in
+            let v : Wrote s out 0 after.out.now after.at = rw (b, z, r.0) at w.wrote in
+            record {
+              text = s;
+              prints = r.1;
+              size = wrote_length s out after.out.now after.at v (omega (arith, refusal_length k (shown p)));
+              buffer = t ∙ wrote_over s out after.out.now after.at v;
+            }
 
-    pub long_printed : x ≡ Added.TooLong → (after : List ℕ) (n : ℕ) → Wrote (refusal_line 24 0) o 0 after n → Printed input out after n
-    long_printed e after n w = line_printed 24 nowhere (rw e) after n w
-
-    pub malformed_printed : (p : ℕ) → x ≡ Added.Malformed p → (after : List ℕ) (n : ℕ) → Wrote (refusal_line 25 p) o 0 after n → Printed input out after n
-    malformed_printed p e after n w = line_printed 25 (byte p) (rw e) after n w
-
-    pub repeated_printed : (p : ℕ) → x ≡ Added.Repeated p → (after : List ℕ) (n : ℕ) → Wrote (refusal_line 26 p) o 0 after n → Printed input out after n
-    repeated_printed p e after n w = line_printed 26 (byte p) (rw e) after n w
+        by : (e : TableError) → x ≡ Err e → Writes (error_line e) before after → Printed input out last after.at
+        by TooLong q w = line 24 nowhere (rw q) w
+        by (Malformed p) q w = line 25 (byte p) (rw q) w
+        by (Repeated p) q w = line 26 (byte p) (rw q) w

@@ -1,9 +1,9 @@
 -- What a check consults of a table decides it: a table with the same answers there settles the same, with the same lifetime.
 -- By induction on the tree, for every check.
+use Rattle.std.proofs.Common.{Option, ℕ}
 use mathlib.Core.Path.{◌≡◌, refl}
 use mathlib.Core.List.{List}
 use Rattle.records.specs.Readings.{Optional, absent, present}
-use Rattle.rules.specs.declared.Life.{Life}
 use Rattle.rules.specs.Tree.{Answer, Table, Check, give, ask, Settled, wanting, answered, sooner, run}
 use Rattle.rules.specs.Trail.{Question, onward, trail, All, both, SameAt}
 
@@ -13,7 +13,7 @@ unfolding answered onward
 answered_agrees t u w f g h e absent a = refl
 answered_agrees t u w f g h e (present y) a = e y a
 
-pub agrees : {A : Type 0} (t u : Table) (l : Life) (m : Check A) → All (SameAt t u) (trail t m) → run u l m ≡ run t l m
+pub agrees : {A : Type 0} (t u : Table) (l : Option ℕ) (m : Check A) → All (SameAt t u) (trail t m) → run u l m ≡ run t l m
 unfolding run trail
 agrees t u l (give a) x = refl
 agrees t u l (ask k d c g) (both p x) =

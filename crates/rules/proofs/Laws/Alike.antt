@@ -1,12 +1,12 @@
 -- Two checks settle the same with a table, and a fact holds of what they settle: of the value, or of the question that is lacking. From the tree
 -- alone: no rule of the evaluation is in it.
+use Rattle.std.proofs.Common.{Option}
 use Prim.Native.Nat.{ℕ}
 use mathlib.Core.Path.{◌≡◌, refl, sym, ap, subst, ◌∙◌}
 use mathlib.Core.List.{List}
 use mathlib.Core.Bool.{Bool, true, false, cond}
 use Rattle.records.specs.Readings.{Optional, absent, present}
 use Rattle.rules.specs.declared.Counts.{Counts}
-use Rattle.rules.specs.declared.Life.{Life}
 use Rattle.rules.specs.Tree.{Reply, Answer, Table, Has, Check, give, ask, Settled, settled, wanting, bind, then, answered, sooner, run, run_bind}
 
 -- a fact of the value that is settled, or of the kind, the name and the counts of the question that is lacking
@@ -21,8 +21,8 @@ holds_weaken P f (settled a l) h = h
 holds_weaken P f (wanting kind n c l) h = f kind n c h
 
 pub record Alike {A : Type 0} (t : Table) (asked : ℕ → List ℕ → Counts → Type 0) (P : A → Type 0) (m m' : Check A) : Type 0 where
-  pub same : (l : Life) → run t l m ≡ run t l m'
-  pub holds : (l : Life) → Holds asked P (run t l m)
+  pub same : (l : Option ℕ) → run t l m ≡ run t l m'
+  pub holds : (l : Option ℕ) → Holds asked P (run t l m)
 
 module _ {t : Table} {asked : ℕ → List ℕ → Counts → Type 0} where
   pub alike_give : {A : Type 0} {P : A → Type 0} {a : A} → P a → Alike t asked P (give a) (give a)
@@ -35,7 +35,7 @@ module _ {t : Table} {asked : ℕ → List ℕ → Counts → Type 0} where
   unfolding run Holds answered
   alike_ask {P = P} {kind = kind} {n = n} {c = c} {g = g} q h = record { same = λ l. refl; holds = λ l. by l (t kind n) refl }
     where
-      by : (l : Life) (x : Optional Answer) → t kind n ≡ x → Holds asked P (answered x (wanting kind n c l) (λ y. run t (sooner l y.lifetime) (g y.reply)))
+      by : (l : Option ℕ) (x : Optional Answer) → t kind n ≡ x → Holds asked P (answered x (wanting kind n c l) (λ y. run t (sooner l y.lifetime) (g y.reply)))
       by l absent e = q
       by l (present y) e = (h y.reply (y.lifetime, e)).holds (sooner l y.lifetime)
 

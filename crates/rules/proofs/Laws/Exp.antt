@@ -2,6 +2,7 @@
 -- as it is asked. A domain has at most one such argument, at one place past an entry's header, and entries after the table don't move it. Where the
 -- reader finds one, there is one. From the laws of an item's place and of entries (`answer_table`), of the one reading of a record (`records`), of names
 -- (`domain`) and of what a check selects (Produced).
+use Rattle.std.proofs.Common.{None, Option, Ok}
 use Prim.Native.Nat.{ℕ, ◌+◌, ◌-◌, ◌≤◌, ◌<◌}
 use mathlib.Core.Path.{◌≡◌, refl, sym, ap, subst, ◌∙◌}
 use mathlib.Core.List.{List, [], ◌∷◌, ◌++◌, map}
@@ -30,11 +31,9 @@ use Rattle.records.specs.Readings.{Optional, present, Placed}
 use Rattle.records.specs.Grammar.{count_of, Once, Record, spf1}
 use Rattle.records.specs.Answers.{most_bytes}
 use Rattle.records.specs.Reader.{read_record, has_version, after_version}
-use Rattle.records.specs.declared.RecordAnswer.{RecordAnswer}
 use Rattle.records.proofs.Laws.Versions.{has_version_lem}
 use Rattle.records.proofs.Laws.Records.{record_complete, one_reading}
 use Rattle.rules.specs.declared.Counts.{Counts}
-use Rattle.rules.specs.declared.Life.{Life}
 use Rattle.rules.specs.Tree.{Reply, items, Answer, Table, settled, SettlesTo}
 use Rattle.rules.specs.Tables.{reply_by, answer_of, table_of, table_in}
 use Rattle.rules.specs.Evaluation.{terms_of, versioned, one, record_lookup, no_counts}
@@ -133,7 +132,7 @@ exp_in_one {x = x} {x' = x'} h a b =
 module _ {t d : List ℕ} {p p' : ℕ} {x x' : List ℕ} (e : ExpAt t d p x) (f : ExpAt t d p' x') where
   -- the text is the one that is selected, and of those with a version section it stands alone
   same_text : e.text ≡ f.text
-  same_text = let a = exp_text e no_counts Life.Unmet in let b = exp_text f no_counts Life.Unmet in let q : settled (one e.text) a.0 ≡ settled (one f.text) b.0 = sym a.1 ∙ b.1 in cc
+  same_text = let a = exp_text e no_counts None in let b = exp_text f no_counts None in let q : settled (one e.text) a.0 ≡ settled (one f.text) b.0 = sym a.1 ∙ b.1 in cc
 
   same_place : e.text_place ≡ f.text_place
   same_place =
@@ -157,7 +156,7 @@ exp_beyond e = omega (arith, (item_stands e.stands).0, e.place)
 
 -- where the reader finds an exp in the selected record, its argument stands in the table, as far into the record as it is found
 pub exp_made : {t d s : List ℕ} {es : List Entry} → Encoded t es → 1 < label_count d → SettlesTo (table_in t) (record_lookup d no_counts) (one s)
-    → (q : ℕ) → ItemAt t kind_txt d s q → (n : ℕ) → read_record s ≡ RecordAnswer.Accepted n
+    → (q : ℕ) → ItemAt t kind_txt d s q → (n : ℕ) → read_record s ≡ Ok n
     → (us vs : List Placed) (u : Placed) {x : List ℕ} → terms_of s after_version ≡ us ++ (u ∷ vs)
     → u.said.name ≡ bytes "exp" → u.said.argument ≡ present x → ExpAt t d (q + (u.place + length (bytes "exp="))) x
 unfolding terms_of
@@ -231,7 +230,7 @@ module _ {t d : List ℕ} {p : ℕ} {x : List ℕ} (e : ExpAt t d p x) where
   exp_named = table_normal d (entry_name e.stands.entry)
 
   -- its record is accepted
-  pub exp_reads : read_record e.text ≡ RecordAnswer.Accepted after_version
+  pub exp_reads : read_record e.text ≡ Ok after_version
   exp_reads = (record_complete e.exp.reading e.short).accepted
 
   -- entries after the table leave it where it is

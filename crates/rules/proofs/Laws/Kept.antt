@@ -2,6 +2,7 @@
 -- kinds and has a name as the table has it, where this is so of the domain and the table's items are of their kinds. And two checks settle the same if
 -- those that they begin one level down do. One walk over the definitions of the mechanisms and of the evaluation, by induction on the terms and the
 -- depth; from the laws of Alike and the names that can be asked (Askable).
+use Rattle.std.proofs.Common.{Ok, Err, Result as Either}
 use Prim.Native.Nat.{ℕ, zero, suc, ◌≤◌, ◌<◌}
 use native.Mathlib.Nat.{le_refl}
 use native.Mathlib.Omega.{arith}
@@ -26,7 +27,7 @@ use Rattle.macros.specs.declared.Form.{Form}
 use Rattle.macros.specs.Reader.{is_macro_string, uses_p}
 use Rattle.records.specs.Readings.{Optional, absent, present, Said, Placed}
 use Rattle.records.specs.Reader.{read_record}
-use Rattle.records.specs.declared.RecordAnswer.{RecordAnswer}
+use Rattle.records.specs.declared.Refusal.{Refusal}
 use Rattle.rules.specs.declared.Counts.{Counts}
 use Rattle.rules.specs.Tree.{Reply, failed, items, Table, Has, Check}
 use Rattle.rules.proofs.Laws.Alike.{Alike, alike_give, alike_ask, alike_cond, alike_bind, alike_weaken}
@@ -420,9 +421,9 @@ module _ (t : Table) (Sound : Type 0) (fits : Sound → Fitting t) (c : Counts) 
       after_lookup_fine k b (ends v) n = ended_fine k b v n
       after_lookup_fine k b (one s) n = read (read_record s)
         where
-          read : (a : RecordAnswer) → FineBoth (ResultKept Sound c) (read_outcome mail sub d s a k) (read_outcome mail sub' d s a k)
-          read (RecordAnswer.Accepted next) = terms_fine (terms_of s next) (terms_of s next) k b
-          read (RecordAnswer.Refused number at) = ended_fine k b 6 (λ z. omega (arith, z))
+          read : (a : Either ℕ Refusal) → FineBoth (ResultKept Sound c) (read_outcome mail sub d s a k) (read_outcome mail sub' d s a k)
+          read (Ok next) = terms_fine (terms_of s next) (terms_of s next) k b
+          read (Err e) = ended_fine k b 6 (λ z. omega (arith, z))
 
     pub check_name_fine : (x : Naming) (k : Counts) → Bounded c k → NameFits x → FineBoth (ResultKept Sound c) (check_name mail sub x k) (check_name mail sub' x k)
     unfolding check_name NamingOk

@@ -1,6 +1,7 @@
 -- No check is left out: a check that `Begins` doesn't list has no part in what the terms of a record come to, and one that `Reaches` doesn't list none
 -- in what an evaluation comes to. By induction on the terms and on the lookups left, from what a table settles of one check after another (Runs) and
 -- the unfolding of a check (Enough).
+use Rattle.std.proofs.Common.{Option, Ok, Err, Result as Either}
 use Prim.Native.Nat.{ℕ, zero, suc, ◌+◌, ◌≤◌, ◌<◌}
 use native.Mathlib.Omega.{arith}
 use mathlib.Core.Path.{◌≡◌, refl, sym, ap, ◌∙◌}
@@ -18,9 +19,8 @@ use Rattle.records.specs.Readings.{Optional, absent, present, Said, Placed}
 use Rattle.records.specs.Grammar.{Record}
 use Rattle.records.specs.Answers.{most_bytes}
 use Rattle.records.specs.Reader.{read_record}
-use Rattle.records.specs.declared.RecordAnswer.{RecordAnswer}
+use Rattle.records.specs.declared.Refusal.{Refusal}
 use Rattle.rules.specs.declared.Counts.{Counts}
-use Rattle.rules.specs.declared.Life.{Life}
 use Rattle.rules.specs.Tree.{Table, Check, settled, run, SettlesTo}
 use Rattle.rules.proofs.Laws.Runs.{bind_same, bind_first, settles_to}
 use Rattle.rules.specs.Mechanisms.{Mail, Match, yes, no, stop, Step, target, most_lookups, begun, counting}
@@ -31,14 +31,14 @@ use Rattle.rules.proofs.Laws.Signs.{Signed, AllSigned, more, reading_signed, sig
 use Rattle.rules.proofs.Laws.Produced.{selects_is, accepted_reading}
 use Rattle.rules.proofs.Laws.Reached.{begins_grows}
 
-cond_same : {A : Type 0} (t : Table) (l : Life) (b : Bool) (x x' y y' : Check A) → (b ≡ true → run t l x ≡ run t l x') → (b ≡ false → run t l y ≡ run t l y')
+cond_same : {A : Type 0} (t : Table) (l : Option ℕ) (b : Bool) (x x' y y' : Check A) → (b ≡ true → run t l x ≡ run t l x') → (b ≡ false → run t l y ≡ run t l y')
     → run t l (cond b x y) ≡ run t l (cond b x' y')
 cond_same t l true x x' y y' f g = f refl
 cond_same t l false x x' y y' f g = g refl
 
 -- two checks that settle the same from any lifetime
 abbrev pub Equal : {A : Type 0} → Table → Check A → Check A → Type 0
-Equal t m m' = (l : Life) → run t l m ≡ run t l m'
+Equal t m m' = (l : Option ℕ) → run t l m ≡ run t l m'
 
 -- no match is no match
 clash : no ≡ yes → ⊥
@@ -55,7 +55,7 @@ module _ (t : Table) (mail : Mail) (sub sub' : Sub) (nothing : (k : Counts) → 
       cond_same t l (ltb c.lookups most_lookups) _ _ _ _
       (λ e. bind_same t l (target mail d spec (begun c)) _ _ (by (ltb-true c.lookups most_lookups e))) (λ _. refl)
     where
-      by : c.lookups < most_lookups → (x : Naming) (j : Life) → run t l (target mail d spec (begun c)) ≡ settled x j → run t j (sub x (begun c)) ≡ run t j (sub' x (begun c))
+      by : c.lookups < most_lookups → (x : Naming) (j : Option ℕ) → run t l (target mail d spec (begun c)) ≡ settled x j → run t j (sub x (begun c)) ≡ run t j (sub' x (begun c))
       by n (name e) j g = h e n (settles_to t (target mail d spec (begun c)) (name e) l j g) j
       by n malformed j g = nothing (begun c) j
 
@@ -97,7 +97,7 @@ module _ (t : Table) (mail : Mail) (sub sub' : Sub) (nothing : (k : Counts) → 
     after_listed sign no k rest rest' f h l = h refl l
     after_listed sign (stop v) k rest rest' f h l = refl
 
-    signed_match : (x : Said) (sign : Optional ℕ) → Signed sign → (c : Counts) (s : Step) (l j : Life) → run t l (term_step mail sub d x sign c) ≡ settled s j → s.match ≡ yes
+    signed_match : (x : Said) (sign : Optional ℕ) → Signed sign → (c : Counts) (s : Step) (l j : Option ℕ) → run t l (term_step mail sub d x sign c) ≡ settled s j → s.match ≡ yes
         → (v : ℕ) × (sign_result sign ≡ present v)
     unfolding term_step run
     signed_match x absent g c s l j e m = let q : record { match = no; counts = c } ≡ s = cc in let z : no ≡ yes = ap (λ (y : Step). y.match) q ∙ m in absurd (clash z)
@@ -134,14 +134,14 @@ unfolding check_name after_lookup read_outcome terms_of
 check_listed t mail sub sub' d c a nothing l =
     cond_same t l (leb (label_count d) 1) _ _ _ _ (λ _. refl) (λ h. bind_same t l (record_lookup d c) _ _ (looked_up (leb-false (label_count d) 1 h)))
   where
-    outcome : (s : List ℕ) → Selects t d s → (r : RecordAnswer) → read_record s ≡ r
+    outcome : (s : List ℕ) → Selects t d s → (r : Either ℕ Refusal) → read_record s ≡ r
         → Equal t (read_outcome mail sub d s r c) (read_outcome mail sub' d s r c)
-    outcome s p (RecordAnswer.Accepted n) q j =
+    outcome s p (Ok n) q j =
         let r = accepted_reading s n q in
         terms_listed t mail sub sub' d (terms_of s n) (terms_of s n) c (reading_signed r.1) (a s (terms_of s n) p r.0 r.1) nothing j
-    outcome s p (RecordAnswer.Refused number at) q j = refl
+    outcome s p (Err e) q j = refl
 
-    looked_up : 1 < label_count d → (x : Selection) (j : Life) → run t l (record_lookup d c) ≡ settled x j
+    looked_up : 1 < label_count d → (x : Selection) (j : Option ℕ) → run t l (record_lookup d c) ≡ settled x j
         → run t j (after_lookup mail sub d c x) ≡ run t j (after_lookup mail sub' d c x)
     looked_up h (ends v) j e = refl
     looked_up h (one s) j e = outcome s ((selects_is t d s c h).1 (settles_to t (record_lookup d c) (one s) l j e)) (read_record s) refl j

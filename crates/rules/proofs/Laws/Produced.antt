@@ -1,5 +1,6 @@
 -- The readers that the rules use against the productions: the text that a check selects, the terms that it tries and the expansions that it makes are those that
 -- the productions make, and a text outside them is permerror. From the laws of `records` and `macros`. And a verdict's text has at most 500 bytes.
+use Rattle.std.proofs.Common.{None, Option, Ok, Err, Result as Either}
 use Prim.Native.Nat.{ℕ, zero, suc, ◌≤◌, ◌<◌}
 use mathlib.Core.Path.{◌≡◌, refl, ap, subst, ◌∙◌}
 use mathlib.Core.Logic.{◌↔◌, ⊎_elim}
@@ -21,11 +22,11 @@ use Rattle.records.specs.Readings.{Optional, absent, present, Placed}
 use Rattle.records.specs.Grammar.{Terms, done, term as term_made, Record, spf1}
 use Rattle.records.specs.Answers.{most_bytes}
 use Rattle.records.specs.Reader.{read_record, has_version, Reads, stop as reads-stop, step as reads-step}
-use Rattle.records.specs.declared.RecordAnswer.{RecordAnswer}
+use Rattle.records.specs.declared.Refusal.{Refusal}
+use Rattle.records.specs.declared.Reason.TheVariants.{TooLong}
 use Rattle.records.proofs.Laws.Records.{record_complete, record_sound}
 use Rattle.records.proofs.Laws.Versions.{has_version_lem, version_of}
 use Rattle.rules.specs.declared.Counts.{Counts}
-use Rattle.rules.specs.declared.Life.{Life}
 use Rattle.rules.specs.Tree.{Reply, failed, items, Answer, Table, settled, wanting, answered, sooner, run, SettlesTo}
 use Rattle.rules.proofs.Laws.Runs.{bind_is}
 use Rattle.rules.proofs.Laws.Alike.{Holds}
@@ -83,11 +84,11 @@ module _ (t : Table) (d : List ℕ) (c : Counts) where
   unfolding selection
   selects_one s (only h x v) l = let p = texts_are _ x l in (p.0, p.1 ∙ rw (single_kept v))
 
-  one_selects : (s : List ℕ) → 1 < label_count d → (l j : Life) → run t l (record_lookup d c) ≡ settled (one s) j → Selects t d s
+  one_selects : (s : List ℕ) → 1 < label_count d → (l j : Option ℕ) → run t l (record_lookup d c) ≡ settled (one s) j → Selects t d s
   unfolding record_lookup text_reply selection answered run
   one_selects s h l j e = by (t 16 d) refl e
     where
-      single : (ss : List (List ℕ)) {i : Life} → settled (selection ss) i ≡ settled (one s) j → ss ≡ s ∷ []
+      single : (ss : List (List ℕ)) {i : Option ℕ} → settled (selection ss) i ≡ settled (one s) j → ss ≡ s ∷ []
       single [] q = let z : ◌≡◌ {A = ℕ} 0 1 = cc in absurd (omega arith)
       single (u ∷ []) q = let z : u ≡ s = cc in rw z
       single (u ∷ v ∷ r) q = let z : ◌≡◌ {A = ℕ} 0 1 = cc in absurd (omega arith)
@@ -102,11 +103,11 @@ module _ (t : Table) (d : List ℕ) (c : Counts) where
 
 -- `Selects` is what record lookup does: a domain of more than one label selects a text exactly if record lookup comes to it
 pub selects_is : (t : Table) (d s : List ℕ) (c : Counts) → 1 < label_count d → Selects t d s ↔ SettlesTo t (record_lookup d c) (one s)
-selects_is t d s c h = (selects_one t d c s, λ p. one_selects t d c s h Life.Unmet (p Life.Unmet).0 (p Life.Unmet).1)
+selects_is t d s c h = (selects_one t d c s, λ p. one_selects t d c s h None (p None).0 (p None).1)
 
 -- a check by the record that it selects
-select_is : (t : Table) (l : Life) (mail : Mail) (sub : Sub) (d s : List ℕ) (c : Counts) → Selects t d s
-    → (j : Life) × (run t l (check_name mail sub (name d) c) ≡ run t j (read_outcome mail sub d s (read_record s) c))
+select_is : (t : Table) (l : Option ℕ) (mail : Mail) (sub : Sub) (d s : List ℕ) (c : Counts) → Selects t d s
+    → (j : Option ℕ) × (run t l (check_name mail sub (name d) c) ≡ run t j (read_outcome mail sub d s (read_record s) c))
 unfolding check_name after_lookup
 select_is t l mail sub d s c (only h x v) =
     let p = selects_one t d c s (only h x v) l in
@@ -126,7 +127,7 @@ reads_terms f h (reads-stop p) = rw p
 reads_terms zero h (reads-step p r) = absurd (omega arith)
 reads_terms (suc f) h (reads-step {t = t} p r) = rw p (ap (λ (us : List Placed). t ∷ us) (reads_terms f (omega arith) r))
 
-read_is : (t : Table) (j : Life) (mail : Mail) (sub : Sub) (d s : List ℕ) (c : Counts) {ts : List Placed} → length s ≤ most_bytes → Record s ts
+read_is : (t : Table) (j : Option ℕ) (mail : Mail) (sub : Sub) (d s : List ℕ) (c : Counts) {ts : List Placed} → length s ≤ most_bytes → Record s ts
     → run t j (read_outcome mail sub d s (read_record s) c) ≡ run t j (try_terms mail sub d ts ts c)
 unfolding read_outcome terms_of
 read_is t j mail sub d s c {ts} h r =
@@ -134,21 +135,21 @@ read_is t j mail sub d s c {ts} h r =
     rw (a.accepted, reads_terms (length s) (record_length r) a.walk)
 
 -- a text outside the grammar is refused
-outside_refused : (s : List ℕ) → Outside s → (number : ℕ) × ((at : ℕ) × (read_record s ≡ RecordAnswer.Refused number at))
+outside_refused : (s : List ℕ) → Outside s → (e : Refusal) × (read_record s ≡ Err e)
 unfolding read_record
-outside_refused s (too_long h) = (30, (0, rw (lt-ltb most_bytes (length s) h)))
+outside_refused s (too_long h) = (record { reason = TooLong; at = 0 }, rw (lt-ltb most_bytes (length s) h))
 outside_refused s (unproduced u) = by (read_record s) refl
   where
-    by : (r : RecordAnswer) → read_record s ≡ r → (number : ℕ) × ((at : ℕ) × (read_record s ≡ RecordAnswer.Refused number at))
-    by (RecordAnswer.Accepted n) e = let d = record_sound s n e in absurd (u d.0 d.1)
-    by (RecordAnswer.Refused number at) e = (number, (at, e))
+    by : (r : Either ℕ Refusal) → read_record s ≡ r → (e : Refusal) × (read_record s ≡ Err e)
+    by (Ok n) e = let d = record_sound s n e in absurd (u d.0 d.1)
+    by (Err x) e = (x, e)
 
 -- `Outside` leaves nothing out: what is accepted has at most 4,096 bytes, and the terms that are read of it are a reading that the productions make
-pub accepted_reading : (s : List ℕ) (n : ℕ) → read_record s ≡ RecordAnswer.Accepted n → (length s ≤ most_bytes) × Record s (terms_from (suc (length s)) s n)
+pub accepted_reading : (s : List ℕ) (n : ℕ) → read_record s ≡ Ok n → (length s ≤ most_bytes) × Record s (terms_from (suc (length s)) s n)
 unfolding read_record
 accepted_reading s n e = ⊎_elim
     (λ (h : length s ≤ most_bytes). (h, made h))
-    (λ (h : most_bytes < length s). absurd (let q : read_record s ≡ RecordAnswer.Refused 30 0 = rw (lt-ltb most_bytes (length s) h) in let z : ◌≡◌ {A = ℕ} 0 1 = cc in omega arith))
+    (λ (h : most_bytes < length s). absurd (let q : read_record s ≡ Err (record { reason = TooLong; at = 0 }) = rw (lt-ltb most_bytes (length s) h) in let z : ◌≡◌ {A = ℕ} 0 1 = cc in omega arith))
     (le_or_lt (length s) most_bytes)
   where
     made : length s ≤ most_bytes → Record s (terms_from (suc (length s)) s n)
@@ -160,9 +161,9 @@ accepted_reading s n e = ⊎_elim
 
 -- A check that selects a text that the productions make tries the terms of its one reading, with the check itself for include and redirect, from the
 -- lifetime that record lookup leaves.
-pub produced_runs : (t : Table) (l : Life) (mail : Mail) (d s : List ℕ) (ts : List Placed) (c : Counts)
+pub produced_runs : (t : Table) (l : Option ℕ) (mail : Mail) (d s : List ℕ) (ts : List Placed) (c : Counts)
     → c.lookups ≤ 10 → Selects t d s → length s ≤ most_bytes → Record s ts
-    → (j : Life) × (run t l (whole mail (name d) c) ≡ run t j (try_terms mail (whole mail) d ts ts c))
+    → (j : Option ℕ) × (run t l (whole mail (name d) c) ≡ run t j (try_terms mail (whole mail) d ts ts c))
 produced_runs t l mail d s ts c k p h r =
     let i = select_is t l mail (whole mail) d s c p in
     (i.0, whole_unfolds t l mail (name d) c k ∙ i.1 ∙ read_is t i.0 mail (whole mail) d s c h r)
@@ -173,7 +174,7 @@ pub outside_permerror : (t : Table) (mail : Mail) (d s : List ℕ) (c : Counts) 
 unfolding read_outcome run
 outside_permerror t mail d s c k p o l =
     let i = select_is t l mail (whole mail) d s c p in
-    (i.0, whole_unfolds t l mail (name d) c k ∙ i.1 ∙ rw (outside_refused s o).1.1)
+    (i.0, whole_unfolds t l mail (name d) c k ∙ i.1 ∙ rw (outside_refused s o).1)
 
 -- The expansion of a macro string is the text of the pieces that the productions make, and p is asked for exactly if one of them is a p macro.
 pub produced_expands : (mail : Mail) (d : List ℕ) (form : Form) (text : List ℕ) (ps : List Piece) → Produces form text ps
@@ -183,6 +184,6 @@ unfolding expansion uses_p
 produced_expands mail d form text ps r = let e = (complete form text ps r).1 in ((λ p. rw e), rw e)
 
 -- "over 500 bytes: empty text"
-pub text_short : (t : Table) (l j : Life) (mail : Mail) (domain : List ℕ) (v : Verdict) → run t l (verdict mail domain) ≡ settled v j → length v.text ≤ most_text
+pub text_short : (t : Table) (l j : Option ℕ) (mail : Mail) (domain : List ℕ) (v : Verdict) → run t l (verdict mail domain) ≡ settled v j → length v.text ≤ most_text
 unfolding Holds
 text_short t l j mail domain v e = (subst (Holds (AskedFacts t) VerdictFacts) e (verdict_facts t mail domain l)).short

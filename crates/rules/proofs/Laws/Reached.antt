@@ -1,5 +1,6 @@
 -- A record outside the grammar is never evaluated: where a check that an evaluation reaches selects one, the whole evaluation ends in permerror with
 -- the counts of that moment. By induction on how the check is reached, from the ties to the productions (Produced) and the tree of questions.
+use Rattle.std.proofs.Common.{None, Option}
 use Prim.Native.Nat.{ℕ, ◌≤◌, ◌<◌}
 use mathlib.Core.Path.{◌≡◌, refl, sym, ap, subst, ◌∙◌}
 use mathlib.Core.List.{List, []}
@@ -10,7 +11,6 @@ use Rattle.text.specs.Texts.{bytes}
 use Rattle.domain.specs.Normal.{Naming, name, normal}
 use Rattle.records.specs.Readings.{absent, present, Said, Placed}
 use Rattle.rules.specs.declared.Counts.{Counts}
-use Rattle.rules.specs.declared.Life.{Life}
 use Rattle.rules.specs.Tree.{Table, Check, bind, run, SettlesTo}
 use Rattle.rules.proofs.Laws.Runs.{bind_to}
 use Rattle.rules.specs.Mechanisms.{Mail, no, stop, Step, target, most_lookups, begun, counting}
@@ -68,7 +68,7 @@ pub begins_grows : (t : Table) (mail : Mail) (d : List ℕ) (all_terms : List Pl
     → Begins t mail (whole mail) d all_terms ts c e k → (c.lookups < k.lookups) × (k.lookups ≤ 10)
 begins_grows t mail d all_terms (past_term {x = x} {c = c} {l = l} m b) =
     let r = begins_grows t mail d all_terms b in
-    (omega (arith, (no_bounded t Life.Unmet (m Life.Unmet).0 c l mail d x.said x.said.sign (m Life.Unmet).1).lookups_grow, r.0), r.1)
+    (omega (arith, (no_bounded t None (m None).0 c l mail d x.said x.said.sign (m None).1).lookups_grow, r.0), r.1)
 begins_grows t mail d all_terms (by_include n g a h q) = (omega arith, omega (arith, h))
 begins_grows t mail d all_terms (by_redirect r h q) = (omega arith, omega (arith, h))
 
@@ -102,5 +102,5 @@ verdict_never_evaluated t mail domain {k = k} s r p o =
 pub reached_example : answer rows ≡ decided 6 2 0
 unfolding answer aside
 reached_example =
-    let p = verdict_never_evaluated (zone rows) mail (bytes "example.com") (bytes "v=spf1 moo") reached_case.reached reached_case.selects reached_case.outside Life.Unmet in
+    let p = verdict_never_evaluated (zone rows) mail (bytes "example.com") (bytes "v=spf1 moo") reached_case.reached reached_case.selects reached_case.outside None in
     ap aside p.1

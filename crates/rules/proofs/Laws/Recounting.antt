@@ -1,5 +1,6 @@
 -- An explanation asks the same and comes to the same from any counts: they are only reported with a question that is lacking. So the second call, which
 -- has counts of 0, gives the text or the question that one evaluation gave. By the definitions, question by question.
+use Rattle.std.proofs.Common.{Option}
 use Prim.Native.Nat.{ℕ}
 use mathlib.Core.Path.{◌≡◌, refl}
 use mathlib.Core.List.{List, [], ◌∷◌}
@@ -10,7 +11,6 @@ use Rattle.macros.specs.declared.Form.{Form}
 use Rattle.macros.specs.Reader.{is_macro_string, uses_p}
 use Rattle.records.specs.Readings.{Optional, absent, present}
 use Rattle.rules.specs.declared.Counts.{Counts}
-use Rattle.rules.specs.declared.Life.{Life}
 use Rattle.rules.specs.Tree.{Reply, failed, items, Answer, Table, Check, give, ask, Settled, settled, wanting, bind, answered, sooner, run}
 use Rattle.rules.specs.Mechanisms.{Mail, with_valid, validated, names_of, gives_chosen, p_reply, p_value, gives_expansion, expanded, gives_name, target}
 use Rattle.rules.specs.Evaluation.{gives_shown, explained, explain_reply, explain_name, explanation}
@@ -25,7 +25,7 @@ data Same (c e : Counts) {A : Type 0} : Check A → Check A → Type 0 where
   gives : {a : A} → Same c e (give a) (give a)
   asks : {kind : ℕ} {n : List ℕ} {g h : Reply → Check A} → ((r : Reply) → Same c e (g r) (h r)) → Same c e (ask kind n c g) (ask kind n e h)
 
-same_run : {c e : Counts} {A : Type 0} (t : Table) (l : Life) {m m' : Check A} → Same c e m m' → run t l m ≡ recounted c (run t l m')
+same_run : {c e : Counts} {A : Type 0} (t : Table) (l : Option ℕ) {m m' : Check A} → Same c e m m' → run t l m ≡ recounted c (run t l m')
 unfolding run recounted answered
 same_run t l gives = refl
 same_run {c} {e} {A} t l (asks {kind = kind} {n = n} {g = g} {h = h} s) = by (λ x. same_run t (sooner l x.lifetime) (s x.reply)) (t kind n)
@@ -88,6 +88,6 @@ module _ (c e : Counts) where
     same_explanation absent = gives
     same_explanation (present exp) = same_bind (same_target mail d exp) same_name
 
-pub recounts : (t : Table) (l : Life) (mail : Mail) (d : List ℕ) (exp : Optional (List ℕ)) (c e : Counts)
+pub recounts : (t : Table) (l : Option ℕ) (mail : Mail) (d : List ℕ) (exp : Optional (List ℕ)) (c e : Counts)
     → run t l (explanation mail d exp c) ≡ recounted c (run t l (explanation mail d exp e))
 recounts t l mail d exp c e = same_run t l (same_explanation c e mail d exp)

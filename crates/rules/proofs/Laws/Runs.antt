@@ -1,22 +1,22 @@
 -- What a table settles of a value that is given, of a question by what the table has for it, and of one check after another by what it settles of
 -- the first; and that the lifetime a run begins with has no part in the value. From the definition of `run` and `run_bind`, for every check.
+use Rattle.std.proofs.Common.{Option}
 use Prim.Native.Nat.{ℕ}
 use mathlib.Core.Path.{◌≡◌, refl, sym, ap, ◌∙◌}
 use mathlib.Core.List.{List}
 use native.Mathlib.Omega.{arith}
 use Rattle.records.specs.Readings.{Optional, absent, present}
 use Rattle.rules.specs.declared.Counts.{Counts}
-use Rattle.rules.specs.declared.Life.{Life}
 use Rattle.rules.specs.Tree.{Reply, Answer, Table, Check, give, ask, Settled, settled, wanting, bind, then, answered, sooner, run, SettlesTo, run_bind}
 use Rattle.rules.specs.Outcomes.{Settles, Lacks}
 
-module _ {A : Type 0} (t : Table) (l : Life) where
+module _ {A : Type 0} (t : Table) (l : Option ℕ) where
   -- a value that is given is settled, and nothing else
   pub give_settles : (a : A) → Settles (run t l (give a)) a l
   unfolding run
   give_settles a = refl
 
-  pub give_same : (a a' : A) (j : Life) → Settles (run t l (give a)) a' j → a ≡ a'
+  pub give_same : (a a' : A) (j : Option ℕ) → Settles (run t l (give a)) a' j → a ≡ a'
   unfolding run
   give_same a a' j e = ap inner e
     where
@@ -34,19 +34,19 @@ module _ {A : Type 0} (t : Table) (l : Life) where
     unfolding run answered
     ask_present x e = rw e
 
-module _ {A B : Type 0} (t : Table) (l : Life) (m : Check A) where
+module _ {A B : Type 0} (t : Table) (l : Option ℕ) (m : Check A) where
   -- the first is settled, and the second goes on from its value and its lifetime
-  pub bind_is : (f : A → Check B) (a : A) (j : Life) → Settles (run t l m) a j → run t l (bind m f) ≡ run t j (f a)
+  pub bind_is : (f : A → Check B) (a : A) (j : Option ℕ) → Settles (run t l m) a j → run t l (bind m f) ≡ run t j (f a)
   unfolding then
   bind_is f a j e = run_bind t l m f ∙ rw e
 
   -- a question that the first lacks is lacking
-  pub bind_wants : (f : A → Check B) (kind : ℕ) (n : List ℕ) (c : Counts) (j : Life) → Lacks (run t l m) kind n c j → Lacks (run t l (bind m f)) kind n c j
+  pub bind_wants : (f : A → Check B) (kind : ℕ) (n : List ℕ) (c : Counts) (j : Option ℕ) → Lacks (run t l m) kind n c j → Lacks (run t l (bind m f)) kind n c j
   unfolding then
   bind_wants f kind n c j e = run_bind t l m f ∙ rw e
 
   -- two ways to go on that settle the same from the first's value
-  pub bind_same : (f g : A → Check B) → ((a : A) (j : Life) → Settles (run t l m) a j → run t j (f a) ≡ run t j (g a)) → run t l (bind m f) ≡ run t l (bind m g)
+  pub bind_same : (f g : A → Check B) → ((a : A) (j : Option ℕ) → Settles (run t l m) a j → run t j (f a) ≡ run t j (g a)) → run t l (bind m f) ≡ run t l (bind m g)
   unfolding then
   bind_same f g h = run_bind t l m f ∙ by (run t l m) refl ∙ sym (run_bind t l m g)
     where
@@ -55,16 +55,16 @@ module _ {A B : Type 0} (t : Table) (l : Life) (m : Check A) where
       by (wanting kind n c j) e = refl
 
 -- two first checks that settle the same
-pub bind_first : {A B : Type 0} (t : Table) (l : Life) (m m' : Check A) (f : A → Check B) → run t l m ≡ run t l m' → run t l (bind m f) ≡ run t l (bind m' f)
+pub bind_first : {A B : Type 0} (t : Table) (l : Option ℕ) (m m' : Check A) (f : A → Check B) → run t l m ≡ run t l m' → run t l (bind m f) ≡ run t l (bind m' f)
 bind_first {A = A} t l m m' f e = run_bind t l m f ∙ ap (λ (x : Settled A). then x (λ a j. run t j (f a))) e ∙ sym (run_bind t l m' f)
 
 -- the same value or question, whatever the lifetimes
 pub data Same {A : Type 0} : Settled A → Settled A → Type 0 where
-  decided : {a : A} {i j : Life} → Same (settled a i) (settled a j)
-  lacking : {kind : ℕ} {n : List ℕ} {c : Counts} {i j : Life} → Same (wanting kind n c i) (wanting kind n c j)
+  decided : {a : A} {i j : Option ℕ} → Same (settled a i) (settled a j)
+  lacking : {kind : ℕ} {n : List ℕ} {c : Counts} {i j : Option ℕ} → Same (wanting kind n c i) (wanting kind n c j)
 
 -- two runs of a check that begin with different lifetimes
-pub run_any : {A : Type 0} (t : Table) (l j : Life) (m : Check A) → Same (run t l m) (run t j m)
+pub run_any : {A : Type 0} (t : Table) (l j : Option ℕ) (m : Check A) → Same (run t l m) (run t j m)
 unfolding run answered
 run_any t l j (give a) = decided
 run_any {A} t l j (ask kind n c g) = by (t kind n) (λ x. run_any t (sooner l x.lifetime) (sooner j x.lifetime) (g x.reply))
@@ -76,10 +76,10 @@ run_any {A} t l j (ask kind n c g) = by (t kind n) (λ x. run_any t (sooner l x.
     by (present x) h = h x
 
 -- so what is settled once is settled from any lifetime
-pub settles_to : {A : Type 0} (t : Table) (m : Check A) (a : A) (i j : Life) → Settles (run t i m) a j → SettlesTo t m a
+pub settles_to : {A : Type 0} (t : Table) (m : Check A) (a : A) (i j : Option ℕ) → Settles (run t i m) a j → SettlesTo t m a
 settles_to {A} t m a i j e l = by (run t i m) (run t l m) (run_any t i l m) e
   where
-    by : (x y : Settled A) → Same x y → x ≡ settled a j → (k : Life) × (y ≡ settled a k)
+    by : (x y : Settled A) → Same x y → x ≡ settled a j → (k : Option ℕ) × (y ≡ settled a k)
     by (settled b i') (settled b' j') decided q = (j', (let p : b ≡ a = ap inner q in rw p))
       where
         inner : Settled A → A

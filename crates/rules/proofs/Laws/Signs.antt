@@ -1,4 +1,5 @@
 -- A mechanism that is read has one of the four signs, and a modifier has none; so a match always gives a result. From the productions.
+use Rattle.std.proofs.Common.{Ok, Some}
 use Prim.Native.Nat.{ℕ}
 use mathlib.Core.Path.{◌≡◌, refl, ap}
 use mathlib.Core.List.{List, [], ◌∷◌}
@@ -11,7 +12,6 @@ use Rattle.records.specs.Grammar.{is_qualifier, Mechanism, all_term, include, a,
 use Rattle.records.specs.Reader.{read_term}
 use Rattle.records.specs.Numbers.{term_report, said_of}
 use Rattle.records.specs.declared.Term.{Term}
-use Rattle.records.specs.declared.TermAnswer.{TermAnswer}
 use Rattle.records.proofs.Laws.Terms.{found}
 use Rattle.rules.specs.Results.{result_pass, result_fail, result_softfail, result_neutral}
 use Rattle.rules.specs.Evaluation.{sign_result}
@@ -43,7 +43,7 @@ term_signed (directive (signed h m)) = mechanism_signed h m
 term_signed (modifier_term m) = modifier_signed m
 
 -- the term that is read at a place
-pub read_signed : (s : List ℕ) (i at next : ℕ) (x : Term) → read_term s i ≡ TermAnswer.Is at next x → Signed (said_of (part s at next) x).sign
+pub read_signed : (s : List ℕ) (i at next : ℕ) (x : Term) → read_term s i ≡ Ok (Some (record { at = at; next = next; term = x })) → Signed (said_of (part s at next) x).sign
 read_signed s i at next x e = term_signed (found s i next (record { place = at; said = said_of (part s at next) x }) (ap (term_report s) e)).text
 
 -- all terms of a reading

@@ -1,12 +1,12 @@
 -- One term and then the others, and the counts after a term, a host of mx or a name of ptr that does not match. From the definitions of the evaluation,
 -- what a table settles of one check after another (Runs) and what a check keeps (Kept).
+use Rattle.std.proofs.Common.{Option}
 use Prim.Native.Nat.{ℕ}
 use mathlib.Core.Path.{◌≡◌, subst}
 use mathlib.Core.List.{List, ◌∷◌}
 use Rattle.address.specs.declared.Address.{Address}
 use Rattle.records.specs.Readings.{Optional, Said, Placed}
 use Rattle.rules.specs.declared.Counts.{Counts}
-use Rattle.rules.specs.declared.Life.{Life}
 use Rattle.rules.specs.Tree.{Table, Check, settled, wanting, run}
 use Rattle.rules.proofs.Laws.Runs.{bind_is, bind_wants}
 use Rattle.rules.proofs.Laws.Alike.{Holds}
@@ -15,7 +15,7 @@ use Rattle.rules.specs.Evaluation.{Sub, term_step, after_step, try_terms, whole}
 use Rattle.rules.proofs.Laws.Kept.{Bounded, MatchKept, StepKept, Asked, Fine, bounded_self, host_fine, name_fine, hosts_fine, term_fine, check_fine}
 
 -- one term and then the others, by what the table settles of it
-module _ (t : Table) (mail : Mail) (sub : Sub) (d : List ℕ) (all_terms : List Placed) (x : Placed) (ts : List Placed) (c k : Counts) (l j : Life) where
+module _ (t : Table) (mail : Mail) (sub : Sub) (d : List ℕ) (all_terms : List Placed) (x : Placed) (ts : List Placed) (c k : Counts) (l j : Option ℕ) where
   pub term_then : (m : Match) → run t l (term_step mail sub d x.said x.said.sign c) ≡ settled (record { match = m; counts = k }) j
       → run t l (try_terms mail sub d all_terms (x ∷ ts) c) ≡ run t j (after_step d all_terms x.said.sign m k (try_terms mail sub d all_terms ts))
   unfolding try_terms
@@ -27,7 +27,7 @@ module _ (t : Table) (mail : Mail) (sub : Sub) (d : List ℕ) (all_terms : List 
   term_wants kind n e = bind_wants t l (term_step mail sub d x.said x.said.sign c) _ kind n k j e
 
 -- after a step that does not match, the check goes on within the bounds
-module _ (t : Table) (l j : Life) (c k : Counts) where
+module _ (t : Table) (l j : Option ℕ) (c k : Counts) where
   bounded_after : (m : Check Step) → Fine t ⊥ (λ z. absurd z) c (StepKept c) m → run t l m ≡ settled (record { match = no; counts = k }) j → Bounded c k
   unfolding Holds MatchKept
   bounded_after m f e = subst (Holds (Asked ⊥ c) (StepKept c)) e (f.holds l)

@@ -1,6 +1,7 @@
 -- What holds of every result, text and verdict, whatever the table, the mail and the domain: at most ten lookups and, short of permerror, two void
 -- answers; a fail and nothing else names the record that failed; "text written only for 3", of at most 500 bytes; and a question that is lacking is of
 -- one of five kinds, and has a name as the table has it, if the table's items are of their kinds. From what a check keeps (Kept).
+use Rattle.std.proofs.Common.{Option}
 use Prim.Native.Nat.{ℕ, ◌≤◌, ◌<◌}
 use native.Mathlib.Omega.{arith}
 use mathlib.Core.Path.{◌≡◌, refl}
@@ -11,7 +12,6 @@ use Rattle.domain.specs.Names.{is_table_name}
 use Rattle.domain.specs.Normal.{normal}
 use Rattle.records.specs.Readings.{Optional, absent, present}
 use Rattle.rules.specs.declared.Counts.{Counts}
-use Rattle.rules.specs.declared.Life.{Life}
 use Rattle.rules.specs.Tree.{Table, Check, run}
 use Rattle.rules.proofs.Laws.Alike.{Holds, holds_weaken, alike_give, alike_bind, alike_weaken}
 use Rattle.rules.proofs.Laws.Askable.{Fitting, normal_ok}
@@ -72,16 +72,16 @@ evaluation_fine t mail domain = check_fine t (Fitting t) (λ f. f) no_counts 11 
 
 module _ (t : Table) where
   -- what is settled of a check, by what it keeps
-  facts_of_lem : {A : Type 0} {P Q : A → Type 0} {m : Check A} → ((a : A) → P a → Q a) → Fine t (Fitting t) (λ f. f) no_counts P m → (l : Life) → Holds (AskedFacts t) Q (run t l m)
+  facts_of_lem : {A : Type 0} {P Q : A → Type 0} {m : Check A} → ((a : A) → P a → Q a) → Fine t (Fitting t) (λ f. f) no_counts P m → (l : Option ℕ) → Holds (AskedFacts t) Q (run t l m)
   facts_of_lem {P = P} {Q = Q} {m = m} f h l = holds_weaken Q (asked_facts t) (run t l m) ((alike_weaken f h).holds l)
 
-  pub evaluation_facts : (mail : Mail) (domain : List ℕ) (l : Life) → Holds (AskedFacts t) (ResultFacts t) (run t l (evaluation mail domain))
+  pub evaluation_facts : (mail : Mail) (domain : List ℕ) (l : Option ℕ) → Holds (AskedFacts t) (ResultFacts t) (run t l (evaluation mail domain))
   evaluation_facts mail domain = facts_of_lem (result_facts t) (evaluation_fine t mail domain)
 
-  pub explanation_facts : (mail : Mail) (d : List ℕ) (exp : Optional (List ℕ)) (l : Life) → Holds (AskedFacts t) (λ x. length x ≤ most_text) (run t l (explanation mail d exp no_counts))
+  pub explanation_facts : (mail : Mail) (d : List ℕ) (exp : Optional (List ℕ)) (l : Option ℕ) → Holds (AskedFacts t) (λ x. length x ≤ most_text) (run t l (explanation mail d exp no_counts))
   explanation_facts mail d exp = facts_of_lem (λ x h. h) (explanation_fine t (Fitting t) (λ f. f) no_counts mail d exp no_counts (bounded_self no_counts))
 
-  pub verdict_facts : (mail : Mail) (domain : List ℕ) (l : Life) → Holds (AskedFacts t) VerdictFacts (run t l (verdict mail domain))
+  pub verdict_facts : (mail : Mail) (domain : List ℕ) (l : Option ℕ) → Holds (AskedFacts t) VerdictFacts (run t l (verdict mail domain))
   unfolding verdict
   verdict_facts mail domain =
       facts_of_lem (λ v h. h)

@@ -1,5 +1,6 @@
 -- The argument of a term that was read stands within the term, so that it is a part of the record. From the reader's definitions, the laws of runs,
 -- and where a term stands in its record.
+use Rattle.std.proofs.Common.{None, Option, Some, Ok}
 use Prim.Native.Nat.{ℕ, ◌+◌, ◌-◌, ◌≤◌, ◌<◌}
 use mathlib.Core.Path.{◌≡◌, refl, sym, subst, ◌∙◌}
 use mathlib.Core.List.{List}
@@ -17,22 +18,17 @@ use Rattle.text.proofs.Laws.Classes.{nonzero_inside}
 use Rattle.answer_table.proofs.Laws.Places.{part_inside}
 use Rattle.address.specs.declared.Address.{Address}
 use Rattle.address.specs.declared.Address.TheVariants.{IPv4, IPv6}
-use Rattle.networks.specs.declared.Network.{Network}
-use Rattle.networks.specs.declared.Length.{Length}
 use Rattle.networks.specs.Reader.{on_length, read_ip4, read_length4, read_length6, read_dual}
 use Rattle.networks.specs.Reader6.{read_ip6}
 use Rattle.networks.proofs.Laws.Readings.{length-elim}
 use Rattle.macros.specs.declared.Form.TheVariants.{DomainSpec}
 use Rattle.macros.specs.Reader.{is_macro_string}
 use Rattle.records.specs.Readings.{argument_bytes}
-use Rattle.records.specs.Numbers.{said_of}
-use Rattle.records.specs.Reader.{kind_of, spec_at, after_network, all_of, with_spec, ptr_of, cut_of, hosts_cut, hosts_at, with_hosts, network_term, network_cut, network_by, mechanism_by, mechanism_of, modifier_of, token_of, read_term}
+use Rattle.records.specs.Numbers.{said_of, term_at}
+use Rattle.records.specs.Reader.{kind_of, spec_at, hosts_of, after_network, all_of, with_spec, ptr_of, cut_of, hosts_cut, hosts_at, with_hosts, network_term, network_cut, network_by, mechanism_by, mechanism_of, modifier_of, token_of, read_term}
 use Rattle.records.specs.declared.terms.Kind.{Kind}
-use Rattle.records.specs.declared.terms.Spec.{Spec}
 use Rattle.records.specs.declared.terms.Hosts.{Hosts}
 use Rattle.records.specs.declared.Term.{Term}
-use Rattle.records.specs.declared.Token.{Token}
-use Rattle.records.specs.declared.TermAnswer.{TermAnswer}
 use Rattle.records.proofs.Laws.Specs.{spec-elim}
 use Rattle.records.proofs.Laws.Hosts.{cut_after, dual-elim, hosts-elim}
 use Rattle.records.proofs.Laws.Networks.{network-elim}
@@ -43,38 +39,38 @@ use Rattle.records.proofs.Laws.Arguments.{stands}
 use Rattle.talavorn.specs.Numbers.{network_shape, shape_of, Inside}
 use Rattle.talavorn.specs.Calls.{ArgumentStands}
 
-abbrev Within : List ℕ → Token → Type 0
-Within w (Token.Is t) = Inside (length w) t
-Within w Token.Outside = Unit {0}
+abbrev Within : List ℕ → Option Term → Type 0
+Within w (Some t) = Inside (length w) t
+Within w None = Unit {0}
 
 -- a domain-spec after its colon
-abbrev SpecWithin : ℕ → Spec → Type 0
-SpecWithin to (Spec.From from) = from ≤ to
-SpecWithin to Spec.Absent = Unit {0}
-SpecWithin to Spec.Bad = Unit {0}
+abbrev SpecWithin : ℕ → Option (Option ℕ) → Type 0
+SpecWithin to (Some (Some from)) = from ≤ to
+SpecWithin to (Some None) = Unit {0}
+SpecWithin to None = Unit {0}
 
 spec_within : (w : List ℕ) (k to : ℕ) → k ≤ to → SpecWithin to (spec_at w k to)
 unfolding spec_at
 spec_within w k to h =
-    cond-elim (SpecWithin to) (eqb k to) {x = Spec.Absent} (λ _. tt)
+    cond-elim (SpecWithin to) (eqb k to) {x = Some None} (λ _. tt)
     (λ n. cond-elim (SpecWithin to) (eqb (at w k) 58)
-    (λ _. cond-elim (SpecWithin to) (is_macro_string DomainSpec (part w (k + 1) to)) {x = Spec.From (k + 1)} {y = Spec.Bad}
+    (λ _. cond-elim (SpecWithin to) (is_macro_string DomainSpec (part w (k + 1) to)) {x = Some (Some (k + 1))} {y = None}
     (λ _. let z = eqb-false k to n in omega arith) (λ _. tt))
     (λ _. tt))
 
-spec_at_lem : (w : List ℕ) (k to : ℕ) → k ≤ to → {x : Spec} → spec_at w k to ≡ x → SpecWithin to x
+spec_at_lem : (w : List ℕ) (k to : ℕ) → k ≤ to → {x : Option (Option ℕ)} → spec_at w k to ≡ x → SpecWithin to x
 spec_at_lem w k to h e = subst (SpecWithin to) e (spec_within w k to h)
 
 -- a and mx
-abbrev HostsWithin : List ℕ → Hosts → Type 0
-HostsWithin w (Hosts.Of from to n m) = (from ≤ to) × (to ≤ length w)
-HostsWithin w Hosts.Bad = Unit {0}
+abbrev HostsWithin : List ℕ → Option Hosts → Type 0
+HostsWithin w (Some h) = (h.domain.from ≤ h.domain.to) × (h.domain.to ≤ length w)
+HostsWithin w None = Unit {0}
 
 cut_within : (w : List ℕ) (k cut : ℕ) → k ≤ cut → cut ≤ length w → HostsWithin w (hosts_cut w k cut)
 unfolding hosts_cut
 cut_within w k cut h l =
-    dual-elim (HostsWithin w) (read_dual (part w cut (length w))) _ Hosts.Bad
-    (λ n m _. spec-elim (HostsWithin w) (spec_at w k cut) (λ from. Hosts.Of from cut n m) (Hosts.Of cut cut n m) Hosts.Bad
+    dual-elim (HostsWithin w) (read_dual (part w cut (length w))) _ None
+    (λ n m _. spec-elim (HostsWithin w) (spec_at w k cut) (λ from. Some (hosts_of from cut n m)) (Some (hosts_of cut cut n m)) None
     (λ from e. (spec_at_lem w k cut h e, l)) (λ _. (omega arith, l)) (λ _. tt))
     (λ _. tt)
 
@@ -83,7 +79,7 @@ unfolding hosts_at
 hosts_within w k h =
     cut_within w k (k + cut_of (part w k (length w))) (omega arith) (cut_after w k h)
 
-hosts_at_lem : (w : List ℕ) (k : ℕ) → k ≤ length w → {x : Hosts} → hosts_at w k ≡ x → HostsWithin w x
+hosts_at_lem : (w : List ℕ) (k : ℕ) → k ≤ length w → {x : Option Hosts} → hosts_at w k ≡ x → HostsWithin w x
 hosts_at_lem w k h e = subst (HostsWithin w) e (hosts_within w k h)
 
 -- a network, of either family
@@ -92,37 +88,37 @@ unfolding shape_of network_shape
 network_inside size sign from to (IPv4 v) n h l = (h, l)
 network_inside size sign from to (IPv6 x y) n h l = (h, l)
 
-network_within : (w : List ℕ) (sign k : ℕ) (x : Network) (y : Length) → at w k ≡ 58 → Within w
-    (after_network x (λ a. on_length y (λ n. Token.Is (Term.Network sign (k + 1) (run_end (is_in NotSlash) w (k + 1)) a n)) Token.Outside) Token.Outside)
+network_within : (w : List ℕ) (sign k : ℕ) (x : Option Address) (y : Option ℕ) → at w k ≡ 58 → Within w
+    (after_network x (λ a. on_length y (λ n. Some (Term.Network sign (k + 1) (run_end (is_in NotSlash) w (k + 1)) a n)) None) None)
 network_within w sign k x y b =
     let i = nonzero_inside w k (λ e. omega (arith, b, e)) in
     let slash = run_end (is_in NotSlash) w (k + 1) in
-    network-elim (Within w) x _ Token.Outside
-    (λ a _. length-elim (Within w) y (λ n. Token.Is (Term.Network sign (k + 1) slash a n)) Token.Outside
+    network-elim (Within w) x _ None
+    (λ a _. length-elim (Within w) y (λ n. Some (Term.Network sign (k + 1) slash a n)) None
     (λ n _. network_inside (length w) sign (k + 1) slash a n (run_end_from (is_in NotSlash) w (k + 1)) (run_end_inside (is_in NotSlash) w (k + 1) (omega arith)))
     (λ _. tt))
     tt
 
 -- each mechanism, with its name up to k
 module _ (w : List ℕ) (sign k : ℕ) (inside : k ≤ length w) where
-  by_kind : (kind : Kind) → Within w (mechanism_by kind sign k w)
+  by_kind : (kind : Option Kind) → Within w (mechanism_by kind sign k w)
   unfolding mechanism_by all_of with_spec ptr_of with_hosts network_term network_cut network_by shape_of
-  by_kind Kind.All = cond-elim (Within w) (eqb k (length w)) {x = Token.Is (Term.All sign)} {y = Token.Outside} (λ _. (omega arith, omega arith)) (λ _. tt)
-  by_kind Kind.Include = spec-elim (Within w) (spec_at w k (length w)) (λ from. Token.Is (Term.Include sign from (length w))) Token.Outside Token.Outside
+  by_kind (Some Kind.All) = cond-elim (Within w) (eqb k (length w)) {x = Some (Term.All sign)} {y = None} (λ _. (omega arith, omega arith)) (λ _. tt)
+  by_kind (Some Kind.Include) = spec-elim (Within w) (spec_at w k (length w)) (λ from. Some (Term.Include sign from (length w))) None None
       (λ from e. (spec_at_lem w k (length w) inside e, omega arith)) (λ _. tt) (λ _. tt)
-  by_kind Kind.Exists = spec-elim (Within w) (spec_at w k (length w)) (λ from. Token.Is (Term.Exists sign from (length w))) Token.Outside Token.Outside
+  by_kind (Some Kind.Exists) = spec-elim (Within w) (spec_at w k (length w)) (λ from. Some (Term.Exists sign from (length w))) None None
       (λ from e. (spec_at_lem w k (length w) inside e, omega arith)) (λ _. tt) (λ _. tt)
-  by_kind Kind.Ptr = spec-elim (Within w) (spec_at w k (length w)) (λ from. Token.Is (Term.Ptr sign from (length w))) (Token.Is (Term.Ptr sign (length w) (length w)))
-      Token.Outside (λ from e. (spec_at_lem w k (length w) inside e, omega arith)) (λ _. (omega arith, omega arith)) (λ _. tt)
-  by_kind Kind.A = hosts-elim (Within w) (hosts_at w k) (λ from to n m. Token.Is (Term.A sign from to n m)) Token.Outside (λ from to n m e. hosts_at_lem w k inside e) (λ _. tt)
-  by_kind Kind.Mx = hosts-elim (Within w) (hosts_at w k) (λ from to n m. Token.Is (Term.Mx sign from to n m)) Token.Outside (λ from to n m e. hosts_at_lem w k inside e) (λ _. tt)
-  by_kind Kind.Ip4 = cond-elim (Within w) (eqb (at w k) 58) {y = Token.Outside}
+  by_kind (Some Kind.Ptr) = spec-elim (Within w) (spec_at w k (length w)) (λ from. Some (Term.Ptr sign from (length w))) (Some (Term.Ptr sign (length w) (length w)))
+      None (λ from e. (spec_at_lem w k (length w) inside e, omega arith)) (λ _. (omega arith, omega arith)) (λ _. tt)
+  by_kind (Some Kind.A) = hosts-elim (Within w) (hosts_at w k) (λ from to n m. Some (Term.A sign from to n m)) None (λ from to n m e. hosts_at_lem w k inside e) (λ _. tt)
+  by_kind (Some Kind.Mx) = hosts-elim (Within w) (hosts_at w k) (λ from to n m. Some (Term.Mx sign from to n m)) None (λ from to n m e. hosts_at_lem w k inside e) (λ _. tt)
+  by_kind (Some Kind.Ip4) = cond-elim (Within w) (eqb (at w k) 58) {y = None}
       (λ c. network_within w sign k (read_ip4 (part w (k + 1) (run_end (is_in NotSlash) w (k + 1)))) (read_length4 (part w (run_end (is_in NotSlash) w (k + 1)) (length w))) (eqb-true (at w k) 58 c))
       (λ _. tt)
-  by_kind Kind.Ip6 = cond-elim (Within w) (eqb (at w k) 58) {y = Token.Outside}
+  by_kind (Some Kind.Ip6) = cond-elim (Within w) (eqb (at w k) 58) {y = None}
       (λ c. network_within w sign k (read_ip6 (part w (k + 1) (run_end (is_in NotSlash) w (k + 1)))) (read_length6 (part w (run_end (is_in NotSlash) w (k + 1)) (length w))) (eqb-true (at w k) 58 c))
       (λ _. tt)
-  by_kind Kind.NoKind = tt
+  by_kind None = tt
 
 mechanism_within : (sign i : ℕ) (w : List ℕ) → i ≤ length w → Within w (mechanism_of sign i w)
 unfolding mechanism_of
@@ -157,14 +153,14 @@ argument_shape w (Term.Explanation from to) = refl
 argument_shape w (Term.Unknown name to) = refl
 
 -- a term that was read: it goes forward, and its argument is a part of the record
-module _ (s : List ℕ) (i p e : ℕ) (t : Term) (q : read_term s i ≡ TermAnswer.Is p e t) where
+module _ (s : List ℕ) (i p e : ℕ) (t : Term) (q : read_term s i ≡ term_at p e t) where
   pub term_inside : (p ≤ e) × Inside (e - p) t
   term_inside =
       let k = stands s i p e t q in
       let x : Inside (length (part s p e)) t = subst (Within (part s p e)) k.token (token_within (part s p e)) in
       (omega (arith, k.some), rw k.size at x)
 
-  pub argument_stands : ArgumentStands s (TermAnswer.Is p e t)
+  pub argument_stands : ArgumentStands s (term_at p e t)
   argument_stands =
       let k = stands s i p e t q in
       let x = term_inside in

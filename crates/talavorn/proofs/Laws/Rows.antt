@@ -1,73 +1,36 @@
 -- The numbers and octets of each case of an answer: one rule for each way out of the functions that write them. From the definitions of specs/.
+use Rattle.std.proofs.Common.{Result, Ok, Err}
 use Prim.Native.Nat.{ℕ, ◌+◌, ◌-◌, ◌≤◌, ◌<◌, ◌^◌}
 use mathlib.Core.Path.{◌≡◌, refl, sym, ap, ◌∙◌}
 use mathlib.Core.List.{List, [], ◌∷◌, ◌++◌}
 use native.Mathlib.Omega.{arith}
 use lib.ListN.{length}
-use Rattle.text.specs.Writing.{Wrote, overwritten}
-use Rattle.text.proofs.Laws.Writing.{wrote_over, over_fits}
+use Rattle.text.specs.Writing.{overwritten}
+use Rattle.text.specs.Bytes.{at}
+use Rattle.text.proofs.Laws.Writing.{over_fits}
+use Rattle.answer_table.specs.Numbers.{reported}
+use Rattle.answer_table.specs.declared.TableError.{TableError}
+use Rattle.answer_table.specs.declared.TableError.TheVariants.{TooLong, Malformed, Repeated}
+use Rattle.answer_entry.specs.Numbers.{outcome_of}
+use Rattle.answer_entry.specs.declared.AppendError.{AppendError}
+use Rattle.old_layout.specs.Numbers.{outcome_of as addedOutcome}
 use Rattle.address.specs.declared.Address.{Address}
 use Rattle.address.specs.declared.Address.TheVariants.{IPv4, IPv6}
 use Rattle.address.specs.Octets.{octets_of, octets}
-use Rattle.answer_entry.specs.declared.AppendAnswer.{AppendAnswer}
-use Rattle.old_layout.specs.declared.Added.{Added}
-use Rattle.old_layout.specs.Numbers.{outcome_of as addedOutcome}
-use Rattle.answer_entry.specs.Numbers.{outcome_of}
-use Rattle.macros.specs.declared.Expanded.{Expanded}
 use Rattle.records.specs.declared.Term.{Term}
-use Rattle.received.specs.declared.Written.{Written}
-use Rattle.received.specs.declared.LineAnswer.{LineAnswer}
-use Rattle.publishing.specs.declared.HouseAnswer.{HouseAnswer}
-use Rattle.evaluation.specs.declared.Answer.{Answer}
-use Rattle.evaluation.specs.declared.explaining.Explanation.{Explanation}
 use Rattle.talavorn.specs.declared.numbers.Shape.{Shape}
-use Rattle.talavorn.specs.Numbers.{encoded, encoded_explanation, appended_numbers, expanded_numbers, written_numbers, line_numbers, house_numbers, added_numbers, shape, network_shape, shape_of, Inside, network_of, term_row}
-
--- `put_answer`: the row of the case that the answer is
-pub answer_row : (x y : Answer) → x ≡ y → (r : List ℕ) → r ≡ encoded y → r ≡ encoded x
-answer_row x y e r h = rw e h
-
--- `put_explanation`, likewise
-pub explanation_row : (x y : Explanation) → x ≡ y → (r : List ℕ) → r ≡ encoded_explanation y → r ≡ encoded_explanation x
-explanation_row x y e r h = rw e h
-
--- `put_appended`, likewise
-pub appended_row : (size : ℕ) (x y : AppendAnswer) → x ≡ y → (r : List ℕ) → r ≡ appended_numbers size (outcome_of y) → r ≡ appended_numbers size (outcome_of x)
-appended_row size x y e r h = rw e h
-
--- `put_expanded`
-module _ (x : Expanded) (n : ℕ) where
-  pub expanded_written : x ≡ Expanded.Written n → (0 ∷ n ∷ []) ≡ expanded_numbers x
-  unfolding expanded_numbers
-  expanded_written e = rw e
-
-  pub expanded_refused : x ≡ Expanded.Refused n → (n ∷ 0 ∷ []) ≡ expanded_numbers x
-  unfolding expanded_numbers
-  expanded_refused e = rw e
-
--- `put_written`, `put_line`, `put_added` and `put_house`, as `put_answer`
-pub written_row : (x y : Written) → x ≡ y → (r : List ℕ) → r ≡ written_numbers y → r ≡ written_numbers x
-written_row x y e r h = rw e h
-
-pub line_row : (x y : LineAnswer) → x ≡ y → (r : List ℕ) → r ≡ line_numbers y → r ≡ line_numbers x
-line_row x y e r h = rw e h
-
-pub added_row : (x y : Added) → x ≡ y → (r : List ℕ) → r ≡ added_numbers (addedOutcome y) → r ≡ added_numbers (addedOutcome x)
-added_row x y e r h = rw e h
-
-pub house_row : (x y : HouseAnswer) → x ≡ y → (r : List ℕ) → r ≡ house_numbers y → r ≡ house_numbers x
-house_row x y e r h = rw e h
+use Rattle.talavorn.specs.Numbers.{table_numbers, appended_numbers, added_numbers, shape, network_shape, shape_of, Inside, network_of, term_row}
 
 -- `put_octets`
-module _ (a : Address) (b d xs : List ℕ) (n : ℕ) where
-  pub octets_four : (v : ℕ) → a ≡ IPv4 v → xs ≡ octets_of 4 v → Wrote xs b 0 d n → (4 ≡ length (octets a)) × (d ≡ overwritten (octets a) b)
+module _ (a : Address) (b d xs : List ℕ) where
+  pub octets_four : (v : ℕ) → a ≡ IPv4 v → xs ≡ octets_of 4 v → d ≡ overwritten xs b → (4 ≡ length (octets a)) × (d ≡ overwritten (octets a) b)
   unfolding octets octets_of
-  octets_four v e p w = (rw e, wrote_over xs b d n w ∙ rw (e, p))
+  octets_four v e p w = (rw e, w ∙ rw (e, p))
 
-  pub octets_sixteen : (h l : ℕ) → a ≡ IPv6 h l → xs ≡ octets_of 8 h ++ octets_of 8 l → Wrote xs b 0 d n
+  pub octets_sixteen : (h l : ℕ) → a ≡ IPv6 h l → xs ≡ octets_of 8 h ++ octets_of 8 l → d ≡ overwritten xs b
       → (16 ≡ length (octets a)) × (d ≡ overwritten (octets a) b)
   unfolding octets octets_of
-  octets_sixteen h l e p w = (rw e, wrote_over xs b d n w ∙ rw (e, p))
+  octets_sixteen h l e p w = (rw e, w ∙ rw (e, p))
 
 -- `put_network`
 pub network_written : (t : Term) (sign from to : ℕ) (a : Address) (n : ℕ) → t ≡ Term.Network sign from to a n → (b d : List ℕ) (r : ℕ)
@@ -119,3 +82,26 @@ module _ (at next : ℕ) (t : Term) (x : Shape) (e : x ≡ shape_of (next - at) 
 
 pub row_by : (at next : ℕ) (x y : Shape) → x ≡ y → term_row at next x ≡ term_row at next y
 row_by at next x y e = rw e
+
+-- `put_appended` and `talavorn_add_lifetimes`: the numbers of a table's refusal, as `put_table` hands them out
+table_refused : (e : TableError) (r place size : ℕ) → (r ∷ place ∷ []) ≡ table_numbers (reported (Err e))
+    → (r ∷ size ∷ place ∷ []) ≡ appended_numbers size (outcome_of (Err (AppendError.Table e)))
+unfolding table_numbers appended_numbers
+table_refused TooLong r place size h = ap (λ (l : List ℕ). at l 0 ∷ size ∷ at l 1 ∷ []) h
+table_refused (Malformed p) r place size h = ap (λ (l : List ℕ). at l 0 ∷ size ∷ at l 1 ∷ []) h
+table_refused (Repeated p) r place size h = ap (λ (l : List ℕ). at l 0 ∷ size ∷ at l 1 ∷ []) h
+
+pub appended_refused : (x : AppendError) (e : TableError) → x ≡ AppendError.Table e → (r place : ℕ)
+    → (r ∷ place ∷ []) ≡ table_numbers (reported (Err e)) → (size : ℕ) → (r ∷ size ∷ place ∷ []) ≡ appended_numbers size (outcome_of (Err x))
+appended_refused x e q r place h size = rw q (table_refused e r place size h)
+
+pub appended_row : (x : Result ℕ AppendError) (e : AppendError) → x ≡ Err e → (r size place : ℕ)
+    → ((n : ℕ) → (r ∷ n ∷ place ∷ []) ≡ appended_numbers n (outcome_of (Err e))) → (r ∷ size ∷ place ∷ []) ≡ appended_numbers size (outcome_of x)
+appended_row x e q r size place h = rw q (h size)
+
+pub added_row : (x : Result ℕ TableError) → table_numbers (reported x) ≡ added_numbers (addedOutcome x)
+unfolding table_numbers added_numbers
+added_row (Ok n) = refl
+added_row (Err TooLong) = refl
+added_row (Err (Malformed p)) = refl
+added_row (Err (Repeated p)) = refl

@@ -11,5 +11,5 @@ returns-in_default-from_octets c = search match_no_network
 pub returns-then-matches : goal.returns-then-matches
 returns-then-matches c = search match_yes
 
-pub returns : goal.returns
-returns c = search match_no
+pub returns-else-matches : goal.returns-else-matches
+returns-else-matches c = search match_no

@@ -2,8 +2,8 @@
 use Rattle.talavorn.proofs.Laws.Ways.{record_accepted, record_refused}
 use Rattle.talavorn.proofs.talavorn_read_record.Goals as goal
 
-pub returns-in-Accepted : goal.returns-in-Accepted
-returns-in-Accepted c = search record_accepted
+pub returns-in-Ok : goal.returns-in-Ok
+returns-in-Ok c = search record_accepted
 
-pub returns-in-Refused : goal.returns-in-Refused
-returns-in-Refused c = search record_refused
+pub returns-in-Err : goal.returns-in-Err
+returns-in-Err c = search record_refused

@@ -3,13 +3,13 @@ use Rattle.talavorn.proofs.Laws.Ways.{term_fits, term_end, term_refused, term_re
 use Rattle.talavorn.proofs.talavorn_read_term.Goals as goal
 
 pub put_term-requires : goal.put_term-requires
-put_term-requires c = term_fits _ _ _ c.read_term.ensures.value _ _ _ c.in-Is.is
+put_term-requires c = term_fits _ _ _ c.read_term.ensures.value _ c.in-Ok.is _ c.in-Some.is
 
-pub returns-in-End : goal.returns-in-End
-returns-in-End c = search term_end
+pub returns-in-Err : goal.returns-in-Err
+returns-in-Err c = search term_refused
 
-pub returns-in-Refused : goal.returns-in-Refused
-returns-in-Refused c = search term_refused
+pub returns-in_default : goal.returns-in_default
+returns-in_default c = search term_end
 
-pub returns-in-Is : goal.returns-in-Is
-returns-in-Is c = search term_read
+pub returns : goal.returns
+returns c = search term_read

@@ -1,7 +1,9 @@
 -- A text of macro-literals is its own expansion and has no p macro. From the laws of macro strings in macros.
-use Prim.Native.Nat.{ℕ}
+use Rattle.std.proofs.Common.{Option, Ok, Bor}
+use Prim.Native.Nat.{ℕ, ◌≤◌}
 use mathlib.Core.Path.{◌≡◌, refl, sym, ap, ◌∙◌}
 use mathlib.Core.List.{List, [], ◌∷◌, map}
+use lib.ListN.{length}
 use mathlib.Core.Bool.{Bool, true, false}
 use Rattle.text.specs.Bytes.{is_macro_literal, is_space}
 use Rattle.text.specs.Lists.{all}
@@ -10,7 +12,6 @@ use Rattle.text.specs.declared.bytes.Class.TheVariants.{MacroLiteral}
 use Rattle.text.proofs.Laws.Classes.{class_tests}
 use Rattle.text.proofs.Laws.Parts.{all_first, all_rest}
 use Rattle.text.proofs.Laws.Tests.{or_left}
-use Rattle.address.specs.declared.Address.{Address}
 use Rattle.macros.specs.declared.Form.{Form}
 use Rattle.macros.specs.declared.Form.TheVariants.{DomainSpec, ModifierValue, Explanation}
 use Rattle.macros.specs.Grammar.{literal}
@@ -18,14 +19,12 @@ use Rattle.macros.specs.Reader.{is_literal, Pieces, pieces, is_p, any_p, uses_p}
 use Rattle.macros.specs.Expansion.{Letters, piece_text, text_of}
 use Rattle.macros.specs.Question.{question_name}
 use Rattle.macros.proofs.Laws.Strings.{Row, none, literals, row_complete}
-use Rattle.rules.specs.declared.Counts.{Counts}
-use Rattle.rules.specs.declared.Life.{Life}
-use Rattle.rules.specs.declared.Target.{Target}
-use Rattle.rules.specs.Tree.{run}
-use Rattle.rules.specs.Tables.{table_in}
-use Rattle.rules.specs.Mechanisms.{expansion, target}
-use Rattle.rules.specs.Outcomes.{mail_of, NamingIs, SaysTarget}
-use Rattle.target_name.proofs.Laws.Naming.{target_without_p}
+use Rattle.domain.specs.Normal.{name_answer, name_buffer}
+use Rattle.rules.specs.declared.Progress.{Progress}
+use Rattle.rules.specs.Mechanisms.{Mail, expansion, target}
+use Rattle.rules.specs.Outcomes.{Targets}
+use Rattle.target_name.proofs.Laws.Expansions.{p_unused}
+use Rattle.target_name.proofs.Laws.Naming.{question_named, target_given}
 
 -- a macro-literal stands for itself in every form
 literal_byte : (form : Form) (b : ℕ) → is_macro_literal b ≡ true → is_literal form b ≡ true
@@ -53,19 +52,19 @@ module _ (form : Form) (s : List ℕ) (h : all is_macro_literal s ≡ true) wher
   plain_pieces : (pieces form s).list ≡ map literal s
   plain_pieces = ap (λ (p : Pieces). p.list) (row_complete (plain_row form s h))
 
-  pub plain_text : (x : Letters) → text_of x (pieces form s).list ≡ s
+  plain_text : (x : Letters) → text_of x (pieces form s).list ≡ s
   plain_text x = rw plain_pieces (literal_text x s)
 
-  pub plain_asks : uses_p form s ≡ false
+  plain_asks : uses_p form s ≡ false
   unfolding uses_p
   plain_asks = rw plain_pieces (literal_asks s)
 
 -- `make_target` without macros
-pub target_plain : (client : Address) (sender helo receiver : List ℕ) (seconds : ℕ) (c : Counts) (l : Life) (t d spec : List ℕ) (u : Bool) → u ≡ all (is_in MacroLiteral) spec → u ≡ true
-    → (r : Target) (to b : List ℕ) → NamingIs (question_name spec) r to
-    → SaysTarget c (run (table_in t) l (target (mail_of client sender helo receiver seconds) d spec c)) (record { target = r; life = l }) to b b
+pub target_plain : (mail : Mail) (t d spec : List ℕ) (p : Progress) (u : Bool) → u ≡ all (is_in MacroLiteral) spec → u ≡ true → (r : Option ℕ) (to to' b : List ℕ) → 253 ≤ length to
+    → r ≡ name_answer (question_name spec) → to' ≡ name_buffer (question_name spec) to → Targets t (target mail d spec p.counts) p p (Ok r) to' b b
 unfolding expansion
-target_plain client sender helo receiver seconds c l t d spec u e h r to b w =
+target_plain mail t d spec p u e h r to to' b room k y =
     let a : all is_macro_literal spec ≡ true = sym (class_tests MacroLiteral spec) ∙ sym e ∙ h in
-    target_without_p client sender helo receiver seconds c l t d spec false (sym (plain_asks DomainSpec spec a)) refl r to b
-    (rw (plain_text DomainSpec spec a _) w)
+    let v : Bor (List ℕ) = record { ref_ptr = (0, 0); now = [] } in
+    target_given mail t d spec p p b b v (p_unused mail.client t d DomainSpec spec false (sym (plain_asks DomainSpec spec a)) p refl v refl b) r to'
+    (rw (plain_text DomainSpec spec a _) (question_named spec to to' r room k y))

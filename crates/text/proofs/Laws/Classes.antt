@@ -1,18 +1,21 @@
 -- Bytes of a class as numbers, a class by its own test, two classes apart, and two tests that agree at each of the 256 bytes, by computation.
 -- From the definitions of Bytes and Runs and the laws of tests.
-use Prim.Native.Nat.{ℕ, zero, suc, ◌≤◌, ◌<◌}
+use Prim.Native.Nat.{ℕ, zero, suc, ◌+◌, ◌≤◌, ◌<◌}
 use mathlib.Core.Path.{◌≡◌, refl, sym, ap, ◌∙◌}
 use mathlib.Core.Bool.{Bool, true, false, cond, not, beq}
 use mathlib.Core.List.{List, [], ◌∷◌}
+use mathlib.Core.Logic.{⊎_elim}
 use native.Mathlib.Omega.{arith}
 use lib.ListN.{length, get_or-eq_default}
 use lib.Dec.{leb, ltb, eqb}
-use borrow.Author.Tests.{leb-true, leb-false, le-leb, le-ltb, lt-ltb, eqb-true, eqb-false, ne_eqb}
-use Rattle.text.specs.Bytes.{at, within, is_space, is_not_space, is_not_dot, is_not_colon, is_not_slash, is_upper, is_not_upper, is_alpha, is_digit, is_length_byte, is_alphanumeric, is_hex_digit, is_visible, is_printable, is_label_byte, is_table_label_byte, is_name_byte, is_toplabel_byte, is_macro_literal, is_delimiter}
+use borrow.Author.Tests.{leb-true, leb-false, le-leb, le-ltb, lt-ltb, lt-leb, eqb-true, eqb-false, ne_eqb}
+use Rattle.std.specs.Char.{to_ascii_lowercase}
+use Rattle.text.specs.Bytes.{at, within, lower, is_space, is_not_space, is_not_dot, is_not_colon, is_not_slash, is_upper, is_not_upper, is_alpha, is_digit, is_length_byte, is_alphanumeric, is_hex_digit, is_visible, is_printable, is_label_byte, is_table_label_byte, is_name_byte, is_toplabel_byte, is_macro_literal, is_delimiter}
 use Rattle.text.specs.Lists.{all}
 use Rattle.text.specs.Runs.{is_in}
 use Rattle.text.specs.declared.bytes.Class.{Class}
 use Rattle.text.specs.declared.bytes.Class.TheVariants.{Space, NotSpace, NotDot, NotColon, NotSlash, Upper, NotUpper, Alpha, Digit, LengthByte, Alphanumeric, HexDigit, Visible, Printable, LabelByte, TableLabelByte, NameByte, ToplabelByte, MacroLiteral, Delimiter}
+use Rattle.text.proofs.Laws.Orders.{le_or_lt}
 use Rattle.text.proofs.Laws.Tests.{cond-elim, and_left, and_right}
 
 -- a range of bytes, as numbers
@@ -127,3 +130,14 @@ not_upper_high b h = simp (le-leb 65 b h) (by (leb b 90) refl)
     by : (t : Bool) → leb b 90 ≡ t → ltb 90 b ≡ not t
     by true e = le-ltb 90 b (leb-true b 90 e)
     by false e = lt-ltb 90 b (leb-false b 90 e)
+
+-- the library's lower case
+pub ascii_lower : (b r : ℕ) → r ≡ to_ascii_lowercase b → r ≡ lower b
+unfolding lower is_upper within
+ascii_lower b r e = e ∙ ⊎_elim
+    (λ (h : 65 ≤ b). simp (le-ltb b 65 h, le-leb 65 b h) (ap (λ (t : Bool). cond t (b + 32) b) (below_leb b 90)))
+    (λ (h : b < 65). simp (lt-ltb b 65 h, lt-leb 65 b h))
+    (le_or_lt 65 b)
+  where
+    below_leb : (m n : ℕ) → ltb m (n + 1) ≡ leb m n
+    below_leb m n = ⊎_elim (λ (h : m ≤ n). lt-ltb m (n + 1) (omega arith) ∙ sym (le-leb m n h)) (λ (h : n < m). le-ltb m (n + 1) (omega arith) ∙ sym (lt-leb m n h)) (le_or_lt m n)

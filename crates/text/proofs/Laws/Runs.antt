@@ -1,6 +1,6 @@
 -- Longest runs of a class: as a loop finds them, their bounds, their bytes, and a test of every byte as a run to the end. From the definitions
 -- of Runs; `p` is the class.
-use Prim.Native.Nat.{ℕ, zero, suc, ◌+◌, ◌-◌, ◌≤◌, ◌<◌}
+use Prim.Native.Nat.{ℕ, zero, suc, ◌+◌, ◌-◌, ◌≤◌, ◌<◌, max}
 use mathlib.Core.Path.{◌≡◌, refl, sym, ap, ◌∙◌}
 use mathlib.Core.Logic.{⊎_elim}
 use mathlib.Core.List.{List, [], ◌∷◌, ◌++◌}
@@ -37,6 +37,10 @@ module _ (p : ℕ → Bool) where
   run_le [] = omega arith
   run_le (x ∷ xs) = let h = run_le xs in cond-elim (λ (n : ℕ). n ≤ suc (length xs)) (p x) {x = suc (run p xs)} {y = 0} (λ _. omega arith) (λ _. omega arith)
 
+  run_end_past : (s : List ℕ) (i : ℕ) → length s ≤ i → run_end p s i ≡ i
+  unfolding run_end
+  run_end_past s i h = simp (drop_of_length-le s h, run_nil, add-zero)
+
   -- as a loop finds it: one byte further, at an end, and past the list
   module _ (s : List ℕ) (i : ℕ) where
     pub run_end_next : i < length s → p (at s i) ≡ true → run_end p s (i + 1) ≡ run_end p s i
@@ -48,8 +52,7 @@ module _ (p : ℕ → Bool) where
     run_end_here h q = simp (drop-cons s i 0 h, run_stop (at s i) (drop (suc i) s) q, add-zero)
 
     pub run_end_out : length s ≤ i → run_end p s i ≡ i
-    unfolding run_end
-    run_end_out h = simp (drop_of_length-le s h, run_nil, add-zero)
+    run_end_out h = run_end_past s i h
 
     -- the loop of `run_end`, which began at k
     module _ (k : ℕ) (inv : run_end p s i ≡ run_end p s k) where
@@ -61,6 +64,12 @@ module _ (p : ℕ → Bool) where
 
       pub loop_out : length s ≤ i → i ≡ run_end p s k
       loop_out h = sym (run_end_out h) ∙ inv
+
+      pub loop_end : length s ≤ i → (k ≤ length s → i ≤ length s) → max k (length s) ≡ run_end p s k
+      loop_end h l = ⊎_elim
+          (λ (q : k ≤ length s). let e : max k (length s) ≡ i = omega (arith, l q) in e ∙ loop_out h)
+          (λ (q : length s < k). let e : max k (length s) ≡ k = omega arith in e ∙ sym (run_end_past s k (omega arith)))
+          (le_or_lt k (length s))
 
     pub run_end_from : i ≤ run_end p s i
     unfolding run_end
@@ -184,8 +193,8 @@ module _ (p : ℕ → Bool) where
     unfolding all
     trailing_next h r e q = ap (all p) (drop_before s i h inside) ∙ and_both (p (at s (i - 1))) (all p (drop i s)) (sym e ∙ q) inv
 
-    pub trailing_stop : 0 < i → (r : Bool) → r ≡ p (at s (i - 1)) → r ≡ false → i ≡ trailing_start p s
-    trailing_stop h r e q = trailing_is s i inv (λ j a. ⊎_elim (λ (l : i ≤ j). l) (λ (l : j < i). absurd (never j l a)) (le_or_lt i j))
+    pub trailing_stop : 0 < i → (r : Bool) → r ≡ p (at s (i - 1)) → r ≡ false → i - 1 + 1 ≡ trailing_start p s
+    trailing_stop h r e q = let z : i - 1 + 1 ≡ i = omega arith in z ∙ trailing_is s i inv (λ j a. ⊎_elim (λ (l : i ≤ j). l) (λ (l : j < i). absurd (never j l a)) (le_or_lt i j))
       where
         never : (j : ℕ) → j < i → all p (drop j s) ≡ true → ⊥
         never j l a =

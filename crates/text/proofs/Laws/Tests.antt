@@ -73,7 +73,10 @@ and_le m n u z p h = h ∙ ap (λ (b : Bool). b && u) (sym (le-leb m n p))
 pub and_gt : (m n : ℕ) (u : Bool) → n < m → false ≡ (leb m n && u)
 and_gt m n u p = ap (λ (b : Bool). b && u) (sym (lt-leb m n p))
 
-pub ruleset tests = (or_true, or_false, or_eq, or_ne, and_true, and_false, and_le, and_gt)
+pub and_gt_here : (m n : ℕ) (u : Bool) → n < m → leb m n ≡ (leb m n && u)
+and_gt_here m n u p = lt-leb m n p ∙ and_gt m n u p
+
+pub ruleset tests = (or_true, or_false, or_eq, or_ne, and_true, and_false, and_le, and_gt, and_gt_here)
 
 -- a property of what a test picks, from the property of both ways
 pub cond-elim {κ} : {A : Type 0} (P : A → Type κ) (t : Bool) {x y : A} → (t ≡ true → P x) → (t ≡ false → P y) → P (cond t x y)

@@ -9,7 +9,6 @@ use mathlib.Core.Bool.{Bool, true, false, cond}
 use lib.ListN.{length, get_or, drop, drop_of_length-le}
 use lib.Seq.{drop-cons}
 use lib.Dec.{eqb}
-use borrow.Author.Tests.{eq-eqb, ne_eqb}
 use Rattle.text.specs.Decimal.{decimal_from, decimal}
 use Rattle.text.specs.Lists.{rightmost}
 use Rattle.text.proofs.Laws.Parts.{rightmost_all}
@@ -23,10 +22,6 @@ from_capped [] a b e = e
 from_capped (d ∷ s) a b e = from_capped s (10 * a + (d - 48)) (10 * b + (d - 48)) (omega arith)
 
 -- `keep_count`
-pub count_all : (digits : List ℕ) → length digits ≡ 0
-    → 18446744073709551615 ≡ cond (eqb (length digits) 0) 18446744073709551615 (min (decimal digits) 18446744073709551615)
-count_all digits h = rw (eq-eqb _ _ h)
-
 pub record Counted (digits : List ℕ) (n i : ℕ) : Type 0 where
   pub within : n ≤ 18446744073709551615
   pub rest : min (decimal_from n (drop i digits)) 18446744073709551615 ≡ min (decimal digits) 18446744073709551615
@@ -44,12 +39,9 @@ module _ (digits : List ℕ) (n i : ℕ) (p : Counted digits n i) where
         rest = from_capped (drop (i + 1) digits) r (10 * n + (get_or digits i 0 - 48)) (omega arith) ∙ rw add-one (rw (drop-cons digits i 0 h) at p.rest);
       }
 
-  pub counted_end : length digits ≤ i → (length digits ≡ 0 → ⊥)
-      → n ≡ cond (eqb (length digits) 0) 18446744073709551615 (min (decimal digits) 18446744073709551615)
+  pub counted_end : length digits ≤ i → n ≡ min (decimal digits) 18446744073709551615
   unfolding decimal_from
-  counted_end h z =
-      let e : min n 18446744073709551615 ≡ min (decimal digits) 18446744073709551615 = rw (drop_of_length-le digits h) at p.rest in
-      rw (ne_eqb _ _ z) (omega (arith, p.within))
+  counted_end h = let e : min n 18446744073709551615 ≡ min (decimal digits) 18446744073709551615 = rw (drop_of_length-le digits h) at p.rest in omega (arith, p.within)
 
 -- the parts kept
 pub kept_count : (digits : List ℕ) (n : ℕ) → n ≡ cond (eqb (length digits) 0) 18446744073709551615 (min (decimal digits) 18446744073709551615)

@@ -5,19 +5,19 @@ use native.Mathlib.Omega.{arith}
 use native.Mathlib.Numerals.{add-one}
 use mathlib.Core.Path.{◌≡◌, refl, sym, ap, ◌∙◌}
 use mathlib.Core.List.{List, [], ◌∷◌, ◌++◌, map, map-append, append-nil, reverse, reverse-cons}
-use mathlib.Core.Bool.{Bool, true, false, cond, not}
+use mathlib.Core.Bool.{Bool, true, false, cond}
 use lib.ListN.{length, get_or, take, drop, take-append-drop, drop_of_length-le, length-reverse}
 use lib.Seq.{take-suc, take_all}
 use lib.Dec.{eqb}
 use Rattle.text.specs.Decimal.{decimal}
 use Rattle.text.specs.Lists.{split, separator_before, join_by, join, rightmost}
-use Rattle.text.specs.Runs.{run}
 use Rattle.text.specs.Writing.{Wrote}
 use Rattle.text.proofs.Laws.Parts.{rightmost_none, rightmost_all, rightmost_append, rightmost_reverse}
 use Rattle.text.proofs.Laws.Spans.{rest_part, drop_before}
-use Rattle.text.proofs.Laws.Splitting.{Some, some, some_snoc, split_some, split_append, join_split, split_none, split_first, split_before, count_in, count_out, count_le, join_snoc}
-use Rattle.text.proofs.Laws.Writing.{wrote_none, wrote_then, length_wrote}
+use Rattle.text.proofs.Laws.Splitting.{Some, some, some_snoc, split_some, split_append, join_split, count_in, count_out, count_le, join_snoc}
+use Rattle.text.proofs.Laws.Writing.{wrote_none, wrote_then}
 use Rattle.transformers.specs.Transform.{is_listed, reversed_if, kept, escaped_byte, escaped, transformed}
+use Rattle.transformers.proofs.Laws.Delimiters.{one_part, front_alone, first_part}
 use Rattle.transformers.proofs.Laws.Escaping.{escaped_append, escaped_dot}
 use Rattle.transformers.proofs.Laws.Counts.{kept_count}
 
@@ -32,20 +32,17 @@ module _ (s ds : List ℕ) (escape : Bool) (out : List ℕ) (at : ℕ) where
   written_start h l = record { within = omega arith; wrote = wrote_none out at (omega arith) (omega arith) }
 
   module _ (i : ℕ) (o : List ℕ) (n : ℕ) (p : Written i o n) where
-    pub written_next : i < length s → (o' : List ℕ) (n' : ℕ) → Wrote (escaped_byte escape (cond (is_listed ds (get_or s i 0)) 46 (get_or s i 0))) o n o' n'
+    pub written_next : i < length s → (b : ℕ) → b ≡ cond (is_listed ds (get_or s i 0)) 46 (get_or s i 0) → (o' : List ℕ) (n' : ℕ) → Wrote (escaped_byte escape b) o n o' n'
         → Written (i + 1) o' n'
     unfolding escaped
-    written_next h o' n' w =
+    written_next h b e o' n' w =
         record {
           within = omega arith;
-          wrote = rw (add-one, take-suc s i 0 h, map-append, escaped_append, append-nil) (wrote_then out at _ _ o o' n n' p.wrote w);
+          wrote = rw (add-one, take-suc s i 0 h, map-append, ← e, escaped_append, append-nil) (wrote_then out at _ _ o o' n n' p.wrote w);
         }
 
     pub written_end : length s ≤ i → Wrote (escaped escape (join (split (is_listed ds) s))) out at o n
     written_end h = rw (join_split, ← take_all i s h) p.wrote
-
-    pub written_length : length o ≡ length out
-    written_length = length_wrote out at _ o n p.wrote
 
 -- `put_reversed`
 one_reversed : (n : ℕ) (x : List ℕ) → 0 < n → reverse (take n (x ∷ [])) ≡ x ∷ []
@@ -67,24 +64,21 @@ join_reversed (suc (suc n)) h k x xs t =
     rw (z, rightmost_reverse (suc (suc n)) (x ∷ xs), rightmost_reverse (suc n) xs, reverse-cons)
     (join_snoc 46 (reverse (take (suc n) xs)) x (some_reversed n xs t))
 
-module _ (s ds : List ℕ) (n : ℕ) (escape : Bool) (out : List ℕ) (at : ℕ) (some_kept : 0 < n) (i : ℕ) (q : i ≡ run (λ b. not (is_listed ds b)) s) where
-  pub reversed_one_part : length s ≤ i → (o : List ℕ) (m : ℕ) → Wrote (escaped escape (join (split (is_listed ds) s))) out at o m
+module _ (s ds : List ℕ) (n : ℕ) (escape : Bool) (out : List ℕ) (at : ℕ) (some_kept : 0 < n) where
+  pub reversed_one_part : ((k : ℕ) → k < length s → is_listed ds (get_or s k 0) ≡ false) → (o : List ℕ) (m : ℕ)
+      → Wrote (escaped escape (join (split (is_listed ds) s))) out at o m
       → Wrote (escaped escape (join (rightmost n (reverse (split (is_listed ds) s))))) out at o m
   reversed_one_part h o m w =
-      let one : split (is_listed ds) s ≡ s ∷ [] = split_none (is_listed ds) s (omega arith) in
+      let one = one_part (is_listed ds) s h in
       rw (rightmost_reverse n (split (is_listed ds) s), one, one_reversed n s some_kept) (rw one at w)
 
-  module _ (h : i < length s) where
+  -- the first delimiter at i
+  module _ (i : ℕ) (inside : i < length s) (here : is_listed ds (get_or s i 0) ≡ true) (before : (k : ℕ) → k < i → is_listed ds (get_or s k 0) ≡ false) where
     pub reversed_one_kept : n ≡ 1 → (o : List ℕ) (m : ℕ) → Wrote (escaped escape (join (split (is_listed ds) (take i s)))) out at o m
         → Wrote (escaped escape (join (rightmost n (reverse (split (is_listed ds) s))))) out at o m
     reversed_one_kept k o m w =
-        rw (rightmost_reverse n (split (is_listed ds) s), k, split_first (is_listed ds) s (omega arith)) (rw (q, split_before (is_listed ds) s) at w)
-
-    parts_reversed : (n ≡ 1 → ⊥)
-        → join (rightmost n (reverse (split (is_listed ds) s))) ≡ join (rightmost (n - 1) (reverse (split (is_listed ds) (drop (i + 1) s)))) ++ (46 ∷ take i s)
-    parts_reversed k =
-        rw (split_first (is_listed ds) s (omega arith), q, add-one)
-        (join_reversed n some_kept k (take (run (λ b. not (is_listed ds b)) s) s) (split (is_listed ds) (drop (suc (run (λ b. not (is_listed ds b)) s)) s)) (split_some (is_listed ds) _))
+        rw (rightmost_reverse n (split (is_listed ds) s), k, first_part (is_listed ds) s i inside here before)
+        (rw (front_alone (is_listed ds) s i inside here before) at w)
 
     pub reversed_more : (n ≡ 1 → ⊥) → (o₁ o₂ o₃ : List ℕ) (m₁ m₂ m₃ : ℕ)
         → Wrote (escaped escape (join (rightmost (n - 1) (reverse (split (is_listed ds) (take (length s - (i + 1)) (drop (i + 1) s))))))) out at o₁ m₁
@@ -93,12 +87,12 @@ module _ (s ds : List ℕ) (n : ℕ) (escape : Bool) (out : List ℕ) (at : ℕ)
         → Wrote (escaped escape (join (rightmost n (reverse (split (is_listed ds) s))))) out at o₃ m₃
     unfolding join_by separator_before escaped
     reversed_more k o₁ o₂ o₃ m₁ m₂ m₃ u v w =
-        let all : take (length s - (i + 1)) (drop (i + 1) s) ≡ drop (i + 1) s = rest_part s (i + 1) in
-        let u' : Wrote (escaped escape (join (rightmost (n - 1) (reverse (split (is_listed ds) (drop (i + 1) s)))))) out at o₁ m₁ = rw all at u in
-        let part : join (split (is_listed ds) (take i s)) ≡ take i s = rw (q, split_before (is_listed ds) s, append-nil) in
+        let parts : join (rightmost n (reverse (split (is_listed ds) s))) ≡ join (rightmost (n - 1) (reverse (split (is_listed ds) (drop (i + 1) s)))) ++ (46 ∷ take i s) =
+        rw (first_part (is_listed ds) s i inside here before) (join_reversed n some_kept k (take i s) (split (is_listed ds) (drop (i + 1) s)) (split_some (is_listed ds) _)) in
+        let part : join (split (is_listed ds) (take i s)) ≡ take i s = rw (front_alone (is_listed ds) s i inside here before, append-nil) in
         let w' : Wrote (escaped escape (take i s)) o₂ m₂ o₃ m₃ = rw part at w in
-        rw (parts_reversed k, escaped_append, escaped_dot)
-        (wrote_then out at _ _ o₁ o₃ m₁ m₃ u' (wrote_then o₁ m₁ (46 ∷ []) _ o₂ o₃ m₂ m₃ v w'))
+        rw (parts, escaped_append, escaped_dot)
+        (wrote_then out at _ _ o₁ o₃ m₁ m₃ (rw rest_part at u) (wrote_then o₁ m₁ (46 ∷ []) _ o₂ o₃ m₂ m₃ v w'))
 
 -- `rightmost_start`
 module _ (s ds : List ℕ) (n : ℕ) where
@@ -119,12 +113,13 @@ module _ (s ds : List ℕ) (n : ℕ) where
       at_before : drop (i - 1) s ≡ get_or s (i - 1) 0 ∷ drop i s
       at_before = drop_before s i h p.within
 
-      pub left_found : r ≡ true → left ≡ 1 → split (is_listed ds) (drop i s) ≡ rightmost n (split (is_listed ds) s)
+      pub left_found : r ≡ true → left ≡ 1 → split (is_listed ds) (drop (i - 1 + 1) s) ≡ rightmost n (split (is_listed ds) s)
       left_found k l =
           let whole : s ≡ take (i - 1) s ++ get_or s (i - 1) 0 ∷ drop i s = sym (take-append-drop (i - 1) s) ∙ rw at_before in
           let parts : split (is_listed ds) s ≡ split (is_listed ds) (take (i - 1) s) ++ split (is_listed ds) (drop i s) =
           ap (split (is_listed ds)) whole ∙ split_append (is_listed ds) (take (i - 1) s) (get_or s (i - 1) 0) (drop i s) (sym q ∙ k) in
-          sym (rw parts (rightmost_append n (split (is_listed ds) (take (i - 1) s)) (split (is_listed ds) (drop i s)) (omega (arith, p.count))))
+          let z : i - 1 + 1 ≡ i = omega arith in
+          rw z (sym (rw parts (rightmost_append n (split (is_listed ds) (take (i - 1) s)) (split (is_listed ds) (drop i s)) (omega (arith, p.count)))))
 
       pub left_less : r ≡ true → (left ≡ 1 → ⊥) → Left (left - 1) (i - 1)
       left_less k l =

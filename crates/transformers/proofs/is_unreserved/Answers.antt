@@ -5,5 +5,5 @@ use Rattle.transformers.proofs.is_unreserved.Goals as goal
 pub returns-then-is_in : goal.returns-then-is_in
 returns-then-is_in c = search unreserved_alphanumeric
 
-pub returns : goal.returns
-returns c = search unreserved_other
+pub returns-else-is_in : goal.returns-else-is_in
+returns-else-is_in c = search unreserved_other

@@ -1,15 +1,17 @@
--- `transformers::keep_count` meets its contract. From the laws of Counts.
-use Rattle.transformers.proofs.Laws.Counts.{count_all, counted_start, counted_next, counted_end}
+-- `transformers::keep_count` meets its contract. From the laws of Counts and Tests.
+use Rattle.std.proofs.Common.{arith}
+use Rattle.text.proofs.Laws.Tests.{ways}
+use Rattle.transformers.proofs.Laws.Counts.{counted_start, counted_next, counted_end}
 use Rattle.transformers.proofs.keep_count.Goals as goal
 
-pub returns-then-digits-eq0 : goal.returns-then-digits-eq0
-returns-then-digits-eq0 c = search count_all
+pub returns-then-is_empty : goal.returns-then-is_empty
+returns-then-is_empty c = search ways
 
-pub loop-i-init : goal.loop-i-init
-loop-i-init c = search counted_start
+pub loop-d-init : goal.loop-d-init
+loop-d-init c = search counted_start
 
-pub loop-i-preserved : goal.loop-i-preserved
-loop-i-preserved c = search counted_next
+pub loop-d-preserved : goal.loop-d-preserved
+loop-d-preserved c = counted_next _ _ _ c.loop-d.invariant c.loop-d-test.true _ (omega arith)
 
 pub returns : goal.returns
-returns c = search counted_end
+returns c = search (ways, counted_end)

@@ -8,5 +8,5 @@ returns-then-n-eq0 c = search transform_none
 pub returns-then-reversed : goal.returns-then-reversed
 returns-then-reversed c = search transform_reversed
 
-pub returns : goal.returns
-returns c = search transform_forward
+pub returns-else-reversed : goal.returns-else-reversed
+returns-else-reversed c = search transform_forward

@@ -1,7 +1,7 @@
--- `lifetime` is the reader's, from the numbers of two bytes and of the next two. From `life_seconds` (Reading).
-use Rattle.std.proofs.Common.{rules}
-use Rattle.answer_table.specs.Reader.{lifetime_at}
-use Rattle.answer_table.proofs.Laws.Reading.{life_seconds}
+-- `lifetime` is the reader's, from the numbers of two bytes and of the next two.
+use Rattle.std.proofs.Common.{rules, arith}
+use lib.Seq.{get_or-drop}
+use Rattle.answer_table.specs.Reader.{lifetime_at, number}
 use Rattle.answer_table.proofs.entries.lifetime.Goals as goal
 
 pub returns-in-Old : goal.returns-in-Old
@@ -9,4 +9,5 @@ unfolding lifetime_at
 returns-in-Old c = search rules
 
 pub returns-in-New : goal.returns-in-New
-returns-in-New c = search life_seconds
+unfolding lifetime_at number
+returns-in-New c = rw c.in-New.is (simp get_or-drop (omega (arith, c.from_le_bytes.ensures)))

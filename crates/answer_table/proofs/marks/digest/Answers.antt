@@ -1,14 +1,14 @@
--- `marks::digest` meets its contract. The loop's invariant: the rest of the name, from the number so far, gives the whole number. From the rules of
--- Marks.
+-- `marks::digest` meets its contract. From the rules of Marks.
+use Prim.Native.Nat.{◌*◌, ◌+◌, ◌%◌}
+use mathlib.Core.Path.{sym, ◌∙◌}
 use Rattle.std.proofs.Common.{rules}
-use Rattle.answer_table.proofs.Laws.Marks.{digest_start, digest_next, digest_end}
+use Rattle.std.proofs.lemmas.Iterator.{YieldsList-from_slice}
+use Rattle.std.proofs.lemmas.Iterator.Consumers.{fold_from_yields_List}
+use Rattle.answer_table.proofs.Laws.Marks.{digest_fold}
 use Rattle.answer_table.proofs.marks.digest.Goals as goal
 
-pub loop-i-init : goal.loop-i-init
-loop-i-init c = search digest_start
-
-pub loop-i-preserved : goal.loop-i-preserved
-loop-i-preserved c = search digest_next
-
 pub returns : goal.returns
-returns c = record { value = search digest_end; upper_bound = search rules }
+returns c =
+    fold_from_yields_List _ (λ h b. (h * 1664525 % 4294967296 + b) % 4294967296) _ _ c.fold.ensures.ran (YieldsList-from_slice c.args.name.now cc)
+    (λ a x b q k. search rules)
+    ∙ sym (digest_fold c.args.kind c.args.name.now)

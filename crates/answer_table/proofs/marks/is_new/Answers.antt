@@ -1,12 +1,9 @@
--- `marks::is_new` meets its contract. From the rules of Marks.
-use Rattle.answer_table.proofs.Laws.Marks.{large_words, new_large, new_small}
+-- `marks::is_new` meets its contract. From its definition.
+use Rattle.answer_table.specs.Marks.{noted, unmarked}
 use Rattle.answer_table.proofs.marks.is_new.Goals as goal
 
-pub mark_pair-requires : goal.mark_pair-requires
-mark_pair-requires c = search large_words
+pub returns-in-Some : goal.returns-in-Some
+returns-in-Some c = rw c.in-Some.is (noted c.mark_pair.ensures)
 
-pub returns-then-large : goal.returns-then-large
-returns-then-large c = search new_large
-
-pub returns : goal.returns
-returns c = search new_small
+pub returns-in-None : goal.returns-in-None
+returns-in-None c = rw c.in-None.is unmarked

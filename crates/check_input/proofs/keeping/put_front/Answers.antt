@@ -5,5 +5,5 @@ use Rattle.check_input.proofs.keeping.put_front.Goals as goal
 pub returns-then-field-input : goal.returns-then-field-input
 returns-then-field-input c = search front_ended
 
-pub returns : goal.returns
-returns c = search front_open
+pub returns-else-field-input : goal.returns-else-field-input
+returns-else-field-input c = search front_open

@@ -1,25 +1,23 @@
 -- `explaining::explain` meets its contract. From the rules of Laws.Explaining: 20 to 26 first, then 28 and the text.
 use Rattle.std.proofs.Common.{rules}
-use Rattle.evaluation.proofs.Laws.Explaining.{explained_refused, explained_short, sender_small, explained_long, explained_malformed, explained_repeated, explained_made}
+use Rattle.std.proofs.lemmas.Result.{err_from_is_err_and}
+use Rattle.evaluation.proofs.Laws.Refusing.{sender_small}
+use Rattle.evaluation.proofs.Laws.Explaining.{explained_refused, explained_short, explained_bad, explained_made}
 use Rattle.evaluation.proofs.explaining.explain.Goals as goal
 
-pub returns-then-text-lt500 : goal.returns-then-text-lt500
-returns-then-text-lt500 c = search explained_short
+pub returns-in_err-check_arguments : goal.returns-in_err-check_arguments
+returns-in_err-check_arguments c = let p = err_from_is_err_and c.from_residual.result c.from_residual.ensures.1 in rw (p.1, p.2) (search (explained_refused, c.in_err-check_arguments.was))
 
-pub explain_accepted-requires : goal.explain_accepted-requires
-explain_accepted-requires c = search (sender_small, rules)
+pub returns-then-text-lt-MOST_TEXT : goal.returns-then-text-lt-MOST_TEXT
+returns-then-text-lt-MOST_TEXT c = search (explained_short, c.in_ok-check_arguments.was)
 
-pub returns-in-TooLong : goal.returns-in-TooLong
-returns-in-TooLong c = search explained_long
+pub returns-in_err-check_table : goal.returns-in_err-check_table
+returns-in_err-check_table c =
+    let p = err_from_is_err_and c.from_residual-in_err-check_table.result c.from_residual-in_err-check_table.ensures.1 in
+    rw (p.1, p.2) (search (explained_bad, c.in_ok-check_arguments.was, c.in_err-check_table.was))
 
-pub returns-in-Malformed : goal.returns-in-Malformed
-returns-in-Malformed c = search explained_malformed
-
-pub returns-in-Repeated : goal.returns-in-Repeated
-returns-in-Repeated c = search explained_repeated
-
-pub returns-in-Accepted : goal.returns-in-Accepted
-returns-in-Accepted c = search explained_made
+pub invariant_of-mail : goal.invariant_of-mail
+invariant_of-mail c = search (sender_small, c.in_ok-check_arguments.was, rules)
 
 pub returns : goal.returns
-returns c = search explained_refused
+returns c = search (explained_made, c.in_ok-check_arguments.was, c.in_ok-check_table.was)

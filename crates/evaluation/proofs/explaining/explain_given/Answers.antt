@@ -3,8 +3,8 @@ use Rattle.std.proofs.Common.{rules}
 use Rattle.evaluation.proofs.Laws.Explaining.{given_nothing, given_made}
 use Rattle.evaluation.proofs.explaining.explain_given.Goals as goal
 
-pub returns-in-Malformed : goal.returns-in-Malformed
-returns-in-Malformed c = search given_nothing
+pub returns-in_default : goal.returns-in_default
+returns-in_default c = search (given_nothing, c.requires)
 
-pub returns-in-Written : goal.returns-in-Written
-returns-in-Written c = search (given_made, rules)
+pub returns : goal.returns
+returns c = search (given_made, c.requires, rules)

@@ -1,12 +1,16 @@
--- `macros::emit::put_escape` meets its contract. From the laws of Emitting.
-use Rattle.macros.proofs.Laws.Emitting.{escape_percent, escape_space, escape_hyphen}
+-- `macros::emit::put_escape` meets its contract.
+use Rattle.std.proofs.Common.{arith}
+use Rattle.macros.specs.Expansion.{escape_text}
+use Rattle.macros.proofs.Laws.Emitting.{other_escape}
 use Rattle.macros.proofs.emit.put_escape.Goals as goal
 
-pub returns-then-b-eq37 : goal.returns-then-b-eq37
-returns-then-b-eq37 c = search escape_percent
+pub returns-in-37 : goal.returns-in-37
+unfolding escape_text
+returns-in-37 c = rw c.in-37.is c.put.ensures
 
-pub returns-then-b-eq95 : goal.returns-then-b-eq95
-returns-then-b-eq95 c = search escape_space
+pub returns-in-95 : goal.returns-in-95
+unfolding escape_text
+returns-in-95 c = rw c.in-95.is c.put-in-95.ensures
 
-pub returns : goal.returns
-returns c = search escape_hyphen
+pub returns-in_default : goal.returns-in_default
+returns-in_default c = rw (other_escape c.args.b (λ e. omega arith) (λ e. omega arith)) c.put_all.ensures

@@ -11,5 +11,5 @@ slice_bounds-result-count c = search label_inside
 pub slice_bounds-result-start : goal.slice_bounds-result-start
 slice_bounds-result-start c = search label_inside
 
-pub returns : goal.returns
-returns c = search label_here
+pub returns-else-i-eq0 : goal.returns-else-i-eq0
+returns-else-i-eq0 c = search label_here

@@ -1,16 +1,17 @@
--- `macros::pieces::is_literal` meets its contract.
+-- `macros::pieces::is_literal` meets its contract. From the laws of Reading.
 use Rattle.text.specs.Runs.{is_in}
+use Rattle.text.specs.Bytes.{is_space}
 use Rattle.macros.specs.Reader.{is_literal}
+use Rattle.macros.proofs.Laws.Reading.{literal_other}
 use Rattle.macros.proofs.pieces.is_literal.Goals as goal
 
 pub returns-in-DomainSpec : goal.returns-in-DomainSpec
-unfolding is_literal is_in
-returns-in-DomainSpec c = simp c.in-DomainSpec.is c.is_in.ensures
+returns-in-DomainSpec c = search literal_other
 
-pub returns-in-ModifierValue : goal.returns-in-ModifierValue
+pub returns-then-is_in : goal.returns-then-is_in
 unfolding is_literal is_in
-returns-in-ModifierValue c = simp c.in-ModifierValue.is c.is_in-in-ModifierValue.ensures
+returns-then-is_in c = rw (c.in-Explanation.is, ← c.is_in-in-Explanation.ensures, c.if-is_in.true)
 
-pub returns-in-Explanation : goal.returns-in-Explanation
-unfolding is_literal
-returns-in-Explanation c = simp c.in-Explanation.is c.is_explanation_byte.ensures
+pub returns-else-is_in : goal.returns-else-is_in
+unfolding is_literal is_in is_space
+returns-else-is_in c = rw (c.in-Explanation.is, ← c.is_in-in-Explanation.ensures, c.if-is_in.false)

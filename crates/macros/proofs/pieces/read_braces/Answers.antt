@@ -5,5 +5,5 @@ use Rattle.macros.proofs.pieces.read_braces.Goals as goal
 pub returns-then-is_letter : goal.returns-then-is_letter
 returns-then-is_letter c = search braces_letter
 
-pub returns : goal.returns
-returns c = search braces_bad
+pub returns-else-is_letter : goal.returns-else-is_letter
+returns-else-is_letter c = search braces_bad

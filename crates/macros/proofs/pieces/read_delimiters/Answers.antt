@@ -5,5 +5,5 @@ use Rattle.macros.proofs.pieces.read_delimiters.Goals as goal
 pub returns-then-peek-eq125 : goal.returns-then-peek-eq125
 returns-then-peek-eq125 c = search delimiters_closed
 
-pub returns : goal.returns
-returns c = search delimiters_bad
+pub returns-else-peek-eq125 : goal.returns-else-peek-eq125
+returns-else-peek-eq125 c = search delimiters_bad

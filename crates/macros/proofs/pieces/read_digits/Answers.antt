@@ -5,5 +5,5 @@ use Rattle.macros.proofs.pieces.read_digits.Goals as goal
 pub returns-then-is_count : goal.returns-then-is_count
 returns-then-is_count c = search digits_counted
 
-pub returns : goal.returns
-returns c = search digits_bad
+pub returns-else-is_count : goal.returns-else-is_count
+returns-else-is_count c = search digits_bad

@@ -8,5 +8,5 @@ overflow_add-d c = search reversal_room
 pub returns-then-to_lower-eq114 : goal.returns-then-to_lower-eq114
 returns-then-to_lower-eq114 c = search reversal_there
 
-pub returns : goal.returns
-returns c = search reversal_absent
+pub returns-else-to_lower-eq114 : goal.returns-else-to_lower-eq114
+returns-else-to_lower-eq114 c = search reversal_absent

@@ -1,12 +1,13 @@
 -- `macros::values::is_sender` meets its contract. From the laws of Senders.
-use Rattle.macros.proofs.Laws.Senders.{sender_empty, sender_long, sender_every}
+use Rattle.std.proofs.Common.{arith}
+use Rattle.macros.proofs.Laws.Senders.{sender_every, sender_outside}
 use Rattle.macros.proofs.values.is_sender.Goals as goal
 
-pub returns-then-s-eq0 : goal.returns-then-s-eq0
-returns-then-s-eq0 c = search sender_empty
+pub returns-in-1-to-320 : goal.returns-in-1-to-320
+returns-in-1-to-320 c = sender_every _ (omega arith) (omega arith) _ c.every.ensures
 
-pub returns-then-s-gt320 : goal.returns-then-s-gt320
-returns-then-s-gt320 c = search sender_long
+pub returns-in_default : goal.returns-in_default
+returns-in_default c = sender_outside _ (λ h. omega arith)
 
-pub returns : goal.returns
-returns c = search sender_every
+pub returns-in_default-2 : goal.returns-in_default-2
+returns-in_default-2 c = sender_outside _ (λ h. omega arith)

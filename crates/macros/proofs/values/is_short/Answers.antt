@@ -1,6 +1,8 @@
--- `macros::values::is_short` meets its contract. From the laws of Senders.
-use Rattle.macros.proofs.Laws.Senders.{short_is}
+-- `macros::values::is_short` meets its contract.
+use Rattle.std.proofs.Common.{rules}
+use Rattle.macros.specs.Expansion.{is_short}
 use Rattle.macros.proofs.values.is_short.Goals as goal
 
 pub returns : goal.returns
-returns c = search short_is
+unfolding is_short
+returns c = search rules

@@ -1,38 +1,18 @@
 -- `mechanism_lookups::names::ask_names` meets its contract. From the laws of Loops.
-use Rattle.std.proofs.Common.{arith}
-use Rattle.mechanism_lookups.proofs.Laws.Loops.{names_start, names_next, names_stay, names_ten, names_end, names_few}
-use Rattle.answer_table.proofs.Laws.Items.{next_less}
+use Rattle.std.proofs.lemmas.Result.{err_from_is_err_and}
+use mathlib.Core.Path.{refl, ap}
+use Rattle.std.proofs.Common.{Ok}
+use Rattle.mechanism_lookups.proofs.Laws.Loops.{names_start, names_few, names_true, names_err, names_next, names_end, take_more, take_none}
 use Rattle.mechanism_lookups.proofs.names.ask_names.Goals as goal
 
-pub loop-at-init : goal.loop-at-init
-loop-at-init c = search names_start
+pub returns-in_err-ask_name : goal.returns-in_err-ask_name
+returns-in_err-ask_name c = let p = err_from_is_err_and c.from_residual.result c.from_residual.ensures.1 in rw (p.1, p.2) (names_err _ _ _ _ _ _ _ _ _ (take_more _ _ _ _ _ (c.in-Some.ensures.steps).0 (c.in-Some.ensures.steps).1) _ _ c.loop-name.invariant _ _ _ c.in_err-ask_name.ensures _ refl)
 
-pub shape_of-out-then-left-eq0 : goal.shape_of-out-then-left-eq0
-shape_of-out-then-left-eq0 c = cc
+pub returns-then-branch : goal.returns-then-branch
+returns-then-branch c = names_true _ _ _ _ _ _ _ _ _ (take_more _ _ _ _ _ (c.in-Some.ensures.steps).0 (c.in-Some.ensures.steps).1) _ _ c.loop-name.invariant _ _ _ c.in_ok-ask_name.ensures _ refl c.if-branch.true
 
-pub returns-then-left-eq0 : goal.returns-then-left-eq0
-returns-then-left-eq0 c = search names_ten
-
-pub ask_name-asked-requires : goal.ask_name-asked-requires
-ask_name-asked-requires c = search names_few
-
-pub shape_of-out-in_default : goal.shape_of-out-in_default
-shape_of-out-in_default c = cc
-
-pub returns-in_default : goal.returns-in_default
-returns-in_default c = search names_stay
-
-pub overflow_sub-left : goal.overflow_sub-left
-overflow_sub-left c = omega arith
-
-pub loop-at-smaller : goal.loop-at-smaller
-loop-at-smaller c = search next_less
-
-pub loop-at-preserved : goal.loop-at-preserved
-loop-at-preserved c = search names_next
-
-pub shape_of-out : goal.shape_of-out
-shape_of-out c = cc
+pub loop-name-preserved : goal.loop-name-preserved
+loop-name-preserved c = names_next _ _ _ _ _ _ _ _ _ (take_more _ _ _ _ _ (c.in-Some.ensures.steps).0 (c.in-Some.ensures.steps).1) _ _ c.loop-name.invariant _ _ _ c.in_ok-ask_name.ensures (ap Ok c.if-branch.false)
 
 pub returns : goal.returns
-returns c = search names_end
+returns c = names_end _ _ _ _ _ _ _ _ _ (take_none _ _ (λ h. (c.in-None.ensures.steps h).0)) c.loop-name.invariant

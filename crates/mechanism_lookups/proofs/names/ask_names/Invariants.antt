@@ -1,11 +1,9 @@
 -- `mechanism_lookups::names::ask_names` meets its contract. From the laws of Loops.
+use Rattle.std.proofs.Common.{take}
+use Rattle.answer_table.specs.Reader.{items_of}
+use Rattle.rules.specs.Mechanisms.{most_names}
 use Rattle.mechanism_lookups.proofs.Laws.Loops.{Names}
-use Prim.Native.Nat.{◌-◌}
-use lib.ListN.{length as size}
 use Rattle.mechanism_lookups.proofs.names.ask_names.Given as goal
 
-abbrev pub invariant-loop-at : goal.invariant-loop-at
-invariant-loop-at l = Names l.table l.client l.target l.items l.initial.out l.initial.so_far l.initial.least l.out l.at l.left l.so_far l.least
-
-abbrev pub decreases-loop-at : goal.decreases-loop-at
-decreases-loop-at l = size l.items - l.at
+abbrev pub invariant-loop-name : goal.invariant-loop-name
+invariant-loop-name l = Names l.table l.client l.target (take most_names (items_of l.items)) l.initial.progress l.initial.out (take l.name-iterator.n l.name-iterator.iter) l.progress l.out

@@ -1,27 +1,18 @@
 -- `networks::ip6::read_short` meets its contract. From the laws of AddressWriting.
-use Rattle.std.proofs.Common.{arith}
-use Prim.Native.Nat.{◌≤◌}
-use lib.ListN.{length-take}
-use Rattle.networks.proofs.Laws.AddressWriting.{short_no_left, short_no_right, short_over, short_filled, leave_within}
+use Rattle.std.proofs.Common.{rules}
+use Rattle.networks.proofs.Laws.AddressWriting.{short_no_left, short_no_right, short_over, short_filled}
 use Rattle.networks.proofs.ip6.read_short.Goals as goal
 
-pub returns-in_default : goal.returns-in_default
-returns-in_default c = search short_no_left
+pub returns-then-not-put_side : goal.returns-then-not-put_side
+returns-then-not-put_side c = short_no_left _ _ _ _ _ c.put_side.ensures.row c.new-left.ensures.at c.if-not-put_side.true
 
-pub returns-in_default-put_side : goal.returns-in_default-put_side
-returns-in_default-put_side c = search short_no_right
-
-pub slice_bounds-right-end : goal.slice_bounds-right-end
-slice_bounds-right-end c = let h : c.in-At-put_side.m ≤ 16 = search leave_within in omega arith
-
-pub slice_bounds-put_all-end : goal.slice_bounds-put_all-end
-slice_bounds-put_all-end c = let h : c.in-At-put_side.m ≤ 16 = search leave_within in simp length-take (omega arith)
-
-pub overflow_sub-m : goal.overflow_sub-m
-overflow_sub-m c = search leave_within
+pub returns-then-not-put_side-2 : goal.returns-then-not-put_side-2
+returns-then-not-put_side-2 c = short_no_right _ _ _ _ _ c.put_side.ensures.row c.new-left.ensures.at c.if-not-put_side.false _ _ _ c.put_side-2.ensures.row c.new-right.ensures.at c.if-not-put_side-2.true
 
 pub returns-then-leave_group : goal.returns-then-leave_group
-returns-then-leave_group c = search short_filled
+returns-then-leave_group c =
+    short_filled _ _ _ _ _ c.put_side.ensures.row c.new-left.ensures.at c.if-not-put_side.false _ _ _ c.put_side-2.ensures.row c.new-right.ensures.at
+    c.if-not-put_side-2.false _ c.leave_group.ensures c.if-leave_group.true (simp c.new-left.ensures.out) (simp c.new-right.ensures.out) _ (search rules) _ (search rules) _ c.from_octets.ensures
 
 pub returns : goal.returns
-returns c = search short_over
+returns c = short_over _ _ _ _ _ c.put_side.ensures.row c.new-left.ensures.at c.if-not-put_side.false _ _ _ c.put_side-2.ensures.row c.new-right.ensures.at c.if-not-put_side-2.false _ c.leave_group.ensures c.if-leave_group.false

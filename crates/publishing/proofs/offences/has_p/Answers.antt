@@ -5,5 +5,5 @@ use Rattle.publishing.proofs.offences.has_p.Goals as goal
 pub returns-then-read_macro_string : goal.returns-then-read_macro_string
 returns-then-read_macro_string c = search p_here
 
-pub returns : goal.returns
-returns c = search p_none
+pub returns-else-read_macro_string : goal.returns-else-read_macro_string
+returns-else-read_macro_string c = search p_none

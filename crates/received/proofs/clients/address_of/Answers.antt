@@ -5,5 +5,5 @@ use Rattle.received.proofs.clients.address_of.Goals as goal
 pub returns-then-contains : goal.returns-then-contains
 returns-then-contains c = search address_six
 
-pub returns : goal.returns
-returns c = search address_four
+pub returns-else-contains : goal.returns-else-contains
+returns-else-contains c = search address_four

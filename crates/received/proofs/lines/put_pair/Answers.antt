@@ -1,6 +1,6 @@
--- `received::lines::put_pair` meets its contract. From the laws of Lines.
-use Rattle.received.proofs.Laws.Lines.{in_two}
+-- `received::lines::put_pair` meets its contract. From the laws of Writing.
+use Rattle.text.proofs.Laws.Writing.{wrote_then}
 use Rattle.received.proofs.lines.put_pair.Goals as goal
 
 pub returns : goal.returns
-returns c = search in_two
+returns c = search wrote_then

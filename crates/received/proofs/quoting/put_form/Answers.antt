@@ -5,5 +5,5 @@ use Rattle.received.proofs.quoting.put_form.Goals as goal
 pub returns-then-is_dot_atom_text : goal.returns-then-is_dot_atom_text
 returns-then-is_dot_atom_text c = search form_plain
 
-pub returns : goal.returns
-returns c = search form_quoted
+pub returns-else-is_dot_atom_text : goal.returns-else-is_dot_atom_text
+returns-else-is_dot_atom_text c = search form_quoted

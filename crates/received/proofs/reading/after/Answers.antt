@@ -1,9 +1,12 @@
--- `received::reading::after` meets its contract. From the laws of Reading.
-use Rattle.received.proofs.Laws.Reading.{after_quote, after_none}
+-- `received::reading::after` meets its contract. From the laws of Tests.
+use Rattle.text.proofs.Laws.Tests.{ways}
+use Rattle.received.specs.Reader.{after}
 use Rattle.received.proofs.reading.after.Goals as goal
 
 pub returns-then-peek-eq34 : goal.returns-then-peek-eq34
-returns-then-peek-eq34 c = search after_quote
+unfolding after
+returns-then-peek-eq34 c = search ways
 
-pub returns : goal.returns
-returns c = search after_none
+pub returns-else-peek-eq34 : goal.returns-else-peek-eq34
+unfolding after
+returns-else-peek-eq34 c = search ways

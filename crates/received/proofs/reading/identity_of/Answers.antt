@@ -1,4 +1,4 @@
--- `received::reading::identity_of` meets its contract. From the laws of Tests of the crate text.
+-- `received::reading::identity_of` meets its contract. From the laws of Tests.
 use Rattle.text.proofs.Laws.Tests.{ways}
 use Rattle.received.specs.Reader.{identity_of}
 use Rattle.received.proofs.reading.identity_of.Goals as goal
@@ -7,6 +7,6 @@ pub returns-then-equal : goal.returns-then-equal
 unfolding identity_of
 returns-then-equal c = search ways
 
-pub returns : goal.returns
+pub returns-else-equal : goal.returns-else-equal
 unfolding identity_of
-returns c = search ways
+returns-else-equal c = search ways

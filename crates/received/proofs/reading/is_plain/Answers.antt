@@ -1,9 +1,12 @@
--- `received::reading::is_plain` meets its contract. From the laws of Reading.
-use Rattle.received.proofs.Laws.Reading.{plain_atom, plain_other}
+-- `received::reading::is_plain` meets its contract. From the laws of Tests.
+use Rattle.text.proofs.Laws.Tests.{tests}
+use Rattle.received.specs.States.{is_plain}
 use Rattle.received.proofs.reading.is_plain.Goals as goal
 
 pub returns-then-is_atext : goal.returns-then-is_atext
-returns-then-is_atext c = search plain_atom
+unfolding is_plain
+returns-then-is_atext c = rw (← c.is_atext.ensures, c.if-is_atext.true)
 
-pub returns : goal.returns
-returns c = search plain_other
+pub returns-else-is_atext : goal.returns-else-is_atext
+unfolding is_plain
+returns-else-is_atext c = search tests

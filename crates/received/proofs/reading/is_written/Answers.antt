@@ -2,8 +2,8 @@
 use Rattle.received.proofs.Laws.Reading.{written_same, written_none}
 use Rattle.received.proofs.reading.is_written.Goals as goal
 
-pub returns-in-Length : goal.returns-in-Length
-returns-in-Length c = search written_same
+pub returns-in-Ok : goal.returns-in-Ok
+returns-in-Ok c = search written_same
 
-pub returns-in-Refused : goal.returns-in-Refused
-returns-in-Refused c = search written_none
+pub returns-in-Err : goal.returns-in-Err
+returns-in-Err c = search written_none

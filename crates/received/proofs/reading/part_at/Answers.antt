@@ -5,5 +5,5 @@ use Rattle.received.proofs.reading.part_at.Goals as goal
 pub returns-then-peek-eq34 : goal.returns-then-peek-eq34
 returns-then-peek-eq34 c = search part_quoted
 
-pub returns : goal.returns
-returns c = search part_plain
+pub returns-else-peek-eq34 : goal.returns-else-peek-eq34
+returns-else-peek-eq34 c = search part_plain

@@ -1,9 +1,7 @@
 -- `received::reading::value_of` meets its contract. From the laws of Reading.
-use Rattle.received.proofs.Laws.Reading.{held_all, held_part}
+use Rattle.std.proofs.Common.{rules}
+use Rattle.received.proofs.Laws.Reading.{value_held}
 use Rattle.received.proofs.reading.value_of.Goals as goal
 
-pub returns-then-n-out : goal.returns-then-n-out
-returns-then-n-out c = search held_all
-
 pub returns : goal.returns
-returns c = search held_part
+returns c = value_held c.args.s.now c.args.p _ c.of.ensures _ _ _ _ _ c.new-w.ensures.out c.new-w.ensures.at c.put_unescaped.ensures.wrote _ (search rules) _ c.min.ensures (search (rules, c.well_formed))

@@ -1,11 +1,6 @@
 -- `records::beginnings::begins_term` meets its contract: no end before the place makes a term of the front, which stays in the buffer (Laws.Pointing).
 use Rattle.records.proofs.Laws.Pointing.{Trying}
-use Prim.Native.Nat.{◌+◌, ◌-◌}
-use lib.ListN.{length}
 use Rattle.records.proofs.beginnings.begins_term.Given as goal
 
 abbrev pub invariant-loop-from : goal.invariant-loop-from
 invariant-loop-from l = Trying l.w l.n l.terms l.end l.room l.from
-
-abbrev pub decreases-loop-from : goal.decreases-loop-from
-decreases-loop-from l = length l.terms + 1 - l.from

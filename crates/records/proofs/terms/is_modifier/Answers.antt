@@ -5,5 +5,5 @@ use Rattle.records.proofs.terms.is_modifier.Goals as goal
 pub returns-then-i-eq0 : goal.returns-then-i-eq0
 returns-then-i-eq0 c = search and_eq
 
-pub returns : goal.returns
-returns c = search and_ne
+pub returns-else-i-eq0 : goal.returns-else-i-eq0
+returns-else-i-eq0 c = search and_ne

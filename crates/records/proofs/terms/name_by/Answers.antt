@@ -7,6 +7,6 @@ pub returns-then-is_qualifier : goal.returns-then-is_qualifier
 unfolding name_by
 returns-then-is_qualifier c = search ways
 
-pub returns : goal.returns
+pub returns-else-is_qualifier : goal.returns-else-is_qualifier
 unfolding name_by
-returns c = search ways
+returns-else-is_qualifier c = search ways

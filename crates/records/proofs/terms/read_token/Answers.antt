@@ -1,5 +1,5 @@
 -- `records::terms::read_token` meets its contract. From the laws of Reading.
-use Rattle.records.proofs.Laws.Reading.{end_after, name_inside, equals_inside, token_modifier, token_mechanism}
+use Rattle.records.proofs.Laws.Reading.{end_after, name_inside, equals_inside, token_modifier, token_no_kind, token_by_kind}
 use Rattle.records.proofs.terms.read_token.Goals as goal
 
 pub read_modifier-requires : goal.read_modifier-requires
@@ -20,5 +20,8 @@ slice_bounds-kind_of-end c = search name_inside
 pub read_mechanism_by-requires : goal.read_mechanism_by-requires
 read_mechanism_by-requires c = search name_inside
 
+pub returns-in_err-kind_of : goal.returns-in_err-kind_of
+returns-in_err-kind_of c = rw c.from_residual.ensures (search (token_no_kind, c.in_err-kind_of.was))
+
 pub returns : goal.returns
-returns c = search token_mechanism
+returns c = search (token_by_kind, c.in_ok-kind_of.was)

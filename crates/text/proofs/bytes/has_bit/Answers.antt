@@ -1,16 +1,16 @@
 -- `text::bytes::has_bit` meets its contract.
 use Rattle.text.specs.Sets.{has_bit}
-use Rattle.text.proofs.Laws.Tests.{ways, tests}
+use Rattle.text.proofs.Laws.Tests.{ways}
 use Rattle.text.proofs.bytes.has_bit.Goals as goal
 
-pub returns-then-b-lt64 : goal.returns-then-b-lt64
+pub returns-in-0-to-63 : goal.returns-in-0-to-63
 unfolding has_bit
-returns-then-b-lt64 c = search (tests, ways)
+returns-in-0-to-63 c = search ways
 
-pub returns-then-b-lt128 : goal.returns-then-b-lt128
+pub returns-in-64-to-127 : goal.returns-in-64-to-127
 unfolding has_bit
-returns-then-b-lt128 c = search (tests, ways)
+returns-in-64-to-127 c = search ways
 
-pub returns : goal.returns
+pub returns-in_default : goal.returns-in_default
 unfolding has_bit
-returns c = search (tests, ways)
+returns-in_default c = search ways

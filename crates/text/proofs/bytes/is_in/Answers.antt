@@ -5,14 +5,10 @@ use Rattle.text.proofs.Laws.Tests.{tests}
 use Rattle.text.proofs.Laws.Sets.{in_set_lem}
 use Rattle.text.proofs.bytes.is_in.Goals as goal
 
-pub returns-then-is_within : goal.returns-then-is_within
-unfolding in_set
-returns-then-is_within c = search (in_set_lem, tests, rules)
-
 pub returns-then-is_within-2 : goal.returns-then-is_within-2
 unfolding in_set
 returns-then-is_within-2 c = search (in_set_lem, tests, rules)
 
-pub returns : goal.returns
+pub returns-else-is_within-2 : goal.returns-else-is_within-2
 unfolding in_set
-returns c = search (in_set_lem, tests, rules)
+returns-else-is_within-2 c = search (in_set_lem, tests, rules)

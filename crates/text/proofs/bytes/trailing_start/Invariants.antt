@@ -3,12 +3,8 @@ use Rattle.text.specs.Runs.{is_in}
 use Rattle.text.specs.Lists.{all}
 use mathlib.Core.Bool.{true}
 use mathlib.Core.Path.{◌≡◌}
-use Prim.Native.Nat.{◌≤◌}
-use lib.ListN.{length, drop}
+use lib.ListN.{drop}
 use Rattle.text.proofs.bytes.trailing_start.Given as goal
 
 abbrev pub invariant-loop-i : goal.invariant-loop-i
-invariant-loop-i l = (l.i ≤ length l.s) × (all (is_in l.class) (drop l.i l.s) ≡ true)
-
-abbrev pub decreases-loop-i : goal.decreases-loop-i
-decreases-loop-i l = l.i
+invariant-loop-i l = all (is_in l.class) (drop l.i l.s) ≡ true

@@ -1,18 +1,21 @@
 -- `text::decimal::push_digit` meets its contract. From the laws of Digits.
-use Rattle.text.proofs.Laws.Digits.{digit_least, push_fits, push_over, push_large, push_no_digit}
+use Rattle.std.proofs.Common.{rules, ◌∙◌}
+use Rattle.text.proofs.Laws.Digits.{digit_least, push_mul_over, push_add_over, push_up_to, push_no_digit}
 use Rattle.text.proofs.decimal.push_digit.Goals as goal
 
-pub overflow_sub-d : goal.overflow_sub-d
-overflow_sub-d c = search digit_least
+pub returns-then-not-is_within : goal.returns-then-not-is_within
+returns-then-not-is_within c = search push_no_digit
 
-pub returns-then-v-limit : goal.returns-then-v-limit
-returns-then-v-limit c = search push_fits
+pub returns-in_err-checked_mul : goal.returns-in_err-checked_mul
+returns-in_err-checked_mul c = c.from_residual.ensures ∙ push_mul_over _ _ _ _ c.is_within.ensures (search rules) c.if-not-is_within.false c.in_err-checked_mul.ensures
 
-pub returns-then-d-limit : goal.returns-then-d-limit
-returns-then-d-limit c = search push_over
+pub overflow_sub-b : goal.overflow_sub-b
+overflow_sub-b c = search digit_least
 
-pub returns-then-is_within : goal.returns-then-is_within
-returns-then-is_within c = search push_large
+pub returns-in_err-next : goal.returns-in_err-next
+returns-in_err-next c =
+    c.from_residual-in_err-next.ensures
+    ∙ push_add_over _ _ _ _ c.is_within.ensures (search rules) _ c.if-not-is_within.false c.in_ok-checked_mul.ensures.1 c.in_err-next.ensures
 
 pub returns : goal.returns
-returns c = search push_no_digit
+returns c = c.then_some.ensures ∙ push_up_to _ _ _ _ c.is_within.ensures _ _ c.if-not-is_within.false c.in_ok-checked_mul.ensures.1 c.in_ok-next.ensures.1

@@ -1,9 +1,0 @@
--- `record_cases::main` meets its contract.
-use Rattle.std.proofs.Common.{◌≡◌, length}
-use Rattle.record_cases.proofs.main.Given as goal
-
-abbrev pub invariant-loop-budget : goal.invariant-loop-budget
-invariant-loop-budget l = length l.line ≡ 32768
-
-abbrev pub decreases-loop-budget : goal.decreases-loop-budget
-decreases-loop-budget l = l.budget

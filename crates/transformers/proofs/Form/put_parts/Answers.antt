@@ -1,0 +1,12 @@
+-- `transformers::put_parts` meets its contract. From the laws of Parts.
+use Rattle.transformers.proofs.Laws.Parts.{written_start, written_next, written_end}
+use Rattle.transformers.proofs.Form.put_parts.Goals as goal
+
+pub loop-b-init : goal.loop-b-init
+loop-b-init c = search written_start
+
+pub loop-b-preserved : goal.loop-b-preserved
+loop-b-preserved c = search written_next
+
+pub returns : goal.returns
+returns c = search written_end
