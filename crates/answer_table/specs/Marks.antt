@@ -1,7 +1,7 @@
 -- How the check finds a "pair seen before" (26) without a search for each; what it answers is said in Answers, and no mark is mentioned there.
 -- Marks of kind and name pairs: 16,384 bits in 256 words, of which each pair has two. Equal pairs have the same two, so a pair of which one is
 -- clear stands nowhere among the entries whose pairs are marked.
-use Rattle.std.specs.Prelude.{ℕ, ◌+◌, ◌*◌, ◌/◌, ◌%◌, ◌^◌, ◌≡◌, List, [], ◌∷◌, Bool, true, false, ◌&&◌, get_or, take, eqb, None, Option, Some, Result, Ok, Err}
+use Rattle.std.specs.Prelude.{ℕ, ◌+◌, ◌*◌, ◌/◌, ◌%◌, ◌^◌, ◌≡◌, List, [], ◌∷◌, Bool, true, false, ◌&&◌, get_or, take, length, eqb, ltb, is_some, None, Option, Some, Result, Ok, Err}
 use Rattle.answer_table.specs.Layout.{Entry, EntriesIn, holds}
 use Rattle.answer_table.specs.declared.Layout.{Layout}
 use Rattle.answer_table.specs.declared.TableError.{TableError}
@@ -47,10 +47,11 @@ pub data NotesPair (kind : ℕ) (name : List ℕ) : Option Marks → Bool → Op
   noted : {before after : Marks} {new : Bool} → MarksPair before.words kind name new after.words → NotesPair kind name (Some before) new (Some after)
   unmarked : NotesPair kind name None false None
 
--- entries stand end to end before a place, and where there are marks, their pairs are marked
+-- entries stand end to end before a place; there are marks in a table of more than 512 bytes and in no other, and there the entries' pairs are marked
 pub record Covered (lay : Layout) (t : List ℕ) (i : ℕ) (marks : Option Marks) : Type 0 where
   pub before : List Entry
   pub entries : EntriesIn lay (take i t) before
+  pub large : is_some marks ≡ ltb 512 (length t)
   pub marked : (m : Marks) → marks ≡ Some m → (kind : ℕ) (name : List ℕ) → holds kind name before ≡ true → is_pair_marked m.words kind name ≡ true
 
 -- the same of the place that a step leads to

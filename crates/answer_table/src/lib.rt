@@ -1,7 +1,7 @@
 // The answer table: its check, in either layout, and lookup in it.
 #![tactic(auto)]
 
-ghost use Rattle.std.specs.Prelude.{◌≡◌, ◌≤◌, ◌<◌, length};
+ghost use Rattle.std.specs.Prelude.{◌≡◌, ◌≤◌, ◌<◌, length, is_some};
 ghost use Rattle.answer_table.specs.Numbers.{reported};
 ghost use Rattle.answer_table.specs.Answers.{TableAnswersIn, TableAnswers};
 ghost use Rattle.answer_table.specs.Lookup.{lookup, Finds};
@@ -94,6 +94,27 @@ pub fn found_items(table: &[u8], found: Option<Found>) -> &[u8]
     }
 }
 
+// Whether an entry of a kind and a name stands in a table of a layout: the check's search, which needs no place and no lifetime.
+fn stands_in(layout: Layout, table: &[u8], kind: u16, name: &[u8]) -> bool
+    ensures { result ≡ is_some (find_in layout table.now kind name.now) }
+{
+    let head = entries::header_size(layout);
+    // By places and not `for`: a step is an entry's own size.
+    let mut at = 0;
+    while at < table.len() {
+        let rest = &table[at..];
+        let Some(header) = entries::read_header(layout, rest) else {
+            return false;
+        };
+        let named = head + header.name as usize;
+        if entries::is_pair(header.kind, &rest[head..named], kind, name) {
+            return true;
+        }
+        at += header.size;
+    }
+    false
+}
+
 // The entry at a place in the check: the place after it, or why the table is refused. The marks are of the entries before it, and then of it too.
 fn step_at(
     layout: Layout,
@@ -116,7 +137,7 @@ fn step_at(
         return Err(TableError::Malformed(at));
     }
     if !marks::is_new(marks, header.kind, name)
-        && find_in(layout, &table[..at], header.kind, name).is_some()
+        && stands_in(layout, &table[..at], header.kind, name)
     {
         return Err(TableError::Repeated(at));
     }

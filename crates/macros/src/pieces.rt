@@ -121,7 +121,9 @@ fn read_braces(form: Form, s: &[u8]) -> Option<Found>
     }
 }
 
-// The piece at the front of a text; none at its end, and where what stands there is none.
+// The piece at the front of a text; none at its end, and where what stands there is none. Put into its callers, so that the answer isn't built in memory for
+// each byte.
+#[inline(always)]
 pub fn read_piece(form: Form, s: &[u8]) -> Option<Found>
     ensures { result ≡ piece_of form s.now }
 {

@@ -178,7 +178,11 @@ fn read_short(before: &[u8], after: &[u8]) -> Option<Address>
     }
     let m = right.at;
     if leave_group(n, m) {
-        octets[16 - m..].copy_from_slice(&behind[..m]);
+        let mut end = Writer {
+            out: &mut octets,
+            at: 16 - m,
+        };
+        end.put_all(&behind[..m]);
         return address::from_octets(&octets);
     }
     None

@@ -8,7 +8,7 @@ ghost use Rattle.rules.specs.Evaluation.{versioned};
 ghost use Rattle.rules.specs.Outcomes.{SaysSelection};
 ghost use Rattle.record_lookup.specs.Picking.{one_more, joined, PickedIs};
 
-use answer_table::items;
+use answer_table::items::Places;
 use rules::{LookedUp, Selected};
 use text::bytes;
 use text::spans::Span;
@@ -47,16 +47,13 @@ fn pick(table: &[u8], start: usize, end: usize) -> Picked
     ensures { PickedIs start (part table.now start end) (versioned (items_of (part table.now start end))) result }
 {
     let texts = bytes::part(table, start, end);
-    let mut at = 0;
     let mut seen = Picked::Nothing;
-    while at < texts.len() {
-        let next = items::next_item(texts, at);
-        let place = Span {
-            from: start + at + 2,
-            to: start + next,
+    for place in Places::new(texts) {
+        let text = Span {
+            from: start + place.from,
+            to: start + place.to,
         };
-        seen = join_text(table, seen, place);
-        at = next;
+        seen = join_text(table, seen, text);
     }
     seen
 }

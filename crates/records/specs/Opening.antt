@@ -13,6 +13,7 @@ use Rattle.records.specs.declared.opening.Unaided.{Unaided}
 use Rattle.records.specs.declared.opening.Opening.{Opening}
 use Rattle.text.specs.declared.spans.Span.{Span}
 use Rattle.records.specs.declared.opening.Modifiers.{Modifiers}
+use Rattle.records.specs.declared.opening.Met.{Met}
 use Rattle.records.specs.declared.Refusal.{Refusal}
 use Rattle.records.specs.declared.opening.Reading.{Reading}
 use Rattle.records.specs.Reader.{read_term, is_redirect, is_explanation, after_version, check_from, read_record, Reads}
@@ -91,6 +92,12 @@ pub record OpeningOf (client : Address) (s : List ℕ) (x : Result Reading Refus
 abbrev pub none_met : Modifiers
 none_met = record { redirect = None; exp = None }
 
+unfoldable pub modifier_at : Span → Option Span
+modifier_at m = cond (eqb m.to 0) None (Some m)
+
+abbrev pub modifiers_of : Met → Modifiers
+modifiers_of m = record { redirect = modifier_at m.redirect; exp = modifier_at m.exp }
+
 unfoldable pub is_met : Option Span → Bool
 is_met None = false
 is_met (Some x) = true
@@ -110,10 +117,10 @@ noted m p (Term.Network sign from to a n) = m
 noted m p (Term.Exists sign from to) = m
 noted m p (Term.Unknown name to) = m
 
--- the places of a redirect or exp that begins at p are numbers of the machine
+-- the places of a redirect or exp that begins at p are numbers of the machine, and not 0
 pub record NoteFits (p : ℕ) (x : Term) : Type 0 where
-  pub redirect : (from to : ℕ) → x ≡ Term.Redirect from to → (from ≤ to) × (p + to ≤ most_bytes)
-  pub exp : (from to : ℕ) → x ≡ Term.Explanation from to → (from ≤ to) × (p + to ≤ most_bytes)
+  pub redirect : (from to : ℕ) → x ≡ Term.Redirect from to → (from ≤ to) × (p + to ≤ most_bytes) × (0 < to)
+  pub exp : (from to : ℕ) → x ≡ Term.Explanation from to → (from ≤ to) × (p + to ≤ most_bytes) × (0 < to)
 
 -- an opening with one more term, read from i up to next
 unfoldable pub led_by : Unaided → ℕ → ℕ → Opening

@@ -1,6 +1,6 @@
 // A record read whole, and for a client: its leading terms are tried that need no lookup, so that they needn't be read again.
 ghost use Rattle.std.specs.Prelude.{◌≡◌, ◌≤◌, length};
-ghost use Rattle.records.specs.Opening.{unaided, led_on, repeated_by, NoteFits, noted, Opened, OpeningOf};
+ghost use Rattle.records.specs.Opening.{unaided, led_on, modifier_at, modifiers_of, is_met, repeated_by, NoteFits, noted, Opened, OpeningOf};
 
 use crate::{AFTER_VERSION, MOST_BYTES, ReadTerm, Reason, Refusal, Term, has_version, next_term};
 use address::Address;
@@ -27,6 +27,14 @@ pub enum Opening {
 pub struct Modifiers {
     pub redirect: Option<Span>,
     pub exp: Option<Span>,
+}
+
+// Where those of the redirect and the exp that were met stand, with both places 0 where none was met: what the walk over the terms carries, numbers
+// alone.
+#[derive(Clone, Copy)]
+pub struct Met {
+    pub redirect: Span,
+    pub exp: Span,
 }
 
 // What reading an accepted record for a client answers.
@@ -81,38 +89,67 @@ fn lead_on(opening: Opening, client: Address, at: usize, next: usize, term: Term
     Opening::Open { at: start }
 }
 
+// A modifier by its place.
+fn modifier_at(place: Span) -> Option<Span>
+    ensures { result ≡ modifier_at place }
+{
+    if place.to == 0 {
+        return None;
+    }
+    Some(place)
+}
+
+// The modifiers that were met.
+fn modifiers_of(met: Met) -> Modifiers
+    ensures { result ≡ modifiers_of met }
+{
+    Modifiers {
+        redirect: modifier_at(met.redirect),
+        exp: modifier_at(met.exp),
+    }
+}
+
+// Whether a modifier has been met.
+fn is_met(place: Span) -> bool
+    ensures { result ≡ is_met (modifier_at place) }
+{
+    place.to != 0
+}
+
 // Whether a term is a second redirect or a second exp, by those that have stood before it.
-fn repeats(modifiers: Modifiers, term: Term) -> bool
-    ensures { result ≡ repeated_by modifiers term }
+fn repeats(met: Met, term: Term) -> bool
+    ensures { result ≡ repeated_by (modifiers_of met) term }
 {
     match term {
-        Term::Redirect { .. } => modifiers.redirect.is_some(),
-        Term::Explanation { .. } => modifiers.exp.is_some(),
+        Term::Redirect { .. } => is_met(met.redirect),
+        Term::Explanation { .. } => is_met(met.exp),
         _ => false,
     }
 }
 
 // The modifiers met with one more term, which begins at a place.
-fn note(modifiers: Modifiers, place: usize, term: Term) -> Modifiers
+fn note(met: Met, place: usize, term: Term) -> Met
     requires { NoteFits place term }
-    ensures { result ≡ noted modifiers place term }
+    ensures { modifiers_of result ≡ noted (modifiers_of met) place term }
 {
+    let redirect = met.redirect;
+    let exp = met.exp;
     match term {
-        Term::Redirect { from, to } => Modifiers {
-            redirect: Some(Span {
+        Term::Redirect { from, to } => Met {
+            redirect: Span {
                 from: place + from,
                 to: place + to,
-            }),
-            exp: modifiers.exp,
+            },
+            exp,
         },
-        Term::Explanation { from, to } => Modifiers {
-            redirect: modifiers.redirect,
-            exp: Some(Span {
+        Term::Explanation { from, to } => Met {
+            redirect,
+            exp: Span {
                 from: place + from,
                 to: place + to,
-            }),
+            },
         },
-        _ => modifiers,
+        _ => met,
     }
 }
 
@@ -122,9 +159,9 @@ fn check_terms(s: &[u8], first: usize, client: Address) -> Result<Reading, Refus
     ensures { Opened client s.now first result }
 {
     let mut at = first;
-    let mut modifiers = Modifiers {
-        redirect: None,
-        exp: None,
+    let mut met = Met {
+        redirect: Span { from: 0, to: 0 },
+        exp: Span { from: 0, to: 0 },
     };
     let mut opening = Opening::Open { at: first };
     loop {
@@ -136,15 +173,18 @@ fn check_terms(s: &[u8], first: usize, client: Address) -> Result<Reading, Refus
             },
         ) = next_term(s, at)?
         else {
-            return Ok(Reading { opening, modifiers });
+            return Ok(Reading {
+                opening,
+                modifiers: modifiers_of(met),
+            });
         };
-        if repeats(modifiers, term) {
+        if repeats(met, term) {
             return Err(Refusal {
                 reason: Reason::Repeated,
                 at: place,
             });
         }
-        modifiers = note(modifiers, place, term);
+        met = note(met, place, term);
         opening = lead_on(opening, client, at, next, term);
         at = next;
     }

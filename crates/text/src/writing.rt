@@ -1,7 +1,7 @@
 // Writing bytes into a lent buffer: what fits is stored, and the place counts on.
 ghost use Rattle.std.specs.Prelude.{◌≡◌, [], ◌∷◌, map};
 ghost use Rattle.text.specs.Bytes.{lower};
-ghost use Rattle.text.specs.Writing.{Writes};
+ghost use Rattle.text.specs.Writing.{Wrote, Writes};
 
 use crate::bytes;
 
@@ -10,6 +10,28 @@ use crate::bytes;
 pub struct Writer<'a> {
     pub out: &'a mut [u8],
     pub at: usize,
+}
+
+// Writes one byte at a place; answers the place after it.
+fn put_byte(out: &mut [u8], at: usize, b: u8) -> usize
+    ensures { Wrote (b ∷ []) out.old at out.new result }
+{
+    if at < out.len() {
+        out[at] = b;
+    }
+    at.saturating_add(1)
+}
+
+// Writes a text from a place on; answers the place after it. Each byte has its own test: the copy of a whole slice is the C library's `memcpy` or `memmove`,
+// which the archive for C doesn't need.
+fn put_bytes(out: &mut [u8], at: usize, s: &[u8]) -> usize
+    ensures { Wrote s.now out.old at out.new result }
+{
+    let mut next = at;
+    for b in s {
+        next = put_byte(out, next, *b);
+    }
+    next
 }
 
 impl<'a> Writer<'a> {
@@ -26,20 +48,14 @@ impl<'a> Writer<'a> {
     pub fn put(&mut self, b: u8)
         ensures { Writes (b ∷ []) self.old self.new }
     {
-        if self.at < self.out.len() {
-            self.out[self.at] = b;
-        }
-        self.at = self.at.saturating_add(1);
+        self.at = put_byte(self.out, self.at, b);
     }
 
     // Writes a text.
     pub fn put_all(&mut self, s: &[u8])
         ensures { Writes s.now self.old self.new }
     {
-        let from = self.at.min(self.out.len());
-        let fits = s.len().min(self.out.len() - from);
-        self.out[from..from + fits].copy_from_slice(&s[..fits]);
-        self.at = self.at.saturating_add(s.len());
+        self.at = put_bytes(self.out, self.at, s);
     }
 
     // Writes a text with A to Z lowered.

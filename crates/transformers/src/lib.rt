@@ -54,12 +54,16 @@ impl<'a> Form<'a> {
         if self.is_listed(b) { b'.' } else { b }
     }
 
-    // Writes all parts in their order.
+    // Writes all parts in their order. Where nothing is escaped and only dots part a text, it is written as it stands.
     fn put_parts(&self, s: &[u8], out: &mut Writer)
         ensures { Writes (escaped self.now.escape (join (split (is_listed self.now.delimiters.now) s.now))) out.old out.new }
     {
         // Read so that its bound is known, which an empty text needs.
         let _start = out.at;
+        if !self.escape && self.delimiters.is_empty() {
+            out.put_all(s);
+            return;
+        }
         for b in s {
             self.put_escaped(self.dotted(*b), out);
         }

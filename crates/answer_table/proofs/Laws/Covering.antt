@@ -1,13 +1,15 @@
 -- The marks against the entries before a place: a pair with a clear mark isn't found there, and an entry more whose pair is marked leaves that so.
 -- From the laws of marks, of entries and of finding.
-use Rattle.std.proofs.Common.{is_some, Option, Some, Result, Ok}
-use Prim.Native.Nat.{ℕ, ◌+◌}
+use Rattle.std.proofs.Common.{is_some, Option, Some, None, Result, Ok}
+use Prim.Native.Nat.{ℕ, ◌+◌, ◌<◌, ◌≤◌}
 use native.Mathlib.Omega.{arith}
 use mathlib.Core.Path.{◌≡◌, refl, sym, subst, ◌∙◌}
 use mathlib.Core.List.{List, [], ◌∷◌, ◌++◌}
 use mathlib.Core.Bool.{Bool, true, false}
-use lib.ListN.{take, drop}
+use lib.Dec.{ltb}
+use lib.ListN.{length, take, drop}
 use lib.Seq.{take-add}
+use borrow.Author.Tests.{lt-ltb, le-ltb}
 use Rattle.text.proofs.Laws.Tests.{true_false, test_fails}
 use Rattle.answer_table.specs.Layout.{Entry, EncodesIn, none, holds}
 use Rattle.answer_table.specs.Marks.{is_pair_marked, NotesPair, noted, unmarked, Covered, CoveredAfter}
@@ -19,9 +21,17 @@ use Rattle.answer_table.proofs.Laws.Entries.{entries_snoc, holds_snoc, pair_is}
 use Rattle.answer_table.proofs.Laws.Finding.{found_iff}
 use Rattle.answer_table.proofs.Laws.Marks.{pair_kept}
 
-pub covered_start : (lay : Layout) (t : List ℕ) (marks : Option Marks) → Covered lay t 0 marks
+pub covered_start : (lay : Layout) (t : List ℕ) (marks : Option Marks) → is_some marks ≡ ltb 512 (length t) → Covered lay t 0 marks
 unfolding holds
-covered_start lay t marks = record { before = []; entries = none; marked = λ m q kind name h. absurd (true_false false h refl) }
+covered_start lay t marks large = record { before = []; entries = none; large = large; marked = λ m q kind name h. absurd (true_false false h refl) }
+
+-- marks that are made in a table of more than 512 bytes, and in no other
+module _ (t : List ℕ) (marks : Option Marks) where
+  pub marks_made : (m : Marks) → marks ≡ Some m → 512 < length t → is_some marks ≡ ltb 512 (length t)
+  marks_made m e h = rw e (sym (lt-ltb 512 (length t) h))
+
+  pub marks_unmade : marks ≡ None → length t ≤ 512 → is_some marks ≡ ltb 512 (length t)
+  marks_unmade e h = rw e (sym (le-ltb 512 (length t) h))
 
 module _ (lay : Layout) (t : List ℕ) (i : ℕ) (marks : Option Marks) (c : Covered lay t i marks) where
   covered_missing : (m : Marks) → marks ≡ Some m → (kind : ℕ) (name : List ℕ) → is_pair_marked m.words kind name ≡ false
@@ -46,9 +56,15 @@ module _ (lay : Layout) (t : List ℕ) (i : ℕ) (marks : Option Marks) (c : Cov
   covered_next size e new after p n = record {
     before = c.before ++ (e ∷ []);
     entries = rw take-add (entries_snoc c.entries p);
+    large = stays n refl;
     marked = by n refl;
   }
     where
+      stays : {before after : Option Marks} {new : Bool} → NotesPair e.kind e.name before new after → marks ≡ before
+          → is_some after ≡ ltb 512 (length t)
+      stays (noted p) q = subst (λ (m : Option Marks). is_some m ≡ ltb 512 (length t)) q c.large
+      stays unmarked q = subst (λ (m : Option Marks). is_some m ≡ ltb 512 (length t)) q c.large
+
       by : {before after : Option Marks} {new : Bool} → NotesPair e.kind e.name before new after → marks ≡ before → (m : Marks) → after ≡ Some m
           → (kind : ℕ) (name : List ℕ) → holds kind name (c.before ++ (e ∷ [])) ≡ true → is_pair_marked m.words kind name ≡ true
       by (noted {before = b} {after = a} p) q m r kind name h =

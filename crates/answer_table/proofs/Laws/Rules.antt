@@ -137,12 +137,19 @@ module _ (lay : Layout) (t : List ℕ) (kind : ℕ) (name : List ℕ) (i : ℕ) 
         unfolding found_of
         find_here b life y = rw (g, y, rest_part t i) (found_here b)
 
+        pub stands_here : m ≡ true → true ≡ is_some (find_in lay t kind name)
+        stands_here b = ap is_some (found_here b)
+
         pub find_next : m ≡ false → Search lay t kind name (i + h.size)
         find_next b = by s.turns s.enough s.rest
           where
             by : (f : ℕ) → length t ≤ f + i → find_from lay f t kind name i ≡ find_in lay t kind name → Search lay t kind name (i + h.size)
             by zero l r = absurd (omega arith)
             by (suc f) l r = record { turns = f; enough = omega (arith, find_less); rest = sym (turn f ∙ rw b) ∙ r }
+
+-- `stands_in`: where the search misses
+pub stands_none : (lay : Layout) (t : List ℕ) (kind : ℕ) (name : List ℕ) → None ≡ find_in lay t kind name → false ≡ is_some (find_in lay t kind name)
+stands_none lay t kind name e = ap is_some e
 
 -- `found_items`: the range of the entry that was found, where the table has one
 pub items_missing : (t : List ℕ) (x : Option Found) → x ≡ None → [] ≡ found_items t x

@@ -4,4 +4,4 @@ use Rattle.client_match.proofs.Laws.Asked.{front_written}
 use Rattle.client_match.proofs.put_name.Goals as goal
 
 pub returns : goal.returns
-returns c = front_written _ _ _ _ _ _ _ c.new-w.ensures.out c.new-w.ensures.at c.put_all.ensures.wrote (search (rules, c.well_formed))
+returns c = front_written _ _ _ _ _ _ _ (search rules) (search rules) c.put_all.ensures.wrote (search (rules, c.well_formed))

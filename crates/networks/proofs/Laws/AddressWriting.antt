@@ -5,14 +5,14 @@ use Prim.Native.Nat.{ℕ, ◌+◌, ◌-◌, ◌≤◌}
 use mathlib.Core.Path.{◌≡◌, sym, ap, ◌∙◌}
 use mathlib.Core.List.{List, [], ◌++◌, append-nil}
 use native.Mathlib.Omega.{arith}
-use lib.ListN.{length, take, drop, replicate, drop_of_length-le, length-drop}
-use lib.Seq.{take_at, sets, sets-eq}
+use lib.ListN.{length, take, drop, replicate, drop_of_length-le}
+use lib.Seq.{take_at}
 use mathlib.Core.Bool.{Bool, true, false}
 use lib.Dec.{leb}
 use borrow.Author.Tests.{leb-true, leb-false, eq-eqb, ne_eqb, le-leb, lt-leb}
 use Rattle.text.specs.Writing.{Wrote}
 use Rattle.text.specs.declared.writing.Writer.{Writer}
-use Rattle.text.proofs.Laws.Writing.{wrote_front, length_wrote}
+use Rattle.text.proofs.Laws.Writing.{wrote_front}
 use Rattle.address.specs.Octets.{from_octets}
 use Rattle.networks.specs.Grammar.{filled}
 use Rattle.networks.specs.Reader6.{Reading, groups, refused, octet_pairs, full_of, short_of, RowWritten, written, none}
@@ -46,10 +46,10 @@ eight_read gs z o n w h l r p =
 
 -- the octets of both sides, at the front and at the end of zeros
 filled_read : (ls rs z o : List ℕ) (n : ℕ) → Wrote (octet_pairs ls) z 0 o n → (z' right : List ℕ) (m : ℕ) → Wrote (octet_pairs rs) z' 0 right m
-    → n + m ≤ 14 → z ≡ replicate 16 0 → length z' ≡ 16 → (o₂ : List ℕ) → o₂ ≡ take (16 - m) o ++ (take m right ++ drop (16 - (16 - m)) (drop (16 - m) o))
+    → n + m ≤ 14 → z ≡ replicate 16 0 → length z' ≡ 16 → (o₂ : List ℕ) (k : ℕ) → Wrote (take m right) o (16 - m) o₂ k
     → (r : Option Address) → r ≡ from_octets o₂ → r ≡ short_of (groups ls) (groups rs)
 unfolding short_of
-filled_read ls rs z o n w z' right m w' most zeros size o₂ v r p =
+filled_read ls rs z o n w z' right m w' most zeros size o₂ k v r p =
     let a = w.next_place in
     let b = w'.next_place in
     let c = length_pairs ls in
@@ -60,13 +60,7 @@ filled_read ls rs z o n w z' right m w' most zeros size o₂ v r p =
     let length_right : length (octet_pairs rs) ≡ m = omega arith in
     let part : take m right ≡ octet_pairs rs =
     ap (take m) (wrote_front (octet_pairs rs) z' right m w' (omega arith)) ∙ take_at (octet_pairs rs) (drop (length (octet_pairs rs)) z') m length_right in
-    let sixteen_too : length o ≡ 16 = length_wrote z 0 (octet_pairs ls) o n w ∙ sixteen in
-    let end : drop (16 - (16 - m)) (drop (16 - m) o) ≡ [] = drop_of_length-le (drop (16 - m) o) {i = 16 - (16 - m)} (simp length-drop (omega arith)) in
-    let past : drop (16 - m + length (octet_pairs rs)) o ≡ [] = drop_of_length-le o {i = 16 - m + length (octet_pairs rs)} (omega arith) in
-    let stored : o₂ ≡ sets o (16 - m) (octet_pairs rs) =
-    v ∙ rw (part, end, append-nil (octet_pairs rs))
-    (sym (sets-eq (octet_pairs rs) o (16 - m) (omega arith) ∙ rw past (append-nil (take (16 - m) o ++ octet_pairs rs)))) in
-    let all : o₂ ≡ octet_pairs (filled ls rs) = stored ∙ rw (left, ← length_right) (filled_octets ls rs seven) in
+    let all : o₂ ≡ octet_pairs (filled ls rs) = v.text ∙ rw (part, left, ← length_right) (filled_octets ls rs seven) in
     p ∙ rw (all, le-leb (length ls + length rs) 7 seven) (eight_address (filled ls rs) (length_filled ls rs seven))
 
 -- octets that leave a group are within an address's 16
@@ -115,10 +109,11 @@ module _ (x y : Reading) (a b : Writer) (e : Bool) (w : RowWritten x a b e) (fro
           let over = leb-false (b.at + b'.at) 14 (sym k ∙ h) in
           rw (f.reads, g.reads, lt-leb (length f.gs + length g.gs) 7 (omega (arith, f.wrote.next_place, g.wrote.next_place, length_pairs f.gs, length_pairs g.gs)))
 
-      pub short_filled : t ≡ true → a.out.now ≡ replicate 16 0 → length a'.out.now ≡ 16 → (o : List ℕ) → o ≡ b.out.now → (end : List ℕ) → end ≡ take b'.at b'.out.now
-          → (r : Option Address) → r ≡ from_octets (take (16 - b'.at) o ++ (end ++ drop (16 - (16 - b'.at)) (drop (16 - b'.at) o))) → r ≡ short_of x y
-      short_filled h zeros size o u end v r p =
+      pub short_filled : t ≡ true → a.out.now ≡ replicate 16 0 → length a'.out.now ≡ 16 → (o : List ℕ) → o ≡ b.out.now → (right : List ℕ) → right ≡ b'.out.now
+          → (o₂ : List ℕ) (i : ℕ) → Wrote (take b'.at right) o (16 - b'.at) o₂ i → (all : List ℕ) → all ≡ o₂ → (r : Option Address) → r ≡ from_octets all → r ≡ short_of x y
+      short_filled h zeros size o u right u' o₂ i v all l r p =
           let f = filled_at x a b e w front q in
           let g = filled_at y a' b' e' w' front' q' in
-          filled_read f.gs g.gs a.out.now b.out.now b.at f.wrote a'.out.now b'.out.now b'.at g.wrote (leb-true (b.at + b'.at) 14 (sym k ∙ h)) zeros size _ (rw (u, v)) r p
+          filled_read f.gs g.gs a.out.now b.out.now b.at f.wrote a'.out.now b'.out.now b'.at g.wrote (leb-true (b.at + b'.at) 14 (sym k ∙ h)) zeros size o₂ i (rw (u, u') at v) r
+          (p ∙ ap from_octets l)
           ∙ ap (λ (t : Reading). short_of t (groups g.gs)) (sym f.reads) ∙ ap (short_of x) (sym g.reads)

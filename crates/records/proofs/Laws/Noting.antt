@@ -1,13 +1,15 @@
--- The modifiers met, with one more term: the ways out of `repeats` and `note`, and that the places noted are where the
+-- The modifiers met, with one more term: the ways out of `modifier_at`, `is_met`, `repeats` and `note`, and that the places noted are where the
 -- modifiers stand. From the definitions of Opening and the laws of Standing, by whether the term is a redirect, an exp or neither.
-use Rattle.std.proofs.Common.{None, Option, Some, is_some}
-use Prim.Native.Nat.{ℕ, ◌+◌}
+use Rattle.std.proofs.Common.{None, Option, Some}
+use Prim.Native.Nat.{ℕ, ◌+◌, ◌<◌}
 use mathlib.Core.Path.{◌≡◌, refl, sym, ap, ◌∙◌}
 use mathlib.Core.List.{List}
-use mathlib.Core.Bool.{Bool, false, ◌||◌, and-true, and-false, or-true, or-false}
+use mathlib.Core.Bool.{Bool, true, false, not, cond, ◌||◌, and-true, and-false, or-true, or-false}
 use native.Mathlib.Omega.{arith}
 use mir.Syntax.{w64}
 use mir.Val.{Fits}
+use lib.Dec.{eqb}
+use borrow.Author.Tests.{eq-eqb, ne_eqb}
 use Rattle.text.specs.Bytes.{part}
 use Rattle.text.specs.Texts.{bytes}
 use Rattle.records.specs.Numbers.{said_of, term_at}
@@ -15,7 +17,8 @@ use Rattle.records.specs.Reader.{read_term, is_redirect, is_explanation}
 use Rattle.records.specs.declared.Term.{Term}
 use Rattle.text.specs.declared.spans.Span.{Span}
 use Rattle.records.specs.declared.opening.Modifiers.{Modifiers}
-use Rattle.records.specs.Opening.{is_met, repeated_by, noted, NoteFits, span}
+use Rattle.records.specs.declared.opening.Met.{Met}
+use Rattle.records.specs.Opening.{modifier_at, modifiers_of, is_met, repeated_by, noted, NoteFits, span}
 use Rattle.records.proofs.Laws.Tokens.{redirect_name, explanation_name}
 use Rattle.records.proofs.Laws.Arguments.{stands, redirect_argument, explanation_argument}
 use Rattle.records.proofs.Laws.Standing.{Sought, sought_other, sought_here}
@@ -51,37 +54,67 @@ told_neither redirect h k = absurd (h _ _ refl)
 told_neither exp h k = absurd (k _ _ refl)
 told_neither (neither n) h k = n
 
--- what has been met, as the code tells it
-pub met_is : (m : Option Span) (x : Bool) → x ≡ is_some m → x ≡ is_met m
-unfolding is_met
-met_is (Some t) x e = e
-met_is None x e = e
+-- a modifier by its place
+module _ (m : Span) where
+  pub at_none : m.to ≡ 0 → None ≡ modifier_at m
+  unfolding modifier_at
+  at_none h = sym (simp (eq-eqb m.to 0 h))
+
+  pub at_some : (m.to ≡ 0 → ⊥) → Some m ≡ modifier_at m
+  unfolding modifier_at
+  at_some h = sym (simp (ne_eqb m.to 0 h))
+
+  pub met_by : not (eqb m.to 0) ≡ is_met (modifier_at m)
+  unfolding is_met modifier_at
+  met_by = by (eqb m.to 0)
+    where
+      by : (b : Bool) → not b ≡ is_met (cond b None (Some m))
+      by true = refl
+      by false = refl
 
 module _ (m : Modifiers) (t : Term) where
-  pub repeats_redirect : (from to : ℕ) → t ≡ Term.Redirect from to → (x : Bool) → x ≡ is_met m.redirect → x ≡ repeated_by m t
+  repeats_redirect : (from to : ℕ) → t ≡ Term.Redirect from to → (x : Bool) → x ≡ is_met m.redirect → x ≡ repeated_by m t
   unfolding repeated_by is_redirect is_explanation
   repeats_redirect from to e x h = h ∙ sym (simp (e, and-true, and-false, or-false))
 
-  pub repeats_exp : (from to : ℕ) → t ≡ Term.Explanation from to → (x : Bool) → x ≡ is_met m.exp → x ≡ repeated_by m t
+  repeats_exp : (from to : ℕ) → t ≡ Term.Explanation from to → (x : Bool) → x ≡ is_met m.exp → x ≡ repeated_by m t
   unfolding repeated_by is_redirect is_explanation
   repeats_exp from to e x h = h ∙ sym (simp (e, and-true, and-false))
 
-  pub repeats_neither : ((from to : ℕ) → t ≡ Term.Redirect from to → ⊥) → ((from to : ℕ) → t ≡ Term.Explanation from to → ⊥) → false ≡ repeated_by m t
+  repeats_neither : ((from to : ℕ) → t ≡ Term.Redirect from to → ⊥) → ((from to : ℕ) → t ≡ Term.Explanation from to → ⊥) → false ≡ repeated_by m t
   unfolding repeated_by
   repeats_neither h k = let n = told_neither (case_of t) h k in sym (simp (n.no_redirect, n.no_exp, and-false))
 
--- `note`
-module _ (m : Modifiers) (p : ℕ) (t : Term) where
-  pub note_redirect : (from to : ℕ) → t ≡ Term.Redirect from to → record { redirect = Some (span (p + from) (p + to)); exp = m.exp } ≡ noted m p t
-  unfolding noted
-  note_redirect from to e = ap (noted m p) (sym e)
+-- `repeats`, `note`
+module _ (m : Met) (t : Term) where
+  pub met_redirect : (from to : ℕ) → t ≡ Term.Redirect from to → (x : Bool) → x ≡ is_met (modifier_at m.redirect) → x ≡ repeated_by (modifiers_of m) t
+  met_redirect = repeats_redirect (modifiers_of m) t
 
-  pub note_exp : (from to : ℕ) → t ≡ Term.Explanation from to → record { redirect = m.redirect; exp = Some (span (p + from) (p + to)) } ≡ noted m p t
-  unfolding noted
-  note_exp from to e = ap (noted m p) (sym e)
+  pub met_exp : (from to : ℕ) → t ≡ Term.Explanation from to → (x : Bool) → x ≡ is_met (modifier_at m.exp) → x ≡ repeated_by (modifiers_of m) t
+  met_exp = repeats_exp (modifiers_of m) t
 
-  pub note_neither : ((from to : ℕ) → t ≡ Term.Redirect from to → ⊥) → ((from to : ℕ) → t ≡ Term.Explanation from to → ⊥) → m ≡ noted m p t
-  note_neither h k = sym ((told_neither (case_of t) h k).kept m p)
+  pub met_neither : ((from to : ℕ) → t ≡ Term.Redirect from to → ⊥) → ((from to : ℕ) → t ≡ Term.Explanation from to → ⊥) → false ≡ repeated_by (modifiers_of m) t
+  met_neither = repeats_neither (modifiers_of m) t
+
+  module _ (p : ℕ) (f : NoteFits p t) where
+    part_of : (from to : ℕ) → 0 < to → modifier_at (span (p + from) (p + to)) ≡ Some (span (p + from) (p + to))
+    part_of from to h = sym (at_some (span (p + from) (p + to)) (λ z. omega (arith, h, z)))
+
+    pub note_redirect : (from to : ℕ) → t ≡ Term.Redirect from to
+        → modifiers_of (record { redirect = span (p + from) (p + to); exp = m.exp }) ≡ noted (modifiers_of m) p t
+    unfolding noted
+    note_redirect from to e =
+        ap (λ (x : Option Span). record { redirect = x; exp = modifier_at m.exp }) (part_of from to (f.redirect from to e).2) ∙ ap (noted (modifiers_of m) p) (sym e)
+
+    pub note_exp : (from to : ℕ) → t ≡ Term.Explanation from to
+        → modifiers_of (record { redirect = m.redirect; exp = span (p + from) (p + to) }) ≡ noted (modifiers_of m) p t
+    unfolding noted
+    note_exp from to e =
+        ap (λ (x : Option Span). record { redirect = modifier_at m.redirect; exp = x }) (part_of from to (f.exp from to e).2) ∙ ap (noted (modifiers_of m) p) (sym e)
+
+    pub note_neither : ((from to : ℕ) → t ≡ Term.Redirect from to → ⊥) → ((from to : ℕ) → t ≡ Term.Explanation from to → ⊥)
+        → modifiers_of m ≡ noted (modifiers_of m) p t
+    note_neither h k = sym ((told_neither (case_of t) h k).kept (modifiers_of m) p)
 
 -- its sums
 module _ (p : ℕ) (t : Term) (f : NoteFits p t) (from to : ℕ) where
@@ -99,8 +132,8 @@ module _ (p : ℕ) (t : Term) (f : NoteFits p t) (from to : ℕ) where
 
 pub note_fits : (s : List ℕ) (i p n : ℕ) (t : Term) → read_term s i ≡ term_at p n t → NoteFits p t
 note_fits s i p n t q = record {
-  redirect = λ from to e. let a = redirect_argument s i p n from to (q ∙ ap (term_at p n) e) in (a.order, a.fits);
-  exp = λ from to e. let a = explanation_argument s i p n from to (q ∙ ap (term_at p n) e) in (a.order, a.fits);
+  redirect = λ from to e. let a = redirect_argument s i p n from to (q ∙ ap (term_at p n) e) in (a.order, a.fits, omega (arith, a.first, a.order));
+  exp = λ from to e. let a = explanation_argument s i p n from to (q ∙ ap (term_at p n) e) in (a.order, a.fits, omega (arith, a.first, a.order));
 }
 
 -- which are met then

@@ -23,7 +23,7 @@ use Rattle.records.specs.declared.opening.Reading.{Reading}
 use Rattle.records.specs.declared.Refusal.{Refusal}
 use Rattle.records.specs.Answers.{most_bytes}
 use Rattle.records.specs.Reader.{read_term, is_redirect, is_explanation, check_after, check_from, has_version, read_record, after_version}
-use Rattle.records.specs.Opening.{unaided, Passing, Leads, Opened, OpeningOf, answer_of, none_met, is_met, repeated_by, noted, NoteFits, led_by, led_on}
+use Rattle.records.specs.Opening.{modifier_at, modifiers_of, unaided, Passing, Leads, Opened, OpeningOf, answer_of, none_met, is_met, repeated_by, noted, NoteFits, span, led_by, led_on}
 use Rattle.records.proofs.Laws.Checking.{Checking, checking_start, checking_ended, checking_repeats, checking_less, checking_next, record_long, record_other, record_checked}
 use Rattle.records.proofs.Laws.Standing.{Sought, sought_start, sought_end}
 use Rattle.records.proofs.Laws.Noting.{case_of, redirect_met, exp_met, redirect_next, exp_next, note_fits}
@@ -114,14 +114,19 @@ pub record Opens (client : Address) (s : List ℕ) (i₀ i : ℕ) (m : Modifiers
   pub redirect : Sought s (bytes "redirect") i₀ i m.redirect
   pub exp : Sought s (bytes "exp") i₀ i m.exp
 
-pub opens_begin : (client : Address) (s : List ℕ) (i : ℕ) → i ≤ length s → Opens client s i i none_met (Opening.Open i)
+opens_start : (client : Address) (s : List ℕ) (i : ℕ) → i ≤ length s → Opens client s i i none_met (Opening.Open i)
 unfolding is_met
-opens_begin client s i h = record {
+opens_start client s i h = record {
   checks = checking_start s i h;
   leads = passing Passing.none;
   redirect = sought_start s (bytes "redirect") i;
   exp = sought_start s (bytes "exp") i;
 }
+
+pub opens_begin : (client : Address) (s : List ℕ) (i : ℕ) → i ≤ length s
+    → Opens client s i i (modifiers_of (record { redirect = span 0 0; exp = span 0 0 })) (Opening.Open i)
+unfolding modifier_at
+opens_begin client s i h = opens_start client s i h
 
 -- a refusal tells nothing of the terms
 refused_opened : (client : Address) (s : List ℕ) (i : ℕ) (x : Refusal) → ((f : ℕ) → length s < f + i → Err x ≡ check_from f s i false false)
@@ -156,9 +161,10 @@ module _ (client : Address) (s : List ℕ) (i₀ i : ℕ) (m : Modifiers) (o : O
     unfolding check_after
     opens_refused x q = refused_opened client s i₀ x (checking_ended s i₀ i r e w.checks (Err x) (sym q ∙ p) (Err x) (λ rest. refl))
 
-    pub opens_end_at : (x : Option ReadTerm) → a ≡ Ok x → ((t : ReadTerm) → x ≡ Some t → ⊥) → Opened client s i₀ (Ok (record { opening = o; modifiers = m }))
-    opens_end_at None q h = opens_end q
-    opens_end_at (Some t) q h = absurd (h t refl)
+    pub opens_end_at : (x : Option ReadTerm) → a ≡ Ok x → ((t : ReadTerm) → x ≡ Some t → ⊥) → (y : Modifiers) → y ≡ m
+        → Opened client s i₀ (Ok (record { opening = o; modifiers = y }))
+    opens_end_at None q h y e = rw e (opens_end q)
+    opens_end_at (Some t) q h y e = absurd (h t refl)
 
     module _ (y : Option ReadTerm) (u : a ≡ Ok y) (t : ReadTerm) (v : y ≡ Some t) where
       q : a ≡ Ok (Some t)

@@ -3,7 +3,7 @@ use Rattle.records.proofs.Laws.Pointing.{point_small, point_fits, point_outside,
 use Rattle.records.proofs.point.Goals as goal
 
 pub longest_beginning-requires : goal.longest_beginning-requires
-longest_beginning-requires c = let h = c.requires c.in-Outside.is in search point_small
+longest_beginning-requires c = search (point_small, c.requires)
 
 pub overflow_add-at : goal.overflow_add-at
 overflow_add-at c = search point_fits

@@ -5,9 +5,9 @@ use native.Mathlib.Numerals.{add-one}
 use native.Mathlib.Nat.{add-zero, zero-add, add-suc, suc-add}
 use mathlib.Core.Path.{◌≡◌, refl, sym, ap, ◌∙◌}
 use mathlib.Core.Logic.{⊎_elim}
-use mathlib.Core.List.{List, [], ◌∷◌, ◌++◌, map, map-append, append_assoc, append-nil}
+use mathlib.Core.List.{List, [], ◌∷◌, ◌++◌, map, map-append, map-id, append_assoc, append-nil}
 use lib.ListN.{length, get_or, take, drop, set, length-append, length-take, take-append-drop, drop_of_length-le}
-use lib.Seq.{sets, length-sets, sets-eq, set_out, take-suc, take_all, take_at, length-take-le, drop-drop}
+use lib.Seq.{sets, length-sets, sets-eq, set_out, take-suc, take_all, take_at, length-take-le}
 use Rattle.text.specs.Writing.{Wrote, overwritten}
 use Rattle.text.proofs.Laws.Orders.{le_or_lt}
 
@@ -101,41 +101,6 @@ module _ (xs z v : List ℕ) (n : ℕ) (w : Wrote xs z 0 v n) (h : length xs ≤
   pub value_whole : n ≡ length (take n v)
   value_whole = simp length-take (let i = value_inside in omega arith)
 
--- `put_all`: as many bytes as fit are copied from a place on, as far as it lies inside
-module _ (xs before : List ℕ) (at from fits : ℕ) (p : from ≡ min at (length before)) (q : fits ≡ min (length xs) (length before - from)) where
-  placed : sets before at xs ≡ take from before ++ (take fits xs ++ drop (from + fits - from) (drop from before))
-  placed = rest ∙ ap (λ (t : List ℕ). take from before ++ (take fits xs ++ t)) (sym (ap (λ (n : ℕ). drop n (drop from before)) (omega arith) ∙ drop-drop fits from before))
-    where
-      all_out : length before ≤ at → sets before at xs ≡ take from before ++ (take fits xs ++ drop (from + fits) before)
-      all_out h =
-          let e : from ≡ length before = omega arith in
-          let f : fits ≡ 0 = omega arith in
-          sets_out xs before at h ∙ sym (rw (e, f, take_all (length before) before (omega arith), drop_of_length-le before {i = length before + 0} (omega arith), append-nil))
-
-      here : at < length before → from ≡ at
-      here h = omega arith
-
-      inside : at < length before → at + length xs ≤ length before → sets before at xs ≡ take from before ++ (take fits xs ++ drop (from + fits) before)
-      inside h k =
-          let f : fits ≡ length xs = omega arith in
-          sets-eq xs before at k ∙ append_assoc (take at before) xs (drop (at + length xs) before) ∙ sym (rw (here h, f, take_all (length xs) xs (omega arith)))
-
-      long : at < length before → length before ≤ at + length xs → sets before at xs ≡ take from before ++ (take fits xs ++ drop (from + fits) before)
-      long h k =
-          let f : fits ≡ length before - at = omega arith in
-          sets_long xs before at (omega arith) k ∙ sym (rw (here h, f, drop_of_length-le before {i = at + (length before - at)} (omega arith), append-nil))
-
-      rest : sets before at xs ≡ take from before ++ (take fits xs ++ drop (from + fits) before)
-      rest = ⊎_elim (λ (h : length before ≤ at). all_out h)
-          (λ (h : at < length before). ⊎_elim (λ (k : at + length xs ≤ length before). inside h k) (λ (k : length before < at + length xs). long h (omega arith))
-          (le_or_lt (at + length xs) (length before)))
-          (le_or_lt (length before) at)
-
-  pub copied_over : (next : ℕ) (part : List ℕ) → length before < 2 ^ 64 → next ≡ min (at + length xs) 18446744073709551615 → part ≡ take fits xs
-      → Wrote xs before at (take from before ++ (part ++ drop (from + fits - from) (drop from before))) next
-  copied_over next part h n e =
-      record { next_place = n; room = omega arith; text = rw e (sym placed) }
-
 -- a loop that writes f of each byte: the bytes passed, and what was written of them
 module _ (f : ℕ → ℕ) (s out : List ℕ) (at : ℕ) where
   pub record Copied (i : ℕ) (o : List ℕ) (n : ℕ) : Type 0 where
@@ -155,3 +120,11 @@ module _ (f : ℕ → ℕ) (s out : List ℕ) (at : ℕ) where
 
     pub copied_end : length s ≤ i → Wrote (map f s) out at o n
     copied_end h = rw (sym (take_all i s h)) p.wrote
+
+-- the same of a plain copy
+module _ (s out : List ℕ) (at i : ℕ) (o : List ℕ) (n : ℕ) (p : Copied (λ b. b) s out at i o n) where
+  pub plain_next : i < length s → (o' : List ℕ) (n' : ℕ) → Wrote (get_or s i 0 ∷ []) o n o' n' → Copied (λ b. b) s out at (i + 1) o' n'
+  plain_next h o' n' w = copied_next (λ b. b) s out at i o n p h (get_or s i 0) refl o' n' w
+
+  pub plain_end : length s ≤ i → Wrote s out at o n
+  plain_end h = rw map-id at (copied_end (λ b. b) s out at i o n p h)

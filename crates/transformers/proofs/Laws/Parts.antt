@@ -14,7 +14,7 @@ use Rattle.text.specs.Lists.{split, separator_before, join_by, join, rightmost}
 use Rattle.text.specs.Writing.{Wrote}
 use Rattle.text.proofs.Laws.Parts.{rightmost_none, rightmost_all, rightmost_append, rightmost_reverse}
 use Rattle.text.proofs.Laws.Spans.{rest_part, drop_before}
-use Rattle.text.proofs.Laws.Splitting.{Some, some, some_snoc, split_some, split_append, join_split, count_in, count_out, count_le, join_snoc}
+use Rattle.text.proofs.Laws.Splitting.{Some, some, some_snoc, split_some, split_append, join_split, count_in, count_out, count_le, join_snoc, join_dots}
 use Rattle.text.proofs.Laws.Writing.{wrote_none, wrote_then}
 use Rattle.transformers.specs.Transform.{is_listed, reversed_if, kept, escaped_byte, escaped, transformed}
 use Rattle.transformers.proofs.Laws.Delimiters.{one_part, front_alone, first_part}
@@ -43,6 +43,18 @@ module _ (s ds : List ℕ) (escape : Bool) (out : List ℕ) (at : ℕ) where
 
     pub written_end : length s ≤ i → Wrote (escaped escape (join (split (is_listed ds) s))) out at o n
     written_end h = rw (join_split, ← take_all i s h) p.wrote
+
+-- nothing is escaped, and only dots part a text: it is written as it stands
+plain : (s : List ℕ) → escaped false s ≡ s
+unfolding escaped escaped_byte
+plain [] = refl
+plain (b ∷ s) = ap (λ (t : List ℕ). b ∷ t) (plain s)
+
+pub written_plain : (s ds : List ℕ) (escape : Bool) → escape ≡ false → length ds ≡ 0 → (out : List ℕ) (at : ℕ) (o : List ℕ) (n : ℕ) → Wrote s out at o n
+    → Wrote (escaped escape (join (split (is_listed ds) s))) out at o n
+unfolding is_listed
+written_plain s [] escape e z out at o n w = rw (e, plain, join_dots) w
+written_plain s (d ∷ ds) escape e z out at o n w = absurd (omega arith)
 
 -- `put_reversed`
 one_reversed : (n : ℕ) (x : List ℕ) → 0 < n → reverse (take n (x ∷ [])) ≡ x ∷ []

@@ -12,7 +12,8 @@ returns-then-not-put_side-2 c = short_no_right _ _ _ _ _ c.put_side.ensures.row 
 pub returns-then-leave_group : goal.returns-then-leave_group
 returns-then-leave_group c =
     short_filled _ _ _ _ _ c.put_side.ensures.row c.new-left.ensures.at c.if-not-put_side.false _ _ _ c.put_side-2.ensures.row c.new-right.ensures.at
-    c.if-not-put_side-2.false _ c.leave_group.ensures c.if-leave_group.true (simp c.new-left.ensures.out) (simp c.new-right.ensures.out) _ (search rules) _ (search rules) _ c.from_octets.ensures
+    c.if-not-put_side-2.false _ c.leave_group.ensures c.if-leave_group.true (simp c.new-left.ensures.out) (simp c.new-right.ensures.out) _ (search rules) _ (search rules) _ _
+    c.put_all.ensures.wrote _ (search rules) _ c.from_octets.ensures
 
 pub returns : goal.returns
 returns c = short_over _ _ _ _ _ c.put_side.ensures.row c.new-left.ensures.at c.if-not-put_side.false _ _ _ c.put_side-2.ensures.row c.new-right.ensures.at c.if-not-put_side-2.false _ c.leave_group.ensures c.if-leave_group.false

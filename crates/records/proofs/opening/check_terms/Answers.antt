@@ -15,8 +15,8 @@ returns-in_err-place c =
 pub returns-then-repeats : goal.returns-then-repeats
 returns-then-repeats c = search (opens_repeats, c.in_ok-place.was)
 
-pub note-modifiers-requires : goal.note-modifiers-requires
-note-modifiers-requires c = search (opens_notes, c.in_ok-place.was)
+pub note-met-requires : goal.note-met-requires
+note-met-requires c = search (opens_notes, c.in_ok-place.was)
 
 pub loop-place-smaller : goal.loop-place-smaller
 loop-place-smaller c = search (opens_less, c.in_ok-place.was)

@@ -3,10 +3,11 @@
 use Rattle.records.proofs.Laws.Openings.{Opens}
 use Prim.Native.Nat.{◌+◌, ◌-◌}
 use lib.ListN.{length}
+use Rattle.records.specs.Opening.{modifiers_of}
 use Rattle.records.proofs.opening.check_terms.Given as goal
 
 abbrev pub invariant-loop-place : goal.invariant-loop-place
-invariant-loop-place l = Opens l.client l.s l.first l.at l.modifiers l.opening
+invariant-loop-place l = Opens l.client l.s l.first l.at (modifiers_of l.met) l.opening
 
 abbrev pub decreases-loop-place : goal.decreases-loop-place
 decreases-loop-place l = length l.s + 1 - l.at
