@@ -94,7 +94,9 @@ pub fn found_items(table: &[u8], found: Option<Found>) -> &[u8]
     }
 }
 
-// Whether an entry of a kind and a name stands in a table of a layout: the check's search, which needs no place and no lifetime.
+// Whether an entry of a kind and a name stands in a table of a layout: the check's search, which needs no place and no lifetime. Kept out of its caller: that
+// is then put into the check, and a small table's `None` isn't stored as large as marks are.
+#[inline(never)]
 fn stands_in(layout: Layout, table: &[u8], kind: u16, name: &[u8]) -> bool
     ensures { result ≡ is_some (find_in layout table.now kind name.now) }
 {

@@ -137,12 +137,17 @@ fn pattern(i: usize) -> u8 {
 
 // Fills a buffer before a call.
 pub fn fill(out: &mut [u8]) {
-    for (i, b) in out.iter_mut().enumerate() {
-        *b = pattern(i);
+    for i in 0..out.len() {
+        out[i] = pattern(i);
     }
 }
 
 // Whether a buffer is as it was filled from a place on.
 pub fn is_kept(out: &[u8], from: usize) -> bool {
-    (from..out.len()).all(|i| out[i] == pattern(i))
+    for i in from..out.len() {
+        if out[i] != pattern(i) {
+            return false;
+        }
+    }
+    true
 }

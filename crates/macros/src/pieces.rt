@@ -88,7 +88,8 @@ fn read_delimiters(s: &[u8], d: usize, reversed: bool, from: usize) -> Option<Fo
     }
 }
 
-// Whether r follows the digits, and then the delimiters.
+// Whether r follows the digits, and then the delimiters. Put into its caller, as `read_piece` is.
+#[inline(always)]
 fn read_reversal(s: &[u8], d: usize) -> Option<Found>
     ensures { result ≡ reversal_at s.now d }
 {
@@ -99,7 +100,8 @@ fn read_reversal(s: &[u8], d: usize) -> Option<Found>
     }
 }
 
-// The digits of a macro in braces, up to d.
+// The digits of a macro in braces, up to d. Put into its caller, as `read_piece` is.
+#[inline(always)]
 fn read_digits(s: &[u8], d: usize) -> Option<Found>
     ensures { result ≡ digits_at s.now d }
 {
@@ -110,7 +112,8 @@ fn read_digits(s: &[u8], d: usize) -> Option<Found>
     }
 }
 
-// The macro in braces at the front.
+// The macro in braces at the front. Put into its caller, as `read_piece` is.
+#[inline(always)]
 fn read_braces(form: Form, s: &[u8]) -> Option<Found>
     ensures { result ≡ braces_of form s.now }
 {

@@ -165,13 +165,16 @@ fn survey(s: &[u8], first: usize, table: &mut [Row; MOST_ROWS]) -> Seen
     }
 }
 
-// Whether a term has a p macro.
+// Whether a term has a p macro. An early answer for a term without an argument, and few have a p macro: so most arguments are walked over once.
 fn has_p(s: &[u8], at: usize, next: usize, term: Term) -> bool
     ensures { result ≡ has_p (said_of (part s.now at next) term).argument }
 {
     let text = records::argument(s, at, next, term);
-    macros::read_macro_string(Form::ModifierValue, text)
-        && macros::uses_p(Form::ModifierValue, text)
+    if text.is_empty() {
+        return false;
+    }
+    macros::uses_p(Form::ModifierValue, text)
+        && macros::read_macro_string(Form::ModifierValue, text)
 }
 
 impl Tested {

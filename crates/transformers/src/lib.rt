@@ -64,8 +64,9 @@ impl<'a> Form<'a> {
             out.put_all(s);
             return;
         }
+        let form = *self;
         for b in s {
-            self.put_escaped(self.dotted(*b), out);
+            form.put_escaped(form.dotted(*b), out);
         }
     }
 
@@ -85,12 +86,15 @@ impl<'a> Form<'a> {
         }
     }
 
-    // Where the right-most n parts start.
+    // Where the right-most n parts start. A text of fewer bytes than n has no more than n parts.
     fn rightmost_start(&self, s: &[u8], n: usize) -> usize
         requires { 0 < n }
         ensures upper_bound { result ≤ length s.now }
         ensures parts { split (is_listed self.now.delimiters.now) (drop result s.now) ≡ rightmost n (split (is_listed self.now.delimiters.now) s.now) }
     {
+        if s.len() < n {
+            return 0;
+        }
         let mut left = n;
         for i in (0..s.len()).rev() {
             if self.is_listed(s[i]) {

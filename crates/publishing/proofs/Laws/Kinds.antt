@@ -3,7 +3,7 @@
 use Rattle.std.proofs.Common.{Some}
 use Prim.Native.Nat.{ℕ}
 use mathlib.Core.Path.{◌≡◌, refl, sym, ◌∙◌}
-use mathlib.Core.List.{List, []}
+use mathlib.Core.List.{List, [], ◌∷◌}
 use mathlib.Core.Bool.{Bool, true, false, cond, ◌&&◌, ◌||◌}
 use native.Mathlib.Omega.{arith}
 use lib.Dec.{ltb, eqb}
@@ -109,10 +109,14 @@ unfolding has_p
 p_of absent = sym no_p
 p_of (present d) = refl
 
--- `has_p`
-module _ (w : List ℕ) (t : Term) (x : List ℕ) (a : x ≡ argument_bytes (said_of w t)) (m : Bool) (e : m ≡ is_macro_string ModifierValue x) where
-  pub p_here : m ≡ true → (u : Bool) → u ≡ uses_p ModifierValue x → u ≡ has_p (said_of w t).argument
-  p_here h u f = sym (p_of (said_of w t).argument ∙ rw (← a, ← e, h, ← f))
+-- `has_p`, which asks first whether there is an argument, and then for a p macro
+pub p_empty : (w : List ℕ) (t : Term) (x : List ℕ) → x ≡ argument_bytes (said_of w t) → length x ≡ 0 → false ≡ has_p (said_of w t).argument
+p_empty w t [] a h = sym (p_of (said_of w t).argument ∙ rw (← a) no_p)
+p_empty w t (b ∷ x) a h = absurd (omega (arith, h))
 
-  pub p_none : m ≡ false → m ≡ has_p (said_of w t).argument
-  p_none h = h ∙ sym (p_of (said_of w t).argument ∙ rw (← a, ← e, h))
+module _ (w : List ℕ) (t : Term) (x : List ℕ) (a : x ≡ argument_bytes (said_of w t)) (u : Bool) (e : u ≡ uses_p ModifierValue x) where
+  pub p_here : u ≡ true → (m : Bool) → m ≡ is_macro_string ModifierValue x → m ≡ has_p (said_of w t).argument
+  p_here h m f = sym (p_of (said_of w t).argument ∙ rw (← a, ← e, h, ← f) (and_yes m))
+
+  pub p_none : u ≡ false → u ≡ has_p (said_of w t).argument
+  p_none h = h ∙ sym (p_of (said_of w t).argument ∙ rw (← a, ← e, h) (and_no (is_macro_string ModifierValue x)))

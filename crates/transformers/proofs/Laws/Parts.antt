@@ -21,7 +21,19 @@ use Rattle.transformers.proofs.Laws.Delimiters.{one_part, front_alone, first_par
 use Rattle.transformers.proofs.Laws.Escaping.{escaped_append, escaped_dot}
 use Rattle.transformers.proofs.Laws.Counts.{kept_count}
 
--- `put_parts`
+-- `put_parts`, where nothing is escaped and only dots part a text: it is written as it stands
+plain : (s : List ℕ) → escaped false s ≡ s
+unfolding escaped escaped_byte
+plain [] = refl
+plain (b ∷ s) = ap (λ (t : List ℕ). b ∷ t) (plain s)
+
+pub written_plain : (s ds : List ℕ) (escape : Bool) → escape ≡ false → length ds ≡ 0 → (out : List ℕ) (at : ℕ) (o : List ℕ) (n : ℕ) → Wrote s out at o n
+    → Wrote (escaped escape (join (split (is_listed ds) s))) out at o n
+unfolding is_listed
+written_plain s [] escape e z out at o n w = rw (e, plain, join_dots) w
+written_plain s (d ∷ ds) escape e z out at o n w = absurd (omega arith)
+
+-- and otherwise, byte by byte
 module _ (s ds : List ℕ) (escape : Bool) (out : List ℕ) (at : ℕ) where
   pub record Written (i : ℕ) (o : List ℕ) (n : ℕ) : Type 0 where
     pub within : i ≤ length s
@@ -43,18 +55,6 @@ module _ (s ds : List ℕ) (escape : Bool) (out : List ℕ) (at : ℕ) where
 
     pub written_end : length s ≤ i → Wrote (escaped escape (join (split (is_listed ds) s))) out at o n
     written_end h = rw (join_split, ← take_all i s h) p.wrote
-
--- nothing is escaped, and only dots part a text: it is written as it stands
-plain : (s : List ℕ) → escaped false s ≡ s
-unfolding escaped escaped_byte
-plain [] = refl
-plain (b ∷ s) = ap (λ (t : List ℕ). b ∷ t) (plain s)
-
-pub written_plain : (s ds : List ℕ) (escape : Bool) → escape ≡ false → length ds ≡ 0 → (out : List ℕ) (at : ℕ) (o : List ℕ) (n : ℕ) → Wrote s out at o n
-    → Wrote (escaped escape (join (split (is_listed ds) s))) out at o n
-unfolding is_listed
-written_plain s [] escape e z out at o n w = rw (e, plain, join_dots) w
-written_plain s (d ∷ ds) escape e z out at o n w = absurd (omega arith)
 
 -- `put_reversed`
 one_reversed : (n : ℕ) (x : List ℕ) → 0 < n → reverse (take n (x ∷ [])) ≡ x ∷ []
@@ -108,6 +108,10 @@ module _ (s ds : List ℕ) (n : ℕ) (escape : Bool) (out : List ℕ) (at : ℕ)
 
 -- `rightmost_start`
 module _ (s ds : List ℕ) (n : ℕ) where
+  -- a text of fewer bytes than n has no more than n parts
+  pub left_few : length s < n → split (is_listed ds) (drop 0 s) ≡ rightmost n (split (is_listed ds) s)
+  left_few h = sym (rightmost_all n (split (is_listed ds) s) (omega (arith, count_le (is_listed ds) s)))
+
   pub record Left (left i : ℕ) : Type 0 where
     pub within : i ≤ length s
     pub more : 0 < left

@@ -1,6 +1,9 @@
 -- `transformers::Form::rightmost_start` meets its contract. From the laws of Parts.
-use Rattle.transformers.proofs.Laws.Parts.{left_start, left_all, left_found, left_less, left_same}
+use Rattle.transformers.proofs.Laws.Parts.{left_few, left_start, left_all, left_found, left_less, left_same}
 use Rattle.transformers.proofs.Form.rightmost_start.Goals as goal
+
+pub returns-then-s-n-clause-parts : goal.returns-then-s-n-clause-parts
+returns-then-s-n-clause-parts c = search left_few
 
 pub loop-i-init : goal.loop-i-init
 loop-i-init c = search left_start
